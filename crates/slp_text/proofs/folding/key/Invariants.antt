@@ -1,0 +1,14 @@
+use Rattle.std.proofs.Common.{◌≡◌, ℕ, List, true, chars}
+use Rattle.std.specs.Prelude.{string_bytes}
+use Rattle.std.specs.Str.Iter.{chars_steps}
+use Rattle.caseless.specs.CaseFold.{FoldsCaseTo}
+use Rattle.slp_text.specs.Key.{key_of}
+use Rattle.slp_text.proofs.Squeezing.{Reaches}
+use Rattle.slp_text.proofs.folding.key.Given as goal
+
+-- what is there and what is still to come are the key
+abbrev pub invariant-loop-c : goal.invariant-loop-c
+invariant-loop-c l = record {
+  inner : l.gap ≡ true → l.begun ≡ true;
+  text : (cs : List ℕ) × FoldsCaseTo chars_steps l.c-iterator cs × Reaches l.begun l.gap cs (string_bytes l.folded) (key_of l.fn.text);
+}

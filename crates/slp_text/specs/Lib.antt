@@ -1,0 +1,4 @@
+pub mod Key
+pub mod Reading
+pub mod Scopes
+pub mod Words

@@ -1,0 +1,54 @@
+ghost use Rattle.std.specs.Prelude.{◌≡◌};
+ghost use Rattle.slp_text.specs.declared.faults.TextFault.TheVariants.{NoMemory as Lacking};
+
+use std::alloc::{AllocError, AllocFailed};
+use thiserror::Error;
+
+/// A growth that was refused.
+#[derive(Clone, Copy, Debug, PartialEq, Eq, Error)]
+#[error("out of memory")]
+pub struct NoMemory;
+
+impl From<AllocError> for NoMemory {
+    fn from(_e: AllocError) -> NoMemory {
+        NoMemory
+    }
+}
+
+impl<T: Drop> From<AllocFailed<T>> for NoMemory {
+    fn from(_e: AllocFailed<T>) -> NoMemory {
+        NoMemory
+    }
+}
+
+/// Why a text is not read: the first fault from the left (RFC 2608, section 5 and 6.4).
+#[derive(Clone, Copy, Debug, PartialEq, Eq, Error)]
+pub enum TextFault {
+    /// A backslash without two hexadecimal digits, or one of a character that has no escape.
+    #[error("a bad escape")]
+    BadEscape,
+    /// A reserved character that is not escaped.
+    #[error("a reserved character")]
+    Reserved,
+    /// Bytes that are no UTF-8.
+    #[error("not UTF-8")]
+    NotUtf8,
+    #[error("out of memory")]
+    NoMemory,
+}
+
+impl From<AllocError> for TextFault {
+    ghost from_gives = { λ _ e. e ≡ Lacking };
+
+    fn from(_e: AllocError) -> TextFault {
+        TextFault::NoMemory
+    }
+}
+
+impl<T: Drop> From<AllocFailed<T>> for TextFault {
+    ghost from_gives = { λ _ e. e ≡ Lacking };
+
+    fn from(_e: AllocFailed<T>) -> TextFault {
+        TextFault::NoMemory
+    }
+}
