@@ -26,15 +26,15 @@ impl<T: Drop> From<AllocFailed<T>> for NoMemory {
 pub enum TextFault {
     /// A backslash without two hexadecimal digits, or one of a character that has no escape.
     #[error("a bad escape")]
-    BadEscape,
+    BadEscape = 1,
     /// A reserved character that is not escaped.
     #[error("a reserved character")]
-    Reserved,
+    Reserved = 2,
     /// Bytes that are no UTF-8.
     #[error("not UTF-8")]
-    NotUtf8,
+    NotUtf8 = 3,
     #[error("out of memory")]
-    NoMemory,
+    NoMemory = 4,
 }
 
 impl From<AllocError> for TextFault {

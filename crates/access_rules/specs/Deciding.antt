@@ -1,0 +1,50 @@
+-- Which rule decides.
+use Rattle.std.specs.Prelude.{ℕ, Bool, true, false, ◌-◌, ◌/◌, ◌^◌, ◌==◌, ◌&&◌, nat_le, List, position, slice_get, Option, Some, None}
+use Rattle.std.specs.List.{list_any}
+use Rattle.std.specs.Option.{option_map_or}
+use Rattle.slp_text.specs.Words.{bytes_eq}
+use Rattle.service_url.specs.Types.{covers}
+use Rattle.access_rules.specs.declared.rule.Action.{Action}
+use Rattle.access_rules.specs.declared.rule.Action.TheVariants.{Register, Withdraw, See}
+use Rattle.access_rules.specs.declared.rule.Prefix.{Prefix}
+use Rattle.access_rules.specs.declared.rule.Rule.{Rule}
+use Rattle.access_rules.specs.declared.rules.Verdict.{Verdict}
+
+-- the first bits of a prefix are those of the address; bits behind them are ignored
+abbrev pub holds : Prefix → ℕ → Bool
+holds p addr = nat_le p.bits 32 && (p.addr / 2 ^ (32 - p.bits) == addr / 2 ^ (32 - p.bits))
+
+abbrev pub action_eq : Action → Action → Bool
+action_eq Register Register = true
+action_eq Withdraw Withdraw = true
+action_eq See See = true
+action_eq Register Withdraw = false
+action_eq Register See = false
+action_eq Withdraw Register = false
+action_eq Withdraw See = false
+action_eq See Register = false
+action_eq See Withdraw = false
+
+-- no type named is every type
+abbrev pub allows_kind : Option (List ℕ) → List ℕ → Bool
+allows_kind None kind = true
+allows_kind (Some named) kind = covers named kind
+
+-- no scopes named are every scope
+abbrev pub allows_scope : Option (List (List ℕ)) → List ℕ → Bool
+allows_scope None scope = true
+allows_scope (Some named) scope = list_any (λ s. bytes_eq s scope) named
+
+-- a rule fits a question: who asks, what for, of which type, in which scope
+abbrev pub fits : ℕ → Action → List ℕ → List ℕ → Rule → Bool
+fits asker action kind scope r =
+    list_any (λ p. holds p asker) r.from && action_eq r.action action && allows_kind r.kind kind && allows_scope r.scopes scope
+
+-- what the rule at a place says, if there is one; without a rule all is denied
+abbrev pub verdict_at : List Rule → Option ℕ → Verdict
+verdict_at rules None = record { allow = false; rule = None }
+verdict_at rules (Some place) = record { allow = option_map_or (λ r. r.allow) (slice_get rules place) false; rule = Some place }
+
+-- The first rule that fits decides.
+abbrev pub deciding : List Rule → ℕ → Action → List ℕ → List ℕ → Verdict
+deciding rules asker action kind scope = verdict_at rules (position (fits asker action kind scope) rules)

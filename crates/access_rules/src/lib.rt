@@ -1,0 +1,11 @@
+//! Who may register, withdraw or see which type in which scope: rules, of which the first that fits
+//! decides.
+#![tactic(auto)]
+
+mod addr;
+mod rule;
+mod rules;
+
+pub use addr::Addr;
+pub use rule::{Action, Prefix, Rule};
+pub use rules::{Rules, Verdict};

@@ -1,0 +1,95 @@
+ghost use Rattle.std.specs.Prelude.{◌≡◌};
+ghost use Rattle.std.specs.List.{list_any};
+ghost use Rattle.access_rules.specs.Deciding.{holds as holds_it, action_eq, allows_kind, allows_scope, fits as fits_it};
+
+use crate::addr::Addr;
+use service_url::ServiceType;
+use slp_text::{Key, Row, ScopeList, Text};
+
+/// What a rule allows or denies.
+#[derive(Clone, Copy, Debug, PartialEq, Eq)]
+pub enum Action {
+    Register,
+    Withdraw,
+    See,
+}
+
+/// The addresses whose first bits are these, as in `10.0.0.0/8`.
+#[derive(Clone, Copy, Debug)]
+pub struct Prefix {
+    pub addr: Addr,
+    /// 0 to 32. A prefix of more bits holds no address.
+    pub bits: u8,
+}
+
+impl Prefix {
+    fn holds(&self, addr: Addr) -> bool
+        ensures { result ≡ holds_it self.now addr }
+    {
+        if self.bits > 32 {
+            return false;
+        }
+        let ignored = 32 - u32::from(self.bits);
+        u64::from(self.addr.0) >> ignored == u64::from(addr.0) >> ignored
+    }
+}
+
+/// A rule of the rule file.
+#[derive(Debug, Drop)]
+pub struct Rule {
+    pub name: Text,
+    /// The askers that it is about.
+    pub from: Row<Prefix>,
+    pub action: Action,
+    /// The type that covers those that it is about. `None` is every type.
+    pub kind: Option<ServiceType>,
+    /// `None` is every scope.
+    pub scopes: Option<ScopeList>,
+    pub allow: bool,
+}
+
+fn is_same(a: Action, b: Action) -> bool
+    ensures { result ≡ action_eq a b }
+{
+    match a {
+        Action::Register => matches!(b, Action::Register),
+        Action::Withdraw => matches!(b, Action::Withdraw),
+        Action::See => matches!(b, Action::See),
+    }
+}
+
+impl Rule {
+    fn is_from(&self, asker: Addr) -> bool
+        ensures { result ≡ list_any (λ p. holds_it p asker) self.now.from }
+    {
+        self.from.as_slice().iter().any(|p| p.holds(asker))
+    }
+
+    fn is_of_kind(&self, kind: &ServiceType) -> bool
+        ensures { result ≡ allows_kind self.now.kind kind.now }
+    {
+        match &self.kind {
+            None => true,
+            Some(named) => named.covers(kind),
+        }
+    }
+
+    fn is_in_scope(&self, scope: &Key) -> bool
+        ensures { result ≡ allows_scope self.now.scopes scope.now }
+    {
+        match &self.scopes {
+            None => true,
+            Some(named) => named.has(scope),
+        }
+    }
+
+    /// Whether the rule is about this question.
+    pub(crate) fn fits(&self, asker: Addr, action: Action, kind: &ServiceType, scope: &Key) -> bool
+        ensures { result ≡ fits_it asker action kind.now scope.now self.now }
+    {
+        self.is_from(asker)
+            && is_same(self.action, action)
+            && self.is_of_kind(kind)
+            && self.is_in_scope(scope)
+    }
+}

@@ -1,0 +1,116 @@
+ghost use Rattle.std.specs.Prelude.{◌≡◌, ◌<◌, length, position, slice_get, Some, IfOk, IfSome};
+ghost use Rattle.std.specs.Option.{option_map};
+ghost use Rattle.access_rules.specs.Deciding.{deciding, fits};
+ghost use Rattle.access_rules.specs.Opening.{open_to_all, opening_rules};
+
+use crate::addr::Addr;
+use crate::rule::{Action, Prefix, Rule};
+use service_url::ServiceType;
+use slp_text::{Key, NoMemory, Row, Text};
+use std::alloc::Global;
+use std::marker::Model;
+
+#[cfg(test)]
+mod tests;
+
+/// What was decided, and the place of the rule that decided it. `None` is the default, which denies.
+#[derive(Clone, Copy, Debug)]
+pub struct Verdict {
+    pub allow: bool,
+    pub rule: Option<usize>,
+}
+
+/// Rules in their order, which contracts see as a list.
+#[derive(Debug, Drop)]
+pub struct Rules {
+    rules: Vec<Rule>,
+}
+
+impl Model for Rules {
+    ghost use Rattle.std.specs.Prelude.{List};
+    ghost use Rattle.access_rules.specs.declared.rule.Rule.{Rule};
+    ghost use Rattle.access_rules.specs.Codes.{rules_code};
+
+    ghost Value = { List Rule };
+
+    ghost coded = { rules_code };
+
+    ghost view = { λ a. a.rules.items };
+}
+
+// A rule that allows an action to everyone, for every type in every scope.
+fn allowing(alloc: Global, name: &str, action: Action) -> Result<Rule, NoMemory>
+    ensures { IfOk result (λ r. r ≡ open_to_all name.now action) }
+{
+    let everyone = Prefix {
+        addr: Addr(0),
+        bits: 0,
+    };
+    Ok(Rule {
+        name: Text::wrap(String::from_str(alloc, name)?),
+        from: Row::wrap(vec![in alloc; everyone]?),
+        action,
+        kind: None,
+        scopes: None,
+        allow: true,
+    })
+}
+
+impl Rules {
+    /// The rules before any rule file is read: everyone may do everything everywhere.
+    pub fn opening(alloc: Global) -> Result<Rules, NoMemory>
+        ensures { IfOk result (λ r. r ≡ opening_rules) }
+    {
+        let mut rules = Vec::with_capacity(alloc, 3)?;
+        rules.push(allowing(alloc, "all-register", Action::Register)?)?;
+        rules.push(allowing(alloc, "all-withdraw", Action::Withdraw)?)?;
+        rules.push(allowing(alloc, "all-see", Action::See)?)?;
+        Ok(Rules { rules })
+    }
+
+    /// How many rules there are. Takes no memory.
+    pub fn len(&self) -> usize
+        ensures { result ≡ length self.now }
+    {
+        self.rules.len()
+    }
+
+    /// The name of the rule at a place. Takes no memory.
+    pub fn name(&self, place: usize) -> &str
+        requires { place < length self.now }
+        ensures { option_map (λ r. r.name) (slice_get self.now place) ≡ Some result.now }
+    {
+        self.rules[place].name.as_str()
+    }
+
+    /// The verdict of the first rule that fits, else a denial by default. Takes no memory.
+    pub fn decide(&self, asker: Addr, action: Action, kind: &ServiceType, scope: &Key) -> Verdict
+        ensures value { result ≡ deciding self.now asker action kind.now scope.now }
+        ensures within { IfSome result.rule (λ place. place < length self.now) }
+    {
+        match self.first_fitting(asker, action, kind, scope) {
+            Some(place) => Verdict {
+                allow: self.rules[place].allow,
+                rule: Some(place),
+            },
+            None => Verdict {
+                allow: false,
+                rule: None,
+            },
+        }
+    }
+
+    fn first_fitting(
+        &self,
+        asker: Addr,
+        action: Action,
+        kind: &ServiceType,
+        scope: &Key,
+    ) -> Option<usize>
+        ensures { result ≡ position (fits asker action kind.now scope.now) self.now }
+    {
+        self.rules
+            .iter()
+            .position(|r| r.fits(asker, action, kind, scope))
+    }
+}

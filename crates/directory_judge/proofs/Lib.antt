@@ -1,0 +1,5 @@
+pub mod Denials
+pub mod Fullness
+pub mod Maps
+pub mod Steps
+pub mod Taking

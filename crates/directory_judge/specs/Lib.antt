@@ -1,0 +1,6 @@
+pub mod Attributes
+pub mod History
+pub mod Judging
+pub mod Making
+pub mod Meaning
+pub mod Sites

@@ -1,0 +1,46 @@
+-- What a change holds.
+use Rattle.std.specs.Prelude.{ℕ, ◌+◌, Bool, is_some, List, Option, Some, None}
+use Rattle.std.specs.Arc.{arc_value}
+use Rattle.std.specs.FinMap as fin
+use Rattle.access_rules.specs.declared.rule.Rule.{Rule}
+use Rattle.registry_core.specs.declared.entry.Entry.{Entry}
+use Rattle.registry_core.specs.Entries.{Entries, kept}
+use Rattle.directory_judge.specs.History.{Putting, Setting, Withdrawing, Act, Put, Set, Remove, Withdraw, Sweep, Reload, Event}
+use Rattle.directory_judge.specs.declared.change.Change.{Change}
+use Rattle.directory_judge.specs.declared.change.Change.TheVariants as change
+
+-- the entries that pass the test
+abbrev pub passing : (Entry → Bool) → Entries → Entries
+passing p m = fin.retain_keys m (λ q. is_some (kept p (fin.get m q)))
+
+-- what a change holds, wherever it lies in memory
+pub data Content : Type 0 where
+  Stores : ℕ → Entry → Content
+  Edits : ℕ → Entry → Content
+  Withdraws : ℕ → Withdrawing → Content
+  Sweeps : ℕ → Content
+  Reloads : ℕ → List Rule → Content
+
+abbrev pub content : Change → Content
+content (change.Put placed) = Stores placed.moment (arc_value placed.entry)
+content (change.Sweep moment) = Sweeps moment
+
+-- the entry that a registration founds at a moment
+abbrev pub entry_of : ℕ → Putting → Entry
+entry_of moment p = record { url = p.url; language = p.language; kind = p.kind; scopes = p.scopes; deadline = moment + p.lifetime }
+
+-- an edit of what is held, if something is
+abbrev pub edit_of : ℕ → Option Entry → (Entry → Entry) → Content
+edit_of moment None f = Sweeps moment
+edit_of moment (Some e) f = Edits moment (f e)
+
+-- what the change holds that makes an event, where these are the live entries
+abbrev pub content_on : Entries → Event → Content
+content_on live c = elim c.act [
+  | Put p ↦ Stores c.moment (entry_of c.moment p)
+  | Set s ↦ edit_of c.moment (fin.get live (s.url, s.language)) (λ e. record e { deadline = c.moment + s.lifetime })
+  | Remove r ↦ edit_of c.moment (fin.get live (r.url, r.language)) (λ e. e)
+  | Withdraw w ↦ Withdraws c.moment w
+  | Sweep ↦ Sweeps c.moment
+  | Reload rs ↦ Reloads c.moment rs
+]

@@ -1,0 +1,80 @@
+ghost use Rattle.std.specs.Prelude.{◌≡◌, ◌<◌, ◌≤◌, length, IfOk};
+
+use slp_text::{NoMemory, ScopeList};
+use std::alloc::Global;
+use std::marker::Model;
+
+/// What stays the same while a directory runs: the scopes that it supports, how many entries it
+/// takes, and its boot stamp.
+#[derive(Debug, Drop)]
+pub struct Site {
+    scopes: ScopeList,
+    capacity: usize,
+    boot: u32,
+}
+
+impl Model for Site {
+    ghost use Rattle.directory_judge.specs.Sites.{Place, place_code, IsPlace};
+
+    ghost Value = { Place };
+
+    ghost coded = { place_code };
+
+    ghost view = { λ s. record { scopes = s.scopes; capacity = s.capacity; boot = s.boot } };
+
+    ghost invariant = { λ s. IsPlace s.scopes s.capacity };
+}
+
+impl Site {
+    ghost use Rattle.directory_judge.specs.Sites.{IsPlace};
+
+    /// A site of 1 to 16 scopes and 1 to 65,536 entries. The boot stamp is in seconds since 1970.
+    pub fn new(scopes: ScopeList, capacity: usize, boot: u32) -> Site
+        requires some_scope { 0 < length scopes }
+        requires few_scopes { length scopes ≤ 16 }
+        requires some_entry { 0 < capacity }
+        requires few_entries { capacity ≤ 65536 }
+        ensures { result ≡ record { scopes = scopes; capacity = capacity; boot = boot } }
+    {
+        Site {
+            scopes,
+            capacity,
+            boot,
+        }
+    }
+
+    /// An equal site.
+    pub fn copy(&self, alloc: Global) -> Result<Site, NoMemory>
+        ensures { IfOk result (λ s. s ≡ self.now) }
+    {
+        let scopes = self.scopes.copy(alloc)?;
+        Ok(Site {
+            scopes,
+            capacity: self.capacity,
+            boot: self.boot,
+        })
+    }
+
+    /// The scopes that are supported.
+    pub fn scopes(&self) -> &ScopeList
+        ensures value { result.now ≡ self.now.scopes }
+        ensures limits { IsPlace self.now.scopes self.now.capacity }
+    {
+        &self.scopes
+    }
+
+    /// The greatest number of entries.
+    pub fn capacity(&self) -> usize
+        ensures value { result ≡ self.now.capacity }
+        ensures limits { IsPlace self.now.scopes self.now.capacity }
+    {
+        self.capacity
+    }
+
+    /// The boot stamp, in seconds since 1970.
+    pub fn boot(&self) -> u32
+        ensures { result ≡ self.now.boot }
+    {
+        self.boot
+    }
+}

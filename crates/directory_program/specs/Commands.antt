@@ -1,0 +1,111 @@
+-- What lines spell.
+use Rattle.std.specs.Prelude.{◌≡◌, ℕ, ◌+◌, ◌-◌, ◌*◌, ◌^◌, nat_lt, nat_le, Bool, ◌==◌, ◌&&◌, if◌then◌else◌, List, [], ◌∷◌, ◌++◌, map, take, drop, length, codes, Option, Some, None, Result, Ok, Err}
+use Rattle.std.specs.Option.{option_map, option_and_then, option_or}
+use Rattle.std.specs.List.{slice_split}
+use Rattle.std.specs.Cmp.Lexicographic.{pointwise}
+use Rattle.hex.specs.Hex.{decode_of}
+use Rattle.hex.specs.declared.error.FromHexError.{FromHexError}
+use Rattle.directory_program.specs.Lines.{Line}
+
+-- the bytes of a line, without its LF
+abbrev pub longest_line : ℕ
+longest_line = 140000
+
+abbrev pub longest_datagram : ℕ
+longest_datagram = 65535
+
+-- a line that is one command by itself
+pub data Order : Type 0 where
+  -- an empty line
+  Blank : Order
+  -- it is this moment
+  At : ℕ → Order
+  -- datagrams come from this address
+  From : ℕ → Order
+  -- this datagram came
+  Udp : List ℕ → Order
+
+pub data Command : Type 0 where
+  Single : Order → Command
+
+-- what follows a word, in a line that begins with it
+abbrev pub behind : List ℕ → Line → Option (List ℕ)
+behind word l = if pointwise ◌==◌ (take (length word) l) word then Some (drop (length word) l) else None
+
+-- digits behind the value v, below 2^32
+abbrev pub number_from : ℕ → List ℕ → Option ℕ
+number_from v [] = Some v
+number_from v (x ∷ xs) =
+    if nat_le 48 x && nat_le x 57 && nat_lt (v * 10 + (x - 48)) (2 ^ 32) then number_from (v * 10 + (x - 48)) xs else None
+
+-- decimal digits, at least one; leading zeros are allowed
+abbrev pub number_of : List ℕ → Option ℕ
+number_of [] = None
+number_of (x ∷ xs) = number_from 0 (x ∷ xs)
+
+abbrev pub within_octet : ℕ → Option ℕ
+within_octet n = if nat_le n 255 then Some n else None
+
+-- a number of at most 255
+abbrev pub octet_of : List ℕ → Option ℕ
+octet_of digits = option_and_then within_octet (number_of digits)
+
+-- the address of four octets, the first of them the highest
+abbrev pub address_in : List (Option ℕ) → Option ℕ
+address_in (Some a ∷ Some b ∷ Some c ∷ Some d ∷ []) = Some (((a * 256 + b) * 256 + c) * 256 + d)
+address_in _ = None
+
+abbrev pub is_dot : ℕ → Bool
+is_dot b = b == 46
+
+-- four octets with a dot between each two
+abbrev pub address_of : List ℕ → Option ℕ
+address_of text = address_in (map octet_of (slice_split is_dot text))
+
+abbrev pub within_datagram : Result (List ℕ) FromHexError → Option Order
+within_datagram (Ok bytes) = if nat_le (length bytes) longest_datagram then Some (Udp bytes) else None
+within_datagram (Err e) = None
+
+abbrev pub at_word : List ℕ
+at_word = codes "at "
+
+abbrev pub from_word : List ℕ
+from_word = codes "from "
+
+abbrev pub udp_word : List ℕ
+udp_word = codes "udp "
+
+-- the order that a line is, if it is one
+unfoldable pub order_of : Line → Option Order
+order_of l =
+    if nat_lt longest_line (length l) then None
+    else if length l == 0 then Some Blank
+    else option_or
+    (option_and_then (λ digits. option_map At (number_of digits)) (behind at_word l))
+    (option_or
+    (option_and_then (λ text. option_map From (address_of text)) (behind from_word l))
+    (option_and_then (λ text. within_datagram (decode_of text)) (behind udp_word l)))
+
+-- these lines are this command
+abbrev pub Spells : List Line → Command → Type 0
+Spells ls (Single order) = (l : Line) × (ls ≡ l ∷ []) × (order_of l ≡ Some order)
+
+-- these lines are these commands, one after the other
+abbrev pub Reads : List Line → List Command → Type 0
+Reads ls [] = ls ≡ []
+Reads ls (c ∷ cs) = (front rest : List Line) × (ls ≡ front ++ rest) × Spells front c × Reads rest cs
+
+-- where a command would begin, the k-th of these lines is the first at fault
+pub data IsStuck (ls : List Line) (k : ℕ) : Type 0 where
+  -- the line is no order
+  AtLine : (l : Line) (rest : List Line) → ls ≡ l ∷ rest → order_of l ≡ None → k ≡ 1 → IsStuck ls k
+
+-- the lines spell these commands, and then the n-th line of all, counted from 1, is the first at fault
+pub record StopsAt (ls : List Line) (cs : List Command) (n : ℕ) : Type 0 where
+  pub before : List Line
+  pub stuck : List Line
+  pub all : ls ≡ before ++ stuck
+  pub reads : Reads before cs
+  pub place : ℕ
+  pub is_stuck : IsStuck stuck place
+  pub number : n ≡ length before + place

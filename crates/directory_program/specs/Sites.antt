@@ -1,0 +1,8 @@
+-- The site with which a run begins.
+use Rattle.std.specs.Prelude.{[], ◌∷◌, codes}
+use Rattle.slp_text.specs.Key.{key_of}
+use Rattle.directory_judge.specs.Sites.{Place}
+
+-- the scope `DEFAULT`, and room for 16 entries
+abbrev pub opening_place : Place
+opening_place = record { scopes = key_of (codes "DEFAULT") ∷ []; capacity = 16; boot = 1 }

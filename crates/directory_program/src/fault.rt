@@ -1,0 +1,37 @@
+ghost use Rattle.std.specs.Prelude.{◌≡◌};
+ghost use Rattle.directory_program.specs.declared.fault.RunFault.TheVariants.{NoMemory as Lacking};
+
+use slp_text::NoMemory;
+use std::alloc::AllocError;
+use thiserror::Error;
+
+/// Why a run ended before its script did.
+#[derive(Clone, Copy, Debug, PartialEq, Eq, Error)]
+pub enum RunFault {
+    /// The reader failed, or was read 1,000,000,000 times.
+    #[error("the reader failed")]
+    Read,
+    #[error("the writer failed")]
+    Write,
+    /// The first line, counted from 1, that is no line of a script.
+    #[error("line {0}")]
+    Line(u64),
+    #[error("out of memory")]
+    NoMemory,
+}
+
+impl From<NoMemory> for RunFault {
+    ghost from_gives = { λ _ e. e ≡ Lacking };
+
+    fn from(_e: NoMemory) -> RunFault {
+        RunFault::NoMemory
+    }
+}
+
+impl From<AllocError> for RunFault {
+    ghost from_gives = { λ _ e. e ≡ Lacking };
+
+    fn from(_e: AllocError) -> RunFault {
+        RunFault::NoMemory
+    }
+}

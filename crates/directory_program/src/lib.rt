@@ -1,0 +1,22 @@
+//! The directory programs: so far the replay of a script of datagrams.
+#![tactic(auto)]
+
+mod cutting;
+mod fault;
+mod feeding;
+pub mod laws;
+mod place;
+mod printing;
+mod program;
+mod running;
+mod script;
+mod session;
+#[cfg(test)]
+mod tests;
+
+pub use fault::RunFault;
+pub use place::Place;
+pub use program::replay_run;
+pub use running::{READS, Replay};
+pub use script::{LONGEST_DATAGRAM, LONGEST_LINE, Said, number, read_line};
+pub use session::Session;

@@ -1,0 +1,84 @@
+ghost use Rattle.std.specs.Prelude.{◌≤◌, ◌<◌, length};
+
+use crate::fault::RunFault;
+use crate::feeding::{feed, finish};
+use crate::place::Place;
+use crate::session::Session;
+use slp_answer::Answer;
+use std::alloc::Global;
+use std::io::{ErrorKind, Read, Write};
+
+/// How often a run reads. After that it ends with `Read`.
+pub const READS: u32 = 1_000_000_000;
+
+/// The bytes that one read asks for.
+const CHUNK: usize = 65_536;
+
+/// Replays scripts.
+#[derive(Drop)]
+pub struct Replay {
+    answer: Answer,
+}
+
+fn run_through<R: Read, W: Write>(
+    alloc: Global,
+    chunk: &mut [u8],
+    place: &mut Place,
+    answer: &mut Answer,
+    reader: &mut R,
+    writer: &mut W,
+) -> Result<(), RunFault>
+    requires some { 0 < length chunk.old }
+    requires small { length chunk.old ≤ 65536 }
+    requires begun { place.old.number ≤ 0 }
+{
+    let mut line = Vec::new(alloc);
+    for turn in 0..READS {
+        if writer.flush().is_err() {
+            return Err(RunFault::Write);
+        }
+        match reader.read(chunk) {
+            Ok(0) => return finish(place, line.as_slice(), alloc, answer, writer),
+            Ok(n) => feed(place, &mut line, alloc, &chunk[..n], answer, writer)?,
+            Err(e) => {
+                if e.kind() != ErrorKind::Interrupted {
+                    return Err(RunFault::Read);
+                }
+            }
+        }
+    }
+    Err(RunFault::Read)
+}
+
+impl Replay {
+    /// A replay. Takes no memory.
+    pub fn new(alloc: Global) -> Replay {
+        Replay {
+            answer: Answer::new(alloc),
+        }
+    }
+
+    /// Runs all that the reader gives as a script, from the opening setup on. Each command's output is
+    /// written before the reader is read again, and memory does not grow with the script. On `Read`,
+    /// `Line` and `NoMemory` the output of all earlier commands is written.
+    pub fn run<R: Read, W: Write>(
+        &mut self,
+        alloc: Global,
+        reader: &mut R,
+        writer: &mut W,
+    ) -> Result<(), RunFault> {
+        let mut chunk = vec![in alloc; 0u8; CHUNK]?;
+        let mut place = Place {
+            number: 0,
+            session: Session::open(alloc)?,
+        };
+        run_through(
+            alloc,
+            chunk.as_mut_slice(),
+            &mut place,
+            &mut self.answer,
+            reader,
+            writer,
+        )
+    }
+}

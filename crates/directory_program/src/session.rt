@@ -1,0 +1,121 @@
+ghost use Rattle.std.specs.Prelude.{◌≡◌, IfOk};
+ghost use Rattle.std.specs.FinMap as fin;
+ghost use Rattle.registry_core.specs.Entries.{of_list};
+ghost use Rattle.directory_program.specs.Sites.{opening_place};
+
+use access_rules::{Addr, Rules};
+use directory_judge::Site;
+use directory_state::Directory;
+use registry_core::{ListRegistry, RegistryFault};
+use slp_answer::{Answer, Sent, acknowledge, is_change, reply};
+use slp_text::{NoMemory, ScopeList};
+use std::alloc::Global;
+use std::sync::Arc;
+
+/// The entries of the opening site.
+const CAPACITY: usize = 16;
+
+/// The boot stamp of the opening site.
+const BOOT: u32 = 1;
+
+/// 10.0.0.1, from which datagrams come at first.
+const FIRST_ASKER: Addr = Addr(0x0a00_0001);
+
+/// 127.0.0.1, at which they arrive.
+const OWN: Addr = Addr(0x7f00_0001);
+
+/// The bytes of a reply that is sent as a datagram.
+const LONGEST_REPLY: usize = 1_400;
+
+/// What a run keeps between two lines: the directory, the moment that was set, and from where
+/// datagrams come.
+#[derive(Drop)]
+pub struct Session {
+    pub directory: Directory<ListRegistry>,
+    pub moment: u32,
+    pub asker: Addr,
+}
+
+// The site of one scope, `DEFAULT`.
+fn opening_site(alloc: Global) -> Result<Site, NoMemory>
+    ensures { IfOk result (λ s. s ≡ opening_place) }
+{
+    match ScopeList::parse(alloc, "DEFAULT") {
+        Ok(scopes) if scopes.len() == 1 => Ok(Site::new(scopes, CAPACITY, BOOT)),
+        _ => Err(NoMemory),
+    }
+}
+
+// A registry of no entry.
+fn opening_registry(alloc: Global) -> Result<ListRegistry, NoMemory>
+    ensures empty { IfOk result (λ r. of_list r.entries ≡ fin.empty) }
+    ensures limit { IfOk result (λ r. r.limit ≡ 16) }
+{
+    match ListRegistry::new(alloc, CAPACITY) {
+        Ok(registry) => Ok(registry),
+        Err(_) => Err(NoMemory),
+    }
+}
+
+impl Session {
+    ghost use Rattle.directory_program.specs.Opening.{opening_session};
+
+    /// The setup with which a run begins: the scope `DEFAULT`, room for 16 entries, and rules that
+    /// allow everything to everyone.
+    pub fn open(alloc: Global) -> Result<Session, NoMemory>
+        ensures { IfOk result (λ s. s ≡ opening_session) }
+    {
+        let site = opening_site(alloc)?;
+        let registry = opening_registry(alloc)?;
+        let rules = Arc::new(alloc, Rules::opening(alloc)?)?;
+        Ok(Session {
+            directory: Directory::open(alloc, registry, &site, rules)?,
+            moment: 0,
+            asker: FIRST_ASKER,
+        })
+    }
+
+    /// Answers a datagram, and makes the change that it asks for. What is answered are the digits of
+    /// the reply, if there is one; the audit line is left in `answer`. `NoMemory` changes nothing.
+    pub fn take(
+        &mut self,
+        alloc: Global,
+        bytes: &[u8],
+        answer: &mut Answer,
+    ) -> Result<Option<String>, NoMemory> {
+        if !is_change(bytes) {
+            let sent = reply(
+                alloc,
+                &self.directory,
+                OWN,
+                self.moment,
+                self.asker,
+                bytes,
+                LONGEST_REPLY,
+                answer,
+            )?;
+            return digits(alloc, sent, answer);
+        }
+        let (sent, change) = acknowledge(
+            alloc,
+            &self.directory,
+            self.moment,
+            self.asker,
+            bytes,
+            answer,
+        )?;
+        let shown = digits(alloc, sent, answer)?;
+        if let Some(change) = change {
+            self.directory.apply(change);
+        }
+        Ok(shown)
+    }
+}
+
+// The hexadecimal digits of what was sent.
+fn digits(alloc: Global, sent: Sent, answer: &Answer) -> Result<Option<String>, NoMemory> {
+    match sent {
+        Sent::Bytes(_) => Ok(Some(hex::encode(alloc, answer.bytes.as_slice())?)),
+        Sent::Silence => Ok(None),
+    }
+}

@@ -1,0 +1,60 @@
+-- What a change makes of any state.
+use Rattle.std.proofs.Common.{◌≡◌, ℕ, Bool, true, false, cond, Option, Some, None, Result, Ok, Err, List, refl, sym, ap, ap₂, ◌∙◌, eq-eqb}
+use Rattle.std.specs.Prelude.{◌↔◌, is_some, is_none, ◌==◌, OnOk, OnErr, IsErrOf, ◌&&◌}
+use Rattle.std.proofs.lemmas.Option.{none-some, cond_some}
+use Rattle.std.proofs.lemmas.Bool.{and_parts}
+use borrow.Author.Tests.{eqb-true}
+use Rattle.std.specs.FinMap as fin
+use Rattle.access_rules.specs.declared.rule.Rule.{Rule}
+use Rattle.registry_core.specs.declared.entry.Entry.{Entry}
+use Rattle.registry_core.specs.declared.registry.RegistryFault.{RegistryFault}
+use Rattle.registry_core.specs.declared.registry.RegistryFault.TheVariants.{Full}
+use Rattle.registry_core.specs.Entries.{Pair, Entries, pair_of, kept}
+use Rattle.registry_core.proofs.Lists.{pair_total, pair_exact}
+use Rattle.directory_judge.specs.Making.{passing}
+use Rattle.directory_judge.specs.Sites.{Place}
+use Rattle.directory_state.specs.State.{State, is_full_for, stored}
+
+kept-cond : (p : Entry → Bool) (o : Option Entry) → cond (is_some (kept p o)) o None ≡ kept p o
+kept-cond p None = refl
+kept-cond p (Some e) = elim (p e) as (λ b. cond (is_some (cond b (Some e) None)) (Some e) None ≡ cond b (Some e) None) [ true ↦ refl | false ↦ refl ]
+
+-- what passes at a pair is what is there, where it passes
+pub get-passing : (p : Entry → Bool) (m : Entries) (q : Pair) → fin.get (passing p m) q ≡ kept p (fin.get m q)
+get-passing p m q =
+    fin.get-retain_keys m (λ r. is_some (kept p (fin.get m r))) q (λ x tie. ap (λ r. is_some (kept p (fin.get m r))) (sym (pair_exact q x tie)))
+    ∙ kept-cond p (fin.get m q)
+
+pub passing-is : (p : Entry → Bool) (a b : Entries) → ((q : Pair) → fin.get b q ≡ kept p (fin.get a q)) → b ≡ passing p a
+passing-is p a b each = fin.same_map pair_total pair_exact b (passing p a) (λ q. each q ∙ sym (get-passing p a q))
+
+none_from : (o : Option Entry) → is_none o ≡ true → o ≡ None
+none_from None h = refl
+none_from (Some e) h = cc
+
+pub is_full-parts : (capacity : ℕ) (e : Entry) (m : Entries) → is_full_for capacity e m ≡ true → (fin.get m (pair_of e) ≡ None) × (fin.len m ≡ capacity)
+is_full-parts capacity e m h =
+    let k = and_parts (is_none (fin.get m (pair_of e))) (fin.len m == capacity) h in
+    (none_from (fin.get m (pair_of e)) k.0, eqb-true (fin.len m) capacity k.1)
+
+pub is_full-made : (capacity : ℕ) (e : Entry) (m : Entries) → fin.get m (pair_of e) ≡ None → fin.len m ≡ capacity → is_full_for capacity e m ≡ true
+is_full-made capacity e m none size = ap₂ ◌&&◌ (ap is_none none) (eq-eqb (fin.len m) capacity size)
+
+ok_err : {E : Type 0} {e : E} → ◌≡◌ {A = Result (Unit {0}) E} (Ok tt) (Err e) → ⊥
+ok_err h = cc
+
+-- what a registry answers and keeps is what is stored
+pub stored-is : (r : Result (Unit {0}) RegistryFault) (capacity : ℕ) (e : Entry) (a b : Entries)
+    → OnOk r (b ≡ fin.insert a (pair_of e) e) → IsErrOf r Full ↔ ((fin.get a (pair_of e) ≡ None) × (fin.len a ≡ capacity)) → OnErr r (IsErrOf r Full) → OnErr r (b ≡ a)
+    → b ≡ stored capacity e a
+stored-is (Ok x) capacity e a b ok full only err =
+    elim (is_full_for capacity e a) as (λ t. is_full_for capacity e a ≡ t → b ≡ cond t a (fin.insert a (pair_of e) e)) [
+      | true ↦ λ t. absurd (ok_err (full.1 (is_full-parts capacity e a t)))
+      | false ↦ λ t. ok
+    ] refl
+stored-is (Err x) capacity e a b ok full only err =
+    let k = full.0 only in
+    err ∙ ap (λ t. cond t a (fin.insert a (pair_of e) e)) (sym (is_full-made capacity e a k.0 k.1))
+
+pub same_state : (s : State) (entries : Entries) (rules : List Rule) (site : Place) (clock : ℕ) → entries ≡ s.entries → rules ≡ s.rules → site ≡ s.site → clock ≡ s.clock → ◌≡◌ {A = State} (record { entries = entries; rules = rules; site = site; clock = clock }) s
+same_state s entries rules site clock a b c d = λ i. record { entries = a i; rules = b i; site = c i; clock = d i }

@@ -1,0 +1,4 @@
+pub mod Asking
+pub mod Folding
+pub mod State
+pub mod Verdicts

@@ -1,0 +1,173 @@
+ghost use Rattle.std.specs.Prelude.{◌≡◌, ◌∷◌, [], max, List, IfOk, IfErr, IsErrOf, ◌↔◌, ◌⊎◌};
+ghost use Rattle.std.specs.Arc.{arc_value};
+ghost use Rattle.std.specs.FinMap as fin;
+ghost use Rattle.access_rules.specs.declared.rule.Rule.{Rule as AnyRule};
+ghost use Rattle.registry_core.specs.Entries.{outlives};
+ghost use Rattle.directory_judge.specs.History.{History, Event};
+ghost use Rattle.directory_judge.specs.Judging.{IsChange, IsJudged, judgement};
+ghost use Rattle.directory_judge.specs.Making.{content};
+ghost use Rattle.directory_judge.specs.Sites.{Place};
+ghost use Rattle.directory_state.specs.Folding.{Fold, StandsFor};
+ghost use Rattle.directory_state.specs.State.{State, beginning, made};
+ghost use Rattle.directory_state.specs.Verdicts.{IsLegal};
+
+use crate::asking::{collect, listed};
+use crate::query::{QueryFault, ServiceQuery};
+use access_rules::{Addr, Rules};
+use directory_judge::{Change, Judged, Placed, Site, judge_on};
+use registry_core::Registry;
+use slp_text::NoMemory;
+use slp_wire::{Message, UrlEntry};
+use std::alloc::Global;
+use std::collections::BTreeMap;
+use std::marker::Model;
+use std::sync::Arc;
+
+/// A registry with its rules, its site and its clock: the greatest moment of all changes, in seconds.
+#[derive(Drop)]
+pub struct Directory<R: Registry> {
+    registry: R,
+    rules: Arc<Rules>,
+    site: Site,
+    clock: u32,
+}
+
+impl<R: Registry> Model for Directory<R> {
+    ghost use Rattle.std.specs.Prelude.{◌≡◌};
+    ghost use Rattle.std.specs.Arc.{arc_value};
+    ghost use Rattle.directory_state.specs.State.{State, state_code};
+
+    ghost Value = { State };
+
+    ghost coded = { state_code };
+
+    ghost view = { λ d. record { entries = R.contents d.registry; rules = arc_value d.rules; site = d.site; clock = d.clock } };
+
+    ghost invariant = { λ d. R.limit d.registry ≡ d.site.capacity };
+}
+
+impl<R: Registry + Drop> Directory<R> {
+    /// A directory of an empty registry of the site's capacity, to which nothing happened.
+    pub fn open(
+        alloc: Global,
+        registry: R,
+        site: &Site,
+        rules: Arc<Rules>,
+    ) -> Result<Directory<R>, NoMemory>
+        requires empty { R.contents registry ≡ fin.empty }
+        requires capacity { R.limit registry ≡ site.now.capacity }
+        ensures state { IfOk result (λ d. d ≡ beginning (arc_value rules) site.now) }
+        ensures fold { IfOk result (λ d. Fold (arc_value rules) site.now [] d) }
+    {
+        let site = site.copy(alloc)?;
+        Ok(Directory {
+            registry,
+            rules,
+            site,
+            clock: 0,
+        })
+    }
+}
+
+impl<R: Registry> Directory<R> {
+    /// The moment at which a call acts: the greater of its own and the clock.
+    pub fn now(&self, moment: u32) -> u32
+        ensures { result ≡ max moment self.now.clock }
+    {
+        moment.max(self.clock)
+    }
+
+    /// The entries.
+    pub fn registry(&self) -> &R
+        ensures { R.contents result.now ≡ self.now.entries }
+    {
+        &self.registry
+    }
+
+    /// The rules.
+    pub fn rules(&self) -> &Rules
+        ensures { result.now ≡ self.now.rules }
+    {
+        &self.rules
+    }
+
+    /// What stays the same.
+    pub fn site(&self) -> &Site
+        ensures { result.now ≡ self.now.site }
+    {
+        &self.site
+    }
+
+    /// Judges a message that may change something. Nothing is changed.
+    pub fn judge(
+        &self,
+        alloc: Global,
+        moment: u32,
+        asker: Addr,
+        message: &Message,
+    ) -> Result<Judged, NoMemory>
+        requires { IsChange message.now }
+    {
+        judge_on(
+            alloc,
+            &self.registry,
+            &self.rules,
+            &self.site,
+            self.now(moment),
+            asker,
+            message,
+        )
+    }
+
+    /// Makes a change: what is dead at its moment is dropped, and the clock raised. It takes no memory.
+    pub fn apply(&mut self, change: Change)
+        ensures made { self.new ≡ made (content change) self.old }
+    {
+        match change {
+            Change::Put(placed) => {
+                let Placed { moment, entry } = placed;
+                self.clock = self.now(moment);
+                self.registry.sweep(u64::from(moment));
+                let _ = self.registry.put(entry);
+            }
+            Change::Sweep(moment) => {
+                self.clock = self.now(moment);
+                self.registry.sweep(u64::from(moment));
+            }
+        }
+    }
+
+    /// The URLs of the live entries that are open to the asker and match the question, in byte order,
+    /// each once and with the greatest remaining lifetime in seconds (RFC 2608, section 8.2).
+    pub fn services(
+        &self,
+        alloc: Global,
+        moment: u32,
+        asker: Addr,
+        query: &ServiceQuery,
+    ) -> Result<Vec<UrlEntry>, QueryFault> {
+        let now = u64::from(self.now(moment));
+        let mut found = BTreeMap::new(alloc);
+        let mut is_supported = false;
+        for place in 0..query.scopes.len() {
+            if let Some(scope) = query.scopes.at(place)
+                && self.site.scopes().has(scope)
+            {
+                is_supported = true;
+                collect(
+                    &mut found,
+                    &self.registry,
+                    &self.rules,
+                    now,
+                    asker,
+                    &query.kind,
+                    scope,
+                )?;
+            }
+        }
+        if !is_supported {
+            return Err(QueryFault::Scope);
+        }
+        Ok(listed(alloc, &found, now)?)
+    }
+}

@@ -1,0 +1,12 @@
+//! A directory: its entries, rules, site and clock, the changes that it makes and the questions that
+//! it answers.
+#![tactic(auto)]
+
+mod asking;
+mod directory;
+mod query;
+#[cfg(test)]
+mod tests;
+
+pub use directory::Directory;
+pub use query::{QueryFault, ServiceQuery};

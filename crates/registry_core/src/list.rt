@@ -1,0 +1,134 @@
+ghost use Rattle.std.specs.Prelude.{◌≡◌, ◌<◌, ◌≤◌, [], IfOk, OnErr, position};
+ghost use Rattle.std.specs.Arc.{arc_value};
+ghost use Rattle.std.specs.FinMap as fin;
+ghost use Rattle.std.specs.Option.{option_copied};
+ghost use Rattle.registry_core.specs.Entries.{is_of, is_at_place, of_list};
+
+use crate::entry::Entry;
+use crate::registry::{Registry, RegistryFault};
+use service_url::{ServiceType, Url};
+use slp_text::Key;
+use std::alloc::Global;
+use std::marker::Model;
+use std::sync::Arc;
+
+/// A registry that is searched from the front.
+#[derive(Drop)]
+pub struct ListRegistry {
+    entries: Vec<Arc<Entry>>,
+    limit: usize,
+}
+
+impl Model for ListRegistry {
+    ghost use Rattle.std.specs.Prelude.{ℕ, List, map};
+    ghost use Rattle.std.specs.Arc.{arc_value};
+    ghost use Rattle.registry_core.specs.Listed.{Listed, listed_code, IsListed};
+
+    ghost Value = { Listed };
+
+    ghost coded = { listed_code };
+
+    ghost view = { λ r. record { entries = map arc_value r.entries.items; limit = r.limit } };
+
+    ghost invariant = { λ r. IsListed r.entries r.limit };
+}
+
+impl ListRegistry {
+    /// A registry of no entry, with all the memory that it will use. The capacity is that of a site.
+    pub fn new(alloc: Global, capacity: usize) -> Result<ListRegistry, RegistryFault>
+        requires some { 0 < capacity }
+        requires few { capacity ≤ 65536 }
+        ensures entries { IfOk result (λ r. r.entries ≡ []) }
+        ensures limit { IfOk result (λ r. r.limit ≡ capacity) }
+        ensures memory { OnErr result (result ≡ Err RegistryFault.NoMemory) }
+        ensures empty { IfOk result (λ r. of_list r.entries ≡ fin.empty) }
+    {
+        let entries = Vec::with_capacity(alloc, capacity).map_err(|_| RegistryFault::NoMemory)?;
+        Ok(ListRegistry {
+            entries,
+            limit: capacity,
+        })
+    }
+}
+
+// Where the entry of a pair is.
+fn place_of(entries: &[Arc<Entry>], url: &Url, language: &Key) -> Option<usize>
+    ensures { result ≡ position (λ a. is_of (url.now, language.now) (arc_value a)) entries.now }
+{
+    entries
+        .iter()
+        .position(|e| *url == e.url && *language == e.language)
+}
+
+// Whether an entry stands in a scope and is of a type that is covered.
+fn is_here(entry: &Entry, scope: &Key, kind: Option<&ServiceType>) -> bool
+    ensures { result ≡ is_at_place scope.now (option_copied kind.entry) entry.now }
+{
+    let is_kind = match kind {
+        None => true,
+        Some(kind) => kind.covers(&entry.kind),
+    };
+    is_kind && entry.scopes.has(scope)
+}
+
+impl Registry for ListRegistry {
+    ghost use Rattle.std.specs.Prelude.{filter, drop};
+    ghost use Rattle.registry_core.specs.Entries.{of_list, is_at_place};
+
+    ghost contents = { λ r. of_list r.entries };
+
+    ghost limit = { λ r. r.limit };
+
+    ghost rest_at = { λ r scope kind from. filter (is_at_place scope kind) (drop from r.entries) };
+
+    fn put(&mut self, entry: Arc<Entry>) -> Result<(), RegistryFault> {
+        let held: &Entry = &entry;
+        match place_of(&self.entries, &held.url, &held.language) {
+            Some(at) => {
+                self.entries[at] = entry;
+                Ok(())
+            }
+            None => {
+                if self.entries.len() == self.limit {
+                    return Err(RegistryFault::Full);
+                }
+                self.entries.push(entry).unwrap();
+                Ok(())
+            }
+        }
+    }
+
+    fn sweep(&mut self, now: u64) {
+        self.entries.retain(|e| e.deadline > now);
+    }
+
+    fn find(&self, url: &Url, language: &Key) -> Option<&Entry> {
+        match place_of(&self.entries, url, language) {
+            Some(at) => Some(&*self.entries[at]),
+            None => None,
+        }
+    }
+
+    fn by_place(
+        &self,
+        scope: &Key,
+        kind: Option<&ServiceType>,
+        from: usize,
+    ) -> Option<(&Entry, usize)> {
+        for at in from..self.entries.len() {
+            let entry: &Entry = &self.entries[at];
+            if is_here(entry, scope, kind) {
+                return Some((entry, at + 1));
+            }
+        }
+        None
+    }
+
+    fn len(&self) -> usize {
+        self.entries.len()
+    }
+
+    fn capacity(&self) -> usize {
+        self.limit
+    }
+}

@@ -1,0 +1,80 @@
+ghost use Rattle.std.specs.Prelude.{◌≡◌, ◌<◌, ◌≤◌, ◌∷◌, [], ◌↔◌, length, IsErrOf, OnOk, OnErr, MatchOption, None};
+ghost use Rattle.std.specs.Arc.{arc_value};
+ghost use Rattle.std.specs.FinMap as fin;
+ghost use Rattle.std.specs.Option.{option_copied};
+ghost use Rattle.registry_core.specs.Entries.{Pair, pair_of, outlives, kept, is_at_place, IsListing};
+
+use crate::entry::Entry;
+use service_url::{ServiceType, Url};
+use slp_text::Key;
+use std::sync::Arc;
+use thiserror::Error;
+
+/// Why a registry takes no entry, or is not made.
+#[derive(Clone, Copy, Debug, PartialEq, Eq, Error)]
+pub enum RegistryFault {
+    /// `put` alone.
+    #[error("the registry is full")]
+    Full = 1,
+    /// The constructors alone.
+    #[error("out of memory")]
+    NoMemory = 2,
+}
+
+/// Entries by URL and language, in memory that was taken when the registry was made: no call takes
+/// more.
+pub trait Registry {
+    ghost use Rattle.std.specs.Prelude.{ℕ, List, Option};
+    ghost use Rattle.registry_core.specs.declared.entry.Entry.{Entry};
+    ghost use Rattle.registry_core.specs.Entries.{Entries};
+
+    /// The entries, by their pairs.
+    ghost contents: { Self → Entries };
+
+    /// How many pairs it takes.
+    ghost limit: { Self → ℕ };
+
+    /// What `by_place` still gives of a scope and a type from a number on.
+    ghost rest_at: { Self → List ℕ → Option (List ℕ) → ℕ → List Entry };
+
+    /// Sets the entry of one pair. A registry that has no place for a pair that is not held is
+    /// `Full`, and stays as it is.
+    fn put(&mut self, entry: Arc<Entry>) -> Result<(), RegistryFault>
+        requires scoped { 0 < length (arc_value entry).scopes }
+        requires few_scopes { length (arc_value entry).scopes ≤ 16 }
+        ensures ok { OnOk result (contents self.new ≡ fin.insert (contents self.old) (pair_of (arc_value entry)) (arc_value entry)) }
+        ensures full { IsErrOf result RegistryFault.Full ↔ ((fin.get (contents self.old) (pair_of (arc_value entry)) ≡ None) × (fin.len (contents self.old) ≡ limit self.old)) }
+        ensures only_full { OnErr result (IsErrOf result RegistryFault.Full) }
+        ensures err { OnErr result (contents self.new ≡ contents self.old) }
+        ensures room { limit self.new ≡ limit self.old };
+
+    /// Drops the entries whose deadline is at most `now`, a moment in seconds.
+    fn sweep(&mut self, now: u64)
+        ensures each { (q : Pair) → fin.get (contents self.new) q ≡ kept (outlives now) (fin.get (contents self.old) q) }
+        ensures room { limit self.new ≡ limit self.old };
+
+    /// The entry of a URL and a language.
+    fn find(&self, url: &Url, language: &Key) -> Option<&Entry>
+        ensures { option_copied result ≡ fin.get (contents self.now) (url.now, language.now) };
+
+    /// The next entry that stands in a scope and is of a type that the given one covers (`None`: of
+    /// any type), with the number to go on from. The first number is 0. On a registry that stays as
+    /// it is each such entry comes once.
+    fn by_place(
+        &self,
+        scope: &Key,
+        kind: Option<&ServiceType>,
+        from: usize,
+    ) -> Option<(&Entry, usize)>
+        ensures next { MatchOption result (rest_at self.now scope.now (option_copied kind.entry) from ≡ []) (λ p. rest_at self.now scope.now (option_copied kind.entry) from ≡ p.0.now ∷ rest_at self.now scope.now (option_copied kind.entry) p.1) }
+        ensures whole { IsListing (is_at_place scope.now (option_copied kind.entry)) (contents self.now) (rest_at self.now scope.now (option_copied kind.entry) 0) };
+
+    /// How many pairs are held.
+    fn len(&self) -> usize
+        ensures value { result ≡ fin.len (contents self.now) }
+        ensures within { fin.len (contents self.now) ≤ limit self.now };
+
+    /// How many pairs it takes.
+    fn capacity(&self) -> usize
+        ensures { result ≡ limit self.now };
+}

@@ -1,0 +1,56 @@
+-- Service types (RFC 2609, section 2; RFC 2608, section 4.1).
+use Rattle.std.specs.Prelude.{ℕ, Bool, ◌==◌, ◌-◌, ◌&&◌, ◌||◌, List, [], ◌∷◌, ◌++◌, length, take, drop, slice_index, codes, nat_eq, nat_lt, Result, Ok, Err, if◌then◌else◌}
+use Rattle.std.specs.List.{list_all, starts_with, before_first, after_first}
+use Rattle.slp_text.specs.Key.{key_of}
+use Rattle.slp_text.specs.Scopes.{is_plain}
+use Rattle.slp_text.specs.Words.{bytes_eq}
+use Rattle.service_url.specs.declared.fault.UrlFault.{UrlFault}
+use Rattle.service_url.specs.declared.fault.UrlFault.TheVariants.{BadType}
+
+-- letters, digits, `+`, `-`, `.` and `_`
+abbrev pub is_name_byte : ℕ → Bool
+is_name_byte b = is_plain b || b == 43 || b == 45 || b == 46 || b == 95
+
+-- a name of such characters that begins with a letter or a digit
+abbrev pub is_name : List ℕ → Bool
+is_name text = nat_lt 0 (length text) && is_plain (slice_index text 0) && list_all is_name_byte text
+
+abbrev pub is_colon : ℕ → Bool
+is_colon b = b == 58
+
+-- `service:`
+abbrev pub service_word : List ℕ
+service_word = codes "service:"
+
+abbrev pub is_service : List ℕ → Bool
+is_service text = starts_with nat_eq text service_word
+
+-- `service:A`, a type that others are made from
+abbrev pub is_abstract : List ℕ → Bool
+is_abstract text = is_service text && is_name (drop 8 text)
+
+-- `service:A:C`
+abbrev pub is_concrete : List ℕ → Bool
+is_concrete text = is_service text && is_name (before_first is_colon (drop 8 text)) && is_name (after_first is_colon (drop 8 text))
+
+-- the forms of a folded type that are read so far
+abbrev pub is_type : List ℕ → Bool
+is_type text = is_abstract text || is_concrete text
+
+-- all but the last byte
+abbrev pub shortened : List ℕ → List ℕ
+shortened text = take (length text - 1) text
+
+-- `service:A:`, whose last colon means nothing
+abbrev pub is_abstract_with_colon : List ℕ → Bool
+is_abstract_with_colon text = is_colon (slice_index text (length text - 1)) && is_abstract (shortened text)
+
+-- the type that a text names, by its key
+abbrev pub type_of : List ℕ → Result (List ℕ) UrlFault
+type_of text =
+    if is_abstract_with_colon (key_of text) then Ok (shortened (key_of text))
+    else (if is_type (key_of text) then Ok (key_of text) else Err BadType)
+
+-- A type covers itself, and an abstract one each that is made from it.
+abbrev pub covers : List ℕ → List ℕ → Bool
+covers kind other = bytes_eq kind other || (is_abstract kind && starts_with nat_eq other (kind ++ 58 ∷ []))

@@ -1,0 +1,12 @@
+//! Service types and URLs (RFC 2609, section 2), and which types a type covers.
+#![tactic(auto)]
+
+mod fault;
+#[cfg(test)]
+mod tests;
+mod types;
+mod urls;
+
+pub use fault::UrlFault;
+pub use types::ServiceType;
+pub use urls::Url;

@@ -1,0 +1,142 @@
+ghost use Rattle.std.specs.Prelude.{◌≡◌, ◌&&◌, ◌∷◌, ◌++◌, ◌≤◌, [], nat_eq, length, IsTrue, IfOk};
+ghost use Rattle.std.specs.List.{list_all, starts_with, position_or_len, before_first, after_first};
+ghost use Rattle.service_url.specs.Reading.{IsReading};
+ghost use Rattle.service_url.specs.Types.{is_colon, is_name_byte as is_name_number, is_name as is_name_text, is_service as is_service_text, is_abstract as is_abstract_text, is_concrete as is_concrete_text, is_abstract_with_colon as is_abstract_text_with_colon, covers as covers_it, type_of};
+
+use crate::fault::UrlFault;
+use slp_text::{NoMemory, key};
+use std::alloc::Global;
+use std::marker::Model;
+
+/// A service type, folded, which contracts see as its bytes: `service:A` or `service:A:C` (RFC 2609,
+/// section 2). Those of other schemes are still to come.
+#[derive(Debug, Drop)]
+pub struct ServiceType {
+    text: String,
+}
+
+impl Model for ServiceType {
+    ghost use Rattle.std.specs.Prelude.{List, ℕ, string_bytes, IsTrue};
+    ghost use Rattle.service_url.specs.Types.{is_type};
+
+    ghost Value = { List ℕ };
+
+    ghost view = { λ a. string_bytes a.text };
+
+    ghost invariant = { λ a. IsTrue (is_type (string_bytes a.text)) };
+}
+
+const SERVICE: &[u8] = b"service:";
+
+fn is_name_byte(b: u8) -> bool
+    ensures { result ≡ is_name_number b }
+{
+    matches!(b, b'0'..=b'9' | b'A'..=b'Z' | b'a'..=b'z' | b'+' | b'-' | b'.' | b'_')
+}
+
+fn are_name_bytes(bytes: &[u8]) -> bool
+    ensures { result ≡ list_all is_name_number bytes.now }
+{
+    bytes.iter().all(|b| is_name_byte(*b))
+}
+
+fn is_name(bytes: &[u8]) -> bool
+    ensures { result ≡ is_name_text bytes.now }
+{
+    !bytes.is_empty()
+        && matches!(bytes[0], b'0'..=b'9' | b'A'..=b'Z' | b'a'..=b'z')
+        && are_name_bytes(bytes)
+}
+
+fn is_service(bytes: &[u8]) -> bool
+    ensures value { result ≡ is_service_text bytes.now }
+    ensures room { IsTrue result → 8 ≤ length bytes.now }
+{
+    bytes.starts_with(SERVICE)
+}
+
+fn is_abstract(bytes: &[u8]) -> bool
+    ensures { result ≡ is_abstract_text bytes.now }
+{
+    is_service(bytes) && is_name(&bytes[SERVICE.len()..])
+}
+
+fn colon_at(bytes: &[u8]) -> usize
+    ensures { result ≡ position_or_len is_colon bytes.now }
+{
+    bytes.iter().take_while(|b| **b != b':').count()
+}
+
+fn are_two_names(bytes: &[u8]) -> bool
+    ensures { result ≡ (is_name_text (before_first is_colon bytes.now) && is_name_text (after_first is_colon bytes.now)) }
+{
+    let colon = colon_at(bytes);
+    colon < bytes.len() && is_name(&bytes[..colon]) && is_name(&bytes[colon + 1..])
+}
+
+fn is_concrete(bytes: &[u8]) -> bool
+    ensures { result ≡ is_concrete_text bytes.now }
+{
+    is_service(bytes) && are_two_names(&bytes[SERVICE.len()..])
+}
+
+fn is_abstract_with_colon(bytes: &[u8]) -> bool
+    ensures { result ≡ is_abstract_text_with_colon bytes.now }
+{
+    match bytes {
+        [front @ .., b':'] => is_abstract(front),
+        _ => false,
+    }
+}
+
+// Whether a text begins with a front and a colon.
+fn is_followed_by_colon(front: &[u8], text: &[u8]) -> bool
+    ensures { result ≡ starts_with nat_eq text.now (front.now ++ 58 ∷ []) }
+{
+    front.len() < text.len() && text.starts_with(front) && text[front.len()] == b':'
+}
+
+impl ServiceType {
+    /// The type that a text names. One colon at the end of `service:A` is dropped. What is no type is
+    /// `BadType`.
+    pub fn parse(alloc: Global, text: &str) -> Result<ServiceType, UrlFault>
+        ensures { IsReading result (type_of text.now) }
+    {
+        let mut text = match key(alloc, text) {
+            Ok(folded) => folded.into_string(),
+            Err(_) => return Err(UrlFault::NoMemory),
+        };
+        if is_abstract_with_colon(text.as_bytes()) {
+            text.truncate(text.len() - 1);
+            return Ok(ServiceType { text });
+        }
+        if !is_abstract(text.as_bytes()) && !is_concrete(text.as_bytes()) {
+            return Err(UrlFault::BadType);
+        }
+        Ok(ServiceType { text })
+    }
+
+    /// The type as folded. Takes no memory.
+    pub fn text(&self) -> &str
+        ensures { result.now ≡ self.now }
+    {
+        self.text.as_str()
+    }
+
+    /// Whether it covers a type: itself, and where it is abstract each concrete type of it. Takes no
+    /// memory.
+    pub fn covers(&self, other: &ServiceType) -> bool
+        ensures { result ≡ covers_it self.now other.now }
+    {
+        let (kind, other) = (self.text.as_bytes(), other.text.as_bytes());
+        kind == other || (is_abstract(kind) && is_followed_by_colon(kind, other))
+    }
+
+    /// An equal type.
+    pub fn copy(&self, alloc: Global) -> Result<ServiceType, NoMemory>
+        ensures { IfOk result (λ t. t ≡ self.now) }
+    {
+        let text = String::from_str(alloc, self.text.as_str())?;
+        Ok(ServiceType { text })
+    }
+}

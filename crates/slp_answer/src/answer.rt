@@ -1,0 +1,59 @@
+ghost use Rattle.std.specs.Prelude.{◌≡◌, ◌==◌, ◌||◌, []};
+ghost use Rattle.slp_answer.specs.Answering.{is_change_of};
+
+use slp_wire::read_header;
+use std::alloc::Global;
+
+/// The bytes of a reply, and those of its audit line. Either may be empty.
+#[derive(Debug, Drop)]
+pub struct Answer {
+    pub bytes: Vec<u8>,
+    pub audit: Vec<u8>,
+}
+
+impl Answer {
+    /// An empty answer. Takes no memory.
+    pub fn new(alloc: Global) -> Answer
+        ensures bytes { result.bytes.items ≡ [] }
+        ensures audit { result.audit.items ≡ [] }
+    {
+        Answer {
+            bytes: Vec::new(alloc),
+            audit: Vec::new(alloc),
+        }
+    }
+
+    /// Empties the answer, and keeps its memory for the next.
+    pub(crate) fn clear(&mut self)
+        ensures bytes { self.new.bytes.items ≡ [] }
+        ensures audit { self.new.audit.items ≡ [] }
+    {
+        self.bytes.clear();
+        self.audit.clear();
+    }
+}
+
+/// What was sent: a reply with this code, or nothing.
+#[derive(Clone, Copy, Debug, PartialEq, Eq)]
+pub enum Sent {
+    Bytes(u16),
+    Silence,
+}
+
+// Whether a message of a function may change something.
+fn is_change_function(function: u8) -> bool
+    ensures { result ≡ (function == 3 || function == 4) }
+{
+    function == 3 || function == 4
+}
+
+/// Whether bytes ask for a change: they have a readable header of a registration or a withdrawal.
+/// Takes no memory.
+pub fn is_change(bytes: &[u8]) -> bool
+    ensures { result ≡ is_change_of bytes.now }
+{
+    match read_header(bytes) {
+        Some(header) => is_change_function(header.function),
+        None => false,
+    }
+}

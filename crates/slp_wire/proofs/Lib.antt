@@ -1,0 +1,14 @@
+pub mod Texts
+pub mod Loop
+pub mod Fronts
+pub mod Appended
+pub mod Steps
+pub mod Numbers
+pub mod Parts
+pub mod Listings
+pub mod ServiceMessages
+pub mod Registrations
+pub mod Bodies
+pub mod Framing
+pub mod Plain
+pub mod Whole

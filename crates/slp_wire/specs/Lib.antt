@@ -1,0 +1,5 @@
+pub mod Headers
+pub mod Messages
+pub mod Reading
+pub mod Spelling
+pub mod Tags

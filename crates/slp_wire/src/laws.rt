@@ -1,0 +1,17 @@
+//! What holds of every message. The functions do nothing: their contracts are the laws.
+ghost use Rattle.std.specs.Prelude.{◌≡◌, ◌≤◌, ℕ, List, [], ◌++◌, length, Ok};
+ghost use Rattle.slp_wire.specs.Messages.{IsMessage};
+ghost use Rattle.slp_wire.specs.Reading.{reading};
+ghost use Rattle.slp_wire.specs.Spelling.{plain, longest};
+ghost use Rattle.slp_wire.specs.declared.message.Message.{Message};
+
+/// What was written is read again as the same message, whatever follows it.
+pub fn a_spelling_is_read_back()
+    ensures { (m : Message) (rest : List ℕ) → IsMessage m → length (plain m) ≤ longest → reading (plain m ++ rest) ≡ Ok m }
+{}
+
+/// No spelling begins another.
+pub fn no_spelling_begins_another()
+    ensures { (m n : Message) (rest : List ℕ) → IsMessage m → IsMessage n → length (plain m) ≤ longest → length (plain n) ≤ longest
+        → plain m ++ rest ≡ plain n → (m ≡ n) × (rest ≡ []) }
+{}
