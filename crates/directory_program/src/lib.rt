@@ -8,6 +8,8 @@ pub mod laws;
 mod place;
 mod printing;
 mod program;
+#[cfg(test)]
+mod replay_tests;
 mod running;
 mod script;
 mod session;

@@ -1,14 +1,17 @@
-use Rattle.std.proofs.Common.{◌≡◌, ℕ, max, sym, ap, ◌∙◌, refl}
+use Rattle.std.proofs.Common.{◌≡◌, ◌∷◌, ℕ, max, sym, ap, subst, ◌∙◌, refl}
 use Rattle.std.specs.Arc.{arc_value}
 use Rattle.std.specs.FinMap as fin
 use Rattle.registry_core.specs.Entries.{kept, outlives}
 use Rattle.directory_judge.specs.Making.{content, Stores, Sweeps}
 use Rattle.directory_state.specs.State.{State, stored, made}
+use Rattle.directory_state.specs.Folding.{Fold}
+use Rattle.directory_state.proofs.Accepting.{possible}
+use Rattle.directory_state.proofs.Folding.{Fold-made}
 use Rattle.directory_state.proofs.States.{passing-is, stored-is, same_state}
 use Rattle.directory_state.proofs.directory.Directory.apply.Goals as goal
 
-pub returns-in-Put : goal.returns-in-Put
-returns-in-Put g c = record { made =
+pub returns-in-Put-clause-made : goal.returns-in-Put-clause-made
+returns-in-Put-clause-made g c =
     let old = c.args.self.now in
     let moment = c.in-Put.placed.moment in
     let entry = arc_value c.in-Put.placed.entry in
@@ -20,13 +23,23 @@ returns-in-Put g c = record { made =
     c.put.ensures.ok ((λ e. let k = c.put.ensures.full.0 e in (k.0, k.1 ∙ room)), (λ k. c.put.ensures.full.1 (k.0, k.1 ∙ sym room))) c.put.ensures.only_full c.put.ensures.err
     ∙ ap (stored old.site.capacity entry) swept)
     (ap (λ (s : State). s.rules) c.self.view_is) (ap (λ (s : State). s.site) c.self.view_is) c.now-self-inside.ensures
-    ∙ ap (λ x. made (content x) old) (sym c.in-Put.is) }
+    ∙ ap (λ x. made (content x) old) (sym c.in-Put.is)
 
-pub returns-in-Sweep : goal.returns-in-Sweep
-returns-in-Sweep g c = record { made =
+pub returns-in-Sweep-clause-made : goal.returns-in-Sweep-clause-made
+returns-in-Sweep-clause-made g c =
     let old = c.args.self.now in
     let swept = passing-is (outlives c.in-Sweep.moment) old.entries (g.R.Registry.contents c.sweep-in-Sweep.new.self) (λ q.
     c.sweep-in-Sweep.ensures.each q ∙ ap (λ m. kept (outlives m) (fin.get (g.R.Registry.contents c.self.inside.registry) q)) c.from-in-Sweep.ensures ∙ ap (λ (s : State). kept (outlives c.in-Sweep.moment) (fin.get s.entries q)) c.self.view_is) in
     same_state (made (Sweeps c.in-Sweep.moment) old) _ _ _ _
     swept (ap (λ (s : State). s.rules) c.self.view_is) (ap (λ (s : State). s.site) c.self.view_is) c.now-self-inside-in-Sweep.ensures
-    ∙ ap (λ x. made (content x) old) (sym c.in-Sweep.is) }
+    ∙ ap (λ x. made (content x) old) (sym c.in-Sweep.is)
+
+pub returns-in-Put-clause-fold : goal.returns-in-Put-clause-fold
+returns-in-Put-clause-fold g c = λ opening h event fold legal stands.
+    let old = c.args.self.now in
+    subst (Fold opening old.site (event ∷ h)) (sym (returns-in-Put-clause-made g c)) (Fold-made opening old.site h (content c.args.change) event old fold legal.0 (possible opening old.site h event.moment event.act legal.1) stands)
+
+pub returns-in-Sweep-clause-fold : goal.returns-in-Sweep-clause-fold
+returns-in-Sweep-clause-fold g c = λ opening h event fold legal stands.
+    let old = c.args.self.now in
+    subst (Fold opening old.site (event ∷ h)) (sym (returns-in-Sweep-clause-made g c)) (Fold-made opening old.site h (content c.args.change) event old fold legal.0 (possible opening old.site h event.moment event.act legal.1) stands)

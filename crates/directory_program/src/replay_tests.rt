@@ -1,0 +1,217 @@
+use crate::{Replay, RunFault, replay_run};
+use slp_text::Text;
+use slp_wire::{Message, Registration, UrlEntry, decode, encode};
+use std::alloc::Global;
+use std::io;
+use std::io::{Error, ErrorKind, Read};
+use std::test::Fail;
+
+const REQUEST: &str = "0201000030000000000000010002656e0000000f736572766963653a7072696e746572000744454641554c5400000000";
+
+const REGISTRATION: &str = "020300004e400000000000020002656e00012c0017736572766963653a7072696e7465723a6c70723a2f2f61000013736572766963653a7072696e7465723a6c7072000744454641554c54000000";
+
+const NOTHING_FOUND: &str = "> 0202000014000000000000010002656e00000000\n# allow code=0 by=none action=see asker=10.0.0.1 type=service:printer scope=-\n";
+
+const ACCEPTED: &str = "> 0205000012000000000000020002656e0000\n# allow code=0 by=rule:all-register action=register asker=10.0.0.1 type=service:printer:lpr scope=default\n";
+
+const FOUND: &str = "> 0202000031000000000000010002656e0000000100012c0017736572766963653a7072696e7465723a6c70723a2f2f6100\n# allow code=0 by=none action=see asker=10.0.0.1 type=service:printer scope=-\n";
+
+const PRINTER: &str = "service:printer:lpr";
+
+/// Gives one byte a read, is interrupted before each, and may fail at the end.
+#[derive(Drop)]
+struct Trickle<'a> {
+    rest: &'a [u8],
+    is_interrupted: bool,
+    fails: bool,
+}
+
+impl Read for Trickle<'_> {
+    fn read(&mut self, buf: &mut [u8]) -> io::Result<usize> {
+        self.is_interrupted = !self.is_interrupted;
+        if self.is_interrupted {
+            return Err(Error::from(ErrorKind::Interrupted));
+        }
+        if self.rest.is_empty() && self.fails {
+            return Err(Error::from(ErrorKind::Other));
+        }
+        if self.rest.is_empty() || buf.is_empty() {
+            return Ok(0);
+        }
+        buf[0] = self.rest[0];
+        self.rest = &self.rest[1..];
+        Ok(1)
+    }
+}
+
+fn output(alloc: Global, script: &str) -> Result<Vec<u8>, Fail> {
+    let mut out = Vec::new(alloc);
+    let mut reader = script.as_bytes();
+    Replay::new(alloc).run(alloc, &mut reader, &mut out)?;
+    Ok(out)
+}
+
+#[test]
+fn a_service_is_found_once_it_is_registered(rt: HostRuntime) -> Result<(), Fail> {
+    let alloc = rt.alloc();
+    let script = format!(in alloc; "udp {REQUEST}\nudp {REGISTRATION}\n\nudp {REQUEST}")?;
+    let want = format!(in alloc; "{NOTHING_FOUND}{ACCEPTED}{FOUND}")?;
+    assert_eq!(rt; output(alloc, script.as_str())?.as_slice(), want.as_bytes());
+    Ok(())
+}
+
+#[test]
+fn reads_may_be_cut_anywhere(rt: HostRuntime) -> Result<(), Fail> {
+    let alloc = rt.alloc();
+    let script = format!(in alloc; "udp {REGISTRATION}\nudp {REQUEST}\nat 1")?;
+    let want = format!(in alloc; "{ACCEPTED}{FOUND}")?;
+    for (fails, outcome) in [(false, Ok(())), (true, Err(RunFault::Read))] {
+        let mut out = Vec::new(alloc);
+        let mut reader = Trickle {
+            rest: script.as_bytes(),
+            is_interrupted: false,
+            fails,
+        };
+        assert_eq!(rt; Replay::new(alloc).run(alloc, &mut reader, &mut out), outcome);
+        assert_eq!(rt; out.as_slice(), want.as_bytes());
+    }
+    Ok(())
+}
+
+#[test]
+fn a_registration_has_a_lifetime_and_a_language(rt: HostRuntime) -> Result<(), Fail> {
+    let alloc = rt.alloc();
+    let line = "# deny code=3 by=registration action=register asker=10.0.0.9 type=- scope=-";
+    let script = "from 10.0.0.9\n\
+        udp 020300004e400000000000020002656e0000000017736572766963653a7072696e7465723a6c70723a2f2f61000013736572766963653a7072696e7465723a6c7072000744454641554c54000000\n\
+        udp 020300004c40000000000002000000012c0017736572766963653a7072696e7465723a6c70723a2f2f61000013736572766963653a7072696e7465723a6c7072000744454641554c54000000\n";
+    let want = format!(in alloc; "> 0205000012000000000000020002656e0003\n{line}\n> 02050000100000000000000200000003\n{line}\n")?;
+    assert_eq!(rt; output(alloc, script)?.as_slice(), want.as_bytes());
+    Ok(())
+}
+
+#[test]
+fn what_is_not_answered_yet_is_silent(rt: HostRuntime) -> Result<(), Fail> {
+    let alloc = rt.alloc();
+    for message in [
+        // no readable header
+        "",
+        // another version, a security parameter index, an extension
+        "0301000030000000000000010002656e0000000f736572766963653a7072696e746572000744454641554c5400000000",
+        "0201000031000000000000010002656e0000000f736572766963653a7072696e746572000744454641554c540000000178",
+        "0201000035000000003000010002656e0000000f736572766963653a7072696e746572000744454641554c54000000004001000000",
+        // a reply, an acknowledgement, a withdrawal
+        "0202000014000000000000010002656e00000000",
+        "0205000012000000000000020002656e0000",
+        "0204000038000000000000030002656e000744454641554c540000000017736572766963653a7072696e7465723a6c70723a2f2f61000000",
+        // sent to many
+        "0201000030200000000000010002656e0000000f736572766963653a7072696e746572000744454641554c5400000000",
+        // a registration that is not fresh
+        "020300004e000000000000020002656e00012c0017736572766963653a7072696e7465723a6c70723a2f2f61000013736572766963653a7072696e7465723a6c7072000744454641554c54000000",
+        // the type `http`
+        "0201000025000000000000010002656e0000000468747470000744454641554c5400000000",
+        // the scope list `a,b`
+        "020100002c000000000000010002656e0000000f736572766963653a7072696e7465720003612c6200000000",
+    ] {
+        let script = format!(in alloc; "udp {message}\nudp {REQUEST}\n")?;
+        let want = format!(in alloc; "> -\n{NOTHING_FOUND}")?;
+        assert_eq!(rt; output(alloc, script.as_str())?.as_slice(), want.as_bytes(), "{message}");
+    }
+    Ok(())
+}
+
+// The line of a registration like the one above, of another type, URL and lifetime.
+fn registering(alloc: Global, kind: &str, url: &str, lifetime: u16) -> Result<String, Fail> {
+    let bytes = hex::decode(alloc, REGISTRATION)?;
+    let Message::Registration(header, registration) = decode(alloc, bytes.as_slice())? else {
+        return Err(Fail::from("a registration"));
+    };
+    let Registration {
+        entry: _,
+        kind: _,
+        scopes,
+        attributes,
+    } = registration;
+    let entry = UrlEntry {
+        lifetime,
+        url: Text::wrap(String::from_str(alloc, url)?),
+    };
+    let message = Message::Registration(
+        header,
+        Registration {
+            entry,
+            kind: Text::wrap(String::from_str(alloc, kind)?),
+            scopes,
+            attributes,
+        },
+    );
+    let mut bytes = Vec::new(alloc);
+    encode(&message, &mut bytes)?;
+    let digits = hex::encode(alloc, bytes.as_slice())?;
+    Ok(format!(in alloc; "udp {digits}\n")?)
+}
+
+// A URL with so many letters behind its scheme.
+fn long_url(alloc: Global, letter: &str, count: usize) -> Result<String, Fail> {
+    let mut url = String::from_str(alloc, "service:printer:lpr://")?;
+    for _ in 0..count {
+        url.push_str(letter)?;
+    }
+    Ok(url)
+}
+
+#[test]
+fn a_reply_is_cut_to_whole_items(rt: HostRuntime) -> Result<(), Fail> {
+    let alloc = rt.alloc();
+    let first = registering(alloc, PRINTER, long_url(alloc, "a", 662)?.as_str(), 300)?;
+    for (letters, digits, front) in [
+        (662, 2_800, "> 0202000578000000000000010002656e00000002"),
+        (663, 1_420, "> 02020002c6800000000000010002656e00000001"),
+    ] {
+        let second = registering(alloc, PRINTER, long_url(alloc, "b", letters)?.as_str(), 300)?;
+        let script = format!(in alloc; "{second}{first}udp {REQUEST}\n")?;
+        let told = output(alloc, script.as_str())?;
+        let last = str::from_utf8(told.as_slice())?.lines().nth(4).ok_or("a reply")?;
+        assert_eq!(rt; last.len(), digits + 2);
+        assert!(rt; last.starts_with(front));
+    }
+    Ok(())
+}
+
+#[test]
+fn the_clock_does_not_go_back(rt: HostRuntime) -> Result<(), Fail> {
+    let alloc = rt.alloc();
+    let first = registering(alloc, PRINTER, "service:printer:lpr://a", 90)?;
+    let other = registering(alloc, "service:clock:x", "service:clock:x://b", 300)?;
+    let again = registering(alloc, PRINTER, "service:printer:lpr://a", 10)?;
+    let script = format!(in alloc; "{first}{other}at 100\n{other}at 80\nudp {REQUEST}\n{again}udp {REQUEST}\nat 109\nudp {REQUEST}\nat 110\nudp {REQUEST}\n")?;
+    let told = output(alloc, script.as_str())?;
+    let text = str::from_utf8(told.as_slice())?;
+    let nothing = "> 0202000014000000000000010002656e00000000";
+    let begin = "> 0202000031000000000000010002656e0000000100";
+    for (line, front, lifetime) in [(6, nothing, ""), (10, begin, "000a0017"), (12, begin, "00010017"), (14, nothing, "")] {
+        let want = format!(in alloc; "{front}{lifetime}")?;
+        let given = text.lines().nth(line).ok_or("a line")?;
+        assert!(rt; given.starts_with(want.as_str()), "line {line}: {given}");
+    }
+    Ok(())
+}
+
+#[test]
+fn the_program_answers_its_status(rt: HostRuntime) -> Result<(), Fail> {
+    let alloc = rt.alloc();
+    let words = vec![in alloc; String::from_str(alloc, "x")?]?;
+    let none = Vec::new(alloc);
+    for (given, script, status, want) in [
+        (&none, "at 5\n", 0, ""),
+        (&none, "at 5\nat x\n", 3, "! line 2\n"),
+        (&none, "\n\r\n", 3, "! line 2\n"),
+        (&words, "at x\n", 64, "usage: slpreplay\n"),
+    ] {
+        let mut out = Vec::new(alloc);
+        let mut reader = script.as_bytes();
+        assert_eq!(rt; replay_run(alloc, given.as_slice(), &mut reader, &mut out), status);
+        assert_eq!(rt; out.as_slice(), want.as_bytes());
+    }
+    Ok(())
+}
