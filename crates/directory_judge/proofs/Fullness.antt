@@ -60,8 +60,8 @@ module _ (site : Place) (m : Entries) (limit : ℕ) (alive : Entry → Bool) (of
   pub room_below : fin.len m < site.capacity → nat_le site.capacity (fin.len (passing alive m)) ≡ false
   room_below less = lt-leb _ _ (let part = len-passing alive m in omega (arith, part, less))
 
-  pub room_dead : fin.len (passing alive m) < fin.len m → nat_le site.capacity (fin.len (passing alive m)) ≡ false
-  room_dead less = lt-leb _ _ (omega (arith, less, of.within, of.capacity))
+  pub room_dead : fin.len m ≤ limit → fin.len (passing alive m) < fin.len m → nat_le site.capacity (fin.len (passing alive m)) ≡ false
+  room_dead within less = lt-leb _ _ (omega (arith, less, within, of.capacity))
 
   -- the registry is full, and no entry that is dead stands in a scope of the site
   pub no_room_left : site.capacity ≤ fin.len m → ((q : Pair) (e : Entry) → fin.get m q ≡ Some e → alive e ≡ false → list_any (λ s. has_scope s e) site.scopes ≡ false) → nat_le site.capacity (fin.len (passing alive m)) ≡ true

@@ -1,5 +1,5 @@
 -- How a registration is judged: the first step whose fault is there, else it is accepted (RFC 2608, sections 7 and 9.3).
-use Rattle.std.specs.Prelude.{◌≡◌, ℕ, Bool, is_err, true, false, not, ◌==◌, ◌&&◌, ◌||◌, List, [], ◌∷◌, filter, find, length, codes, slice_get, Option, Some, None, is_some, is_none, nat_le, unwrap_or, IsTrue, ◌≤◌, Result, Ok, Err, if◌then◌else◌}
+use Rattle.std.specs.Prelude.{◌≡◌, ℕ, Bool, is_err, true, false, not, ◌==◌, ◌&&◌, ◌||◌, List, [], ◌∷◌, filter, find, length, codes, slice_get, Option, Some, None, is_some, is_none, nat_le, unwrap_or, IsTrue, Result, Ok, Err, if◌then◌else◌}
 use Rattle.std.specs.Option.{option_or, option_map, option_map_or, option_and_then}
 use Rattle.std.specs.List.{list_any}
 use Rattle.std.specs.FinMap as fin
@@ -161,7 +161,6 @@ judgement g (message.Acknowledgement h code) = Ignores
 -- a registry is one of the site: it has the site's capacity, and each entry stands in a scope of the site
 pub record IsRegistryOf (site : Place) (entries : Entries) (limit : ℕ) : Type 0 where
   pub capacity : limit ≡ site.capacity
-  pub within : fin.len entries ≤ limit
   pub supported : (q : Pair) (e : Entry) → fin.get entries q ≡ Some e → IsTrue (list_any (supports site) e.scopes)
 
 -- what was answered is the judgement, with a change that holds what the event asks for

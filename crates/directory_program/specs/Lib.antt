@@ -1,5 +1,7 @@
-pub mod Lines
 pub mod Commands
-pub mod Saying
+pub mod Gives
+pub mod Lines
 pub mod Opening
+pub mod Running
+pub mod Saying
 pub mod Sites

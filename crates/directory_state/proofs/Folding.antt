@@ -19,7 +19,9 @@ use Rattle.directory_judge.specs.Meaning.{only, put_of, withdraws, deadline_of, 
 use Rattle.directory_judge.specs.Sites.{Place}
 use Rattle.directory_state.specs.Folding.{Fold, IsEditOf, StandsFor}
 use Rattle.directory_state.specs.State.{State, is_full_for, is_withdrawn, stored, edited, made}
-use Rattle.directory_state.proofs.States.{get-passing, is_full-parts}
+use Rattle.directory_judge.proofs.Maps.{get-passing}
+pub use Rattle.directory_judge.proofs.Maps.{kept-some, some-kept}
+use Rattle.directory_state.proofs.States.{is_full-parts}
 
 -- ---- an event that says nothing of a pair
 
@@ -70,13 +72,6 @@ Stands-unique h e f pair s t =
     (same_Some _ _ (sym s.deadline ∙ ap (λ q. last_that (deadline_of q) h) pair ∙ t.deadline))
 
 -- ---- maps of live entries
-
-pub kept-some : (p : Entry → Bool) (o : Option Entry) (e : Entry) → kept p o ≡ Some e → (o ≡ Some e) × (p e ≡ true)
-kept-some p None e h = absurd (none-some _ h)
-kept-some p (Some x) e h = let k = cond_some (p x) x e h in (ap Some k.1, ap p (sym k.1) ∙ k.0)
-
-pub some-kept : (p : Entry → Bool) (o : Option Entry) (e : Entry) → o ≡ Some e → p e ≡ true → kept p o ≡ Some e
-some-kept p o e is t = ap (kept p) is ∙ ap (λ b. cond b (Some e) None) t
 
 same_option : (a b : Option Entry) → ((e : Entry) → a ≡ Some e → b ≡ Some e) → ((e : Entry) → b ≡ Some e → a ≡ Some e) → a ≡ b
 same_option None None f g = refl

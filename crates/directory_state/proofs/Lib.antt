@@ -1,3 +1,4 @@
 pub mod Accepting
 pub mod Folding
+pub mod Judged
 pub mod States

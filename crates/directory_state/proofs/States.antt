@@ -11,22 +11,9 @@ use Rattle.registry_core.specs.declared.registry.RegistryFault.{RegistryFault}
 use Rattle.registry_core.specs.declared.registry.RegistryFault.TheVariants.{Full}
 use Rattle.registry_core.specs.Entries.{Pair, Entries, pair_of, kept}
 use Rattle.registry_core.proofs.Lists.{pair_total, pair_exact}
-use Rattle.directory_judge.specs.Making.{passing}
+pub use Rattle.directory_judge.proofs.Maps.{get-passing, passing-is}
 use Rattle.directory_judge.specs.Sites.{Place}
 use Rattle.directory_state.specs.State.{State, is_full_for, stored}
-
-kept-cond : (p : Entry → Bool) (o : Option Entry) → cond (is_some (kept p o)) o None ≡ kept p o
-kept-cond p None = refl
-kept-cond p (Some e) = elim (p e) as (λ b. cond (is_some (cond b (Some e) None)) (Some e) None ≡ cond b (Some e) None) [ true ↦ refl | false ↦ refl ]
-
--- what passes at a pair is what is there, where it passes
-pub get-passing : (p : Entry → Bool) (m : Entries) (q : Pair) → fin.get (passing p m) q ≡ kept p (fin.get m q)
-get-passing p m q =
-    fin.get-retain_keys m (λ r. is_some (kept p (fin.get m r))) q (λ x tie. ap (λ r. is_some (kept p (fin.get m r))) (sym (pair_exact q x tie)))
-    ∙ kept-cond p (fin.get m q)
-
-pub passing-is : (p : Entry → Bool) (a b : Entries) → ((q : Pair) → fin.get b q ≡ kept p (fin.get a q)) → b ≡ passing p a
-passing-is p a b each = fin.same_map pair_total pair_exact b (passing p a) (λ q. each q ∙ sym (get-passing p a q))
 
 none_from : (o : Option Entry) → is_none o ≡ true → o ≡ None
 none_from None h = refl

@@ -8,7 +8,11 @@ use Rattle.directory_judge.specs.History.{History, Event, Put, Set, Remove, With
 use Rattle.directory_judge.specs.Judging.{Grounds, Judgement, Accepts, Ignores, Denies, judgement}
 use Rattle.directory_judge.specs.Meaning.{AreLive, rules}
 use Rattle.directory_judge.specs.Sites.{Place}
+use Rattle.directory_judge.specs.Making.{content}
 use Rattle.directory_judge.specs.declared.because.Because.{Because}
+use Rattle.directory_judge.specs.declared.judged.Judged.{Judged}
+use Rattle.directory_judge.specs.declared.judged.Judged.TheVariants as judged
+use Rattle.directory_state.specs.Folding.{StandsFor}
 
 -- what a message is judged on at a history, where these are the live entries
 abbrev pub grounds : List Rule → Place → History → Entries → ℕ → ℕ → Grounds
@@ -44,6 +48,12 @@ IsGrounded opening site h c = elim c.act [
 abbrev pub IsLegal : List Rule → Place → History → Type 0
 IsLegal opening site [] = Unit {0}
 IsLegal opening site (c ∷ h) = (clock h ≤ c.moment) × IsGrounded opening site h c × IsLegal opening site h
+
+-- what was judged stands for the verdict: a change stands for the event that comes of the message
+abbrev pub IsJudgedAs : History → Judged → Judgement → Type 0
+IsJudgedAs h (judged.Accept change because) v = (c : Event) × (v ≡ Accepts c because) × StandsFor h (content change) c
+IsJudgedAs h judged.Nothing v = v ≡ Ignores
+IsJudgedAs h (judged.Deny code because) v = v ≡ Denies code because
 
 -- the history after a judgement
 abbrev pub next : History → Judgement → History

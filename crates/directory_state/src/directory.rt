@@ -4,12 +4,12 @@ ghost use Rattle.std.specs.FinMap as fin;
 ghost use Rattle.access_rules.specs.declared.rule.Rule.{Rule as AnyRule};
 ghost use Rattle.registry_core.specs.Entries.{outlives};
 ghost use Rattle.directory_judge.specs.History.{History, Event};
-ghost use Rattle.directory_judge.specs.Judging.{IsChange, IsJudged, judgement};
+ghost use Rattle.directory_judge.specs.Judging.{IsChange, Judgement};
 ghost use Rattle.directory_judge.specs.Making.{content};
 ghost use Rattle.directory_judge.specs.Sites.{Place};
 ghost use Rattle.directory_state.specs.Folding.{Fold, StandsFor};
 ghost use Rattle.directory_state.specs.State.{State, beginning, made};
-ghost use Rattle.directory_state.specs.Verdicts.{IsLegal};
+ghost use Rattle.directory_state.specs.Verdicts.{IsLegal, IsVerdict, IsJudgedAs};
 
 use crate::asking::{collect, listed};
 use crate::query::{QueryFault, ServiceQuery};
@@ -107,6 +107,8 @@ impl<R: Registry> Directory<R> {
         message: &Message,
     ) -> Result<Judged, NoMemory>
         requires { IsChange message.now }
+        ensures { (opening : List AnyRule) (h : History) → Fold opening self.now.site h self.now → IsLegal opening self.now.site h
+            → IfOk result (λ j. (v : Judgement) × IsVerdict opening self.now.site h moment asker message.now v × IsJudgedAs h j v) }
     {
         judge_on(
             alloc,

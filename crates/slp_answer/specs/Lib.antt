@@ -1,3 +1,4 @@
 pub mod Answering
 pub mod Auditing
 pub mod Cutting
+pub mod Refusing

@@ -62,9 +62,12 @@ fn step_name(decider: Decider) -> &'static str {
 
 fn put_decider(line: &mut Vec<u8>, rules: &Rules, decider: Decider) -> Result<(), NoMemory> {
     match decider {
-        Decider::Rule(place) if place < rules.len() => {
+        Decider::Rule(place) => {
             put(line, "rule:")?;
-            put(line, rules.name(place))
+            if place < rules.len() {
+                put(line, rules.name(place))?;
+            }
+            Ok(())
         }
         _ => put(line, step_name(decider)),
     }

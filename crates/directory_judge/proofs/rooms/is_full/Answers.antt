@@ -20,7 +20,7 @@ returns-then-has_dead g c = λ of.
     let m = g.R.Registry.contents c.args.registry.now in
     let listed = g.R.Registry.rest_at c.args.registry.now c.in-Some.scope.now None 0 in
     let less = len-passing-dead (is_at_place c.in-Some.scope.now None) (outlives c.args.now) m listed c.has_dead.ensures.listing (sym c.has_dead.ensures.value ∙ c.if-has_dead.true) in
-    sym (room_dead c.args.site.now m (g.R.Registry.limit c.args.registry.now) (outlives c.args.now) of less)
+    sym (room_dead c.args.site.now m (g.R.Registry.limit c.args.registry.now) (outlives c.args.now) of c.len.ensures.within less)
 
 pub loop-place-preserved : goal.loop-place-preserved
 loop-place-preserved g c = λ q e is dead.

@@ -1,0 +1,21 @@
+-- What a run promises of what it read and wrote.
+use Rattle.std.specs.Prelude.{◌⊎◌, ℕ, List, ◌++◌, Option, Result, MatchResult, ⊤}
+use Rattle.std.specs.Io.KnownBytes.{Appends, Consumes, IsAtEnd}
+use Rattle.directory_program.specs.Running.{Run, RunsUpTo, RunsPart, RunsWhole}
+use Rattle.directory_program.specs.declared.fault.RunFault.{RunFault}
+use Rattle.directory_program.specs.declared.fault.RunFault.TheVariants.{Read, Write, Line as AtLine, NoMemory}
+
+-- r and r' are what the reader has left before and after, w and w' what the writer holds
+abbrev pub FaultGives : Option (List ℕ) → Option (List ℕ) → Option (List ℕ) → Option (List ℕ) → RunFault → Type 0
+-- line n is the first at fault whatever follows, or all was read
+FaultGives r r' w w' (AtLine n) = (read out : List ℕ) × Consumes r r' read × Appends w w' out × (((more : List ℕ) → RunsUpTo (read ++ more) n out) ⊎ (IsAtEnd r' × RunsUpTo read n out))
+FaultGives r r' w w' Read = (read out : List ℕ) × Consumes r r' read × Appends w w' out × RunsWhole read out
+FaultGives r r' w w' NoMemory = (read out : List ℕ) × Consumes r r' read × Appends w w' out × RunsPart read out
+FaultGives r r' w w' Write = ⊤
+
+-- all was read, and it is a script of which this is an output
+abbrev pub Whole : Option (List ℕ) → Option (List ℕ) → Option (List ℕ) → Option (List ℕ) → Type 0
+Whole r r' w w' = (script out : List ℕ) × Consumes r r' script × IsAtEnd r' × Appends w w' out × Run script out
+
+abbrev pub Gives : Option (List ℕ) → Option (List ℕ) → Option (List ℕ) → Option (List ℕ) → Result (Unit {0}) RunFault → Type 0
+Gives r r' w w' result = MatchResult result (λ _. Whole r r' w w') (FaultGives r r' w w')

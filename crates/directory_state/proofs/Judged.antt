@@ -1,0 +1,94 @@
+-- The judgement over a state is the verdict at its history.
+use Rattle.std.proofs.Common.{◌≡◌, ℕ, ◌∷◌, max, true, Some, List, Result, Ok, Err, refl, sym, ap, subst, ◌∙◌, arith}
+use Rattle.std.specs.Prelude.{◌↔◌, IsTrue, IfOk}
+use Rattle.std.specs.List.{list_any}
+use Rattle.std.specs.Option.{option_or}
+use Rattle.std.specs.FinMap as fin
+use Rattle.access_rules.specs.declared.rule.Rule.{Rule}
+use Rattle.registry_core.specs.declared.entry.Entry.{Entry}
+use Rattle.registry_core.specs.Entries.{Pair, Entries, pair_of, pair_eq, outlives}
+use Rattle.registry_core.proofs.Lists.{pair_eq-same}
+use Rattle.slp_wire.specs.declared.message.Message.{Message}
+use Rattle.directory_judge.specs.declared.judged.Judged.{Judged}
+use Rattle.directory_judge.specs.declared.judged.Judged.TheVariants as judged
+use Rattle.directory_judge.specs.History.{Putting, Put, Event, History, clock, now}
+use Rattle.directory_judge.specs.Judging.{Grounds, Judgement, Accepts, Ignores, Denies, judgement, IsJudged, IsRegistryOf, putting, supports}
+use Rattle.directory_judge.specs.Making.{content, content_on, entry_of, passing}
+use Rattle.directory_judge.specs.Meaning.{AreLive, Stands, rules}
+use Rattle.directory_judge.specs.Sites.{Place}
+use Rattle.directory_state.specs.Folding.{Fold, StandsFor}
+use Rattle.directory_state.specs.State.{State}
+use Rattle.directory_state.specs.Verdicts.{grounds, IsVerdict, IsLegal, IsJudgedAs}
+use Rattle.directory_state.proofs.Accepting.{registered, Stands-supported}
+use Rattle.directory_state.proofs.Folding.{AreLive-swept}
+
+-- the entries of the state that outlive the moment of a call are those that are live at it
+AreLive-called : (h : History) (m : ℕ) (a : Entries) → AreLive h (now h m) a → AreLive h m a
+AreLive-called h m a live q e = (
+  (λ is. let l = (live q e).0 is in (l.0, record { stands = l.1.stands; lasts = omega (arith, l.1.lasts) })),
+  (λ l. (live q e).1 (l.0, record { stands = l.1.stands; lasts = omega (arith, l.1.lasts) })),
+)
+
+pub AreLive-state : (opening : List Rule) (site : Place) (h : History) (m : ℕ) (s : State) → Fold opening site h s → AreLive h m (passing (outlives (max m s.clock)) s.entries)
+AreLive-state opening site h m s fold =
+    let over : AreLive h (now h m) (passing (outlives (now h m)) s.entries) = AreLive-swept h (now h m) s.entries (omega arith) fold.entries in
+    subst (λ (n : ℕ). AreLive h m (passing (outlives n) s.entries)) (sym (ap (max m) fold.clocks)) (AreLive-called h m _ over)
+
+-- what a registration founds stands after it
+Stands-put : (moment : ℕ) (p : Putting) (h : History) → Stands (record { moment = moment; act = Put p } ∷ h) (entry_of moment p)
+Stands-put moment p h =
+    let own : pair_eq (p.url, p.language) (p.url, p.language) ≡ true = pair_eq-same (p.url, p.language) in
+    record {
+      by = p;
+      founded = rw own refl;
+      kind = refl;
+      scopes = refl;
+      deadline = rw own refl;
+    }
+
+same_grounds : (a b : List Rule) (site : Place) (live : Entries) (m n asker : ℕ) → a ≡ b → m ≡ n
+    → ◌≡◌ {A = Grounds} (record { rules = a; site = site; live = live; now = m; asker = asker }) (record { rules = b; site = site; live = live; now = n; asker = asker })
+same_grounds a b site live m n asker e f = λ i. record { rules = e i; site = site; live = live; now = f i; asker = asker }
+
+-- a change that holds what an accepted event asks for stands for it
+stands_for : (opening : List Rule) (site : Place) (h : History) (live : Entries) (m asker : ℕ) (sent : Message) (j : Judged) → IsJudged live j (judgement (grounds opening site h live m asker) sent) → IsJudgedAs h j (judgement (grounds opening site h live m asker) sent)
+stands_for opening site h live m asker sent (judged.Accept change because) is =
+    let by = registered (grounds opening site h live m asker) sent is.0 because is.1 in
+    let p = putting (grounds opening site h live m asker) by.header by.registration by.named in
+    let event : is.0 ≡ record { moment = now h m; act = Put p } = by.accepted.event in
+    (is.0, is.1, subst (λ x. StandsFor h x is.0) (sym is.2)
+    (subst (λ (c : Event). StandsFor h (content_on live c) c) (sym event) (refl, p, refl, refl, Stands-put (now h m) p h)))
+stands_for opening site h live m asker sent judged.Nothing is = is
+stands_for opening site h live m asker sent (judged.Deny code because) is = is
+
+module _ (opening : List Rule) (h : History) (s : State) (fold : Fold opening s.site h s) (legal : IsLegal opening s.site h) where
+  -- the registry of the state of a legal history is one of its site
+  pub registry_of : (limit : ℕ) → limit ≡ s.site.capacity → IsRegistryOf s.site s.entries limit
+  registry_of limit is = record {
+    capacity = is;
+    supported = λ q e there. Stands-supported opening s.site h e legal ((fold.entries q e).0 there).1.stands;
+  }
+
+  pub judged_as : (m asker : ℕ) (sent : Message) (j : Judged)
+      → IsJudged (passing (outlives (max m s.clock)) s.entries) j (judgement (record { rules = s.rules; site = s.site; live = passing (outlives (max m s.clock)) s.entries; now = max m s.clock; asker = asker }) sent)
+      → (v : Judgement) × IsVerdict opening s.site h m asker sent v × IsJudgedAs h j v
+  judged_as m asker sent j is =
+      let live = passing (outlives (max m s.clock)) s.entries in
+      let same = same_grounds s.rules (rules opening h) s.site live (max m s.clock) (now h m) asker fold.ruled (ap (max m) fold.clocks) in
+      let there = subst (λ (g : Grounds). IsJudged live j (judgement g sent)) same is in
+      (judgement (grounds opening s.site h live m asker) sent,
+       record { live = live; are_live = AreLive-state opening s.site h m s fold; is = refl },
+       stands_for opening s.site h live m asker sent j there)
+
+  -- the same of what was judged with the clock and the rules of the state
+  pub judged_from : (m asker : ℕ) (sent : Message) (j : Judged) (n : ℕ) (rs : List Rule) → n ≡ max m s.clock → rs ≡ s.rules
+      → IsJudged (passing (outlives n) s.entries) j (judgement (record { rules = rs; site = s.site; live = passing (outlives n) s.entries; now = n; asker = asker }) sent)
+      → (v : Judgement) × IsVerdict opening s.site h m asker sent v × IsJudgedAs h j v
+  judged_from m asker sent j n rs clock ruled is =
+      judged_as m asker sent j
+      (subst (λ (r : List Rule). IsJudged (passing (outlives (max m s.clock)) s.entries) j (judgement (record { rules = r; site = s.site; live = passing (outlives (max m s.clock)) s.entries; now = max m s.clock; asker = asker }) sent)) ruled
+      (subst (λ (k : ℕ). IsJudged (passing (outlives k) s.entries) j (judgement (record { rules = rs; site = s.site; live = passing (outlives k) s.entries; now = k; asker = asker }) sent)) clock is))
+
+pub IfOk-more : {A E : Type 0} (r : Result A E) (P Q : A → Type 0) → ((x : A) → P x → Q x) → IfOk r P → IfOk r Q
+IfOk-more (Ok x) P Q f h = f x h
+IfOk-more (Err e) P Q f h = h
