@@ -6,15 +6,20 @@ use std::io;
 use std::io::{Error, ErrorKind, Read};
 use std::test::Fail;
 
-const REQUEST: &str = "0201000030000000000000010002656e0000000f736572766963653a7072696e746572000744454641554c5400000000";
+const REQUEST: &str =
+    "0201000030000000000000010002656e0000000f736572766963653a7072696e746572000744454641554c5400000000";
 
-const REGISTRATION: &str = "020300004e400000000000020002656e00012c0017736572766963653a7072696e7465723a6c70723a2f2f61000013736572766963653a7072696e7465723a6c7072000744454641554c54000000";
+const REGISTRATION: &str =
+    "020300004e400000000000020002656e00012c0017736572766963653a7072696e7465723a6c70723a2f2f61000013736572766963653a7072696e7465723a6c7072000744454641554c54000000";
 
-const NOTHING_FOUND: &str = "> 0202000014000000000000010002656e00000000\n# allow code=0 by=none action=see asker=10.0.0.1 type=service:printer scope=-\n";
+const NOTHING_FOUND: &str =
+    "> 0202000014000000000000010002656e00000000\n# allow code=0 by=none action=see asker=10.0.0.1 type=service:printer scope=-\n";
 
-const ACCEPTED: &str = "> 0205000012000000000000020002656e0000\n# allow code=0 by=rule:all-register action=register asker=10.0.0.1 type=service:printer:lpr scope=default\n";
+const ACCEPTED: &str =
+    "> 0205000012000000000000020002656e0000\n# allow code=0 by=rule:all-register action=register asker=10.0.0.1 type=service:printer:lpr scope=default\n";
 
-const FOUND: &str = "> 0202000031000000000000010002656e0000000100012c0017736572766963653a7072696e7465723a6c70723a2f2f6100\n# allow code=0 by=none action=see asker=10.0.0.1 type=service:printer scope=-\n";
+const FOUND: &str =
+    "> 0202000031000000000000010002656e0000000100012c0017736572766963653a7072696e7465723a6c70723a2f2f6100\n# allow code=0 by=none action=see asker=10.0.0.1 type=service:printer scope=-\n";
 
 const PRINTER: &str = "service:printer:lpr";
 
@@ -72,7 +77,10 @@ fn reads_may_be_cut_anywhere(rt: HostRuntime) -> Result<(), Fail> {
             is_interrupted: false,
             fails,
         };
-        assert_eq!(rt; Replay::new(alloc).run(alloc, &mut reader, &mut out), outcome);
+        assert_eq!(rt;
+            Replay::new(alloc).run(alloc, &mut reader, &mut out),
+            outcome
+        );
         assert_eq!(rt; out.as_slice(), want.as_bytes());
     }
     Ok(())
@@ -85,7 +93,9 @@ fn a_registration_has_a_lifetime_and_a_language(rt: HostRuntime) -> Result<(), F
     let script = "from 10.0.0.9\n\
         udp 020300004e400000000000020002656e0000000017736572766963653a7072696e7465723a6c70723a2f2f61000013736572766963653a7072696e7465723a6c7072000744454641554c54000000\n\
         udp 020300004c40000000000002000000012c0017736572766963653a7072696e7465723a6c70723a2f2f61000013736572766963653a7072696e7465723a6c7072000744454641554c54000000\n";
-    let want = format!(in alloc; "> 0205000012000000000000020002656e0003\n{line}\n> 02050000100000000000000200000003\n{line}\n")?;
+    let want = format!(in alloc;
+        "> 0205000012000000000000020002656e0003\n{line}\n> 02050000100000000000000200000003\n{line}\n"
+    )?;
     assert_eq!(rt; output(alloc, script)?.as_slice(), want.as_bytes());
     Ok(())
 }
@@ -115,7 +125,11 @@ fn what_is_not_answered_yet_is_silent(rt: HostRuntime) -> Result<(), Fail> {
     ] {
         let script = format!(in alloc; "udp {message}\nudp {REQUEST}\n")?;
         let want = format!(in alloc; "> -\n{NOTHING_FOUND}")?;
-        assert_eq!(rt; output(alloc, script.as_str())?.as_slice(), want.as_bytes(), "{message}");
+        assert_eq!(rt;
+            output(alloc, script.as_str())?.as_slice(),
+            want.as_bytes(),
+            "{message}"
+        );
     }
     Ok(())
 }
@@ -171,7 +185,10 @@ fn a_reply_is_cut_to_whole_items(rt: HostRuntime) -> Result<(), Fail> {
         let second = registering(alloc, PRINTER, long_url(alloc, "b", letters)?.as_str(), 300)?;
         let script = format!(in alloc; "{second}{first}udp {REQUEST}\n")?;
         let told = output(alloc, script.as_str())?;
-        let last = str::from_utf8(told.as_slice())?.lines().nth(4).ok_or("a reply")?;
+        let last = str::from_utf8(told.as_slice())?
+            .lines()
+            .nth(4)
+            .ok_or("a reply")?;
         assert_eq!(rt; last.len(), digits + 2);
         assert!(rt; last.starts_with(front));
     }
@@ -184,12 +201,19 @@ fn the_clock_does_not_go_back(rt: HostRuntime) -> Result<(), Fail> {
     let first = registering(alloc, PRINTER, "service:printer:lpr://a", 90)?;
     let other = registering(alloc, "service:clock:x", "service:clock:x://b", 300)?;
     let again = registering(alloc, PRINTER, "service:printer:lpr://a", 10)?;
-    let script = format!(in alloc; "{first}{other}at 100\n{other}at 80\nudp {REQUEST}\n{again}udp {REQUEST}\nat 109\nudp {REQUEST}\nat 110\nudp {REQUEST}\n")?;
+    let script = format!(in alloc;
+        "{first}{other}at 100\n{other}at 80\nudp {REQUEST}\n{again}udp {REQUEST}\nat 109\nudp {REQUEST}\nat 110\nudp {REQUEST}\n"
+    )?;
     let told = output(alloc, script.as_str())?;
     let text = str::from_utf8(told.as_slice())?;
     let nothing = "> 0202000014000000000000010002656e00000000";
     let begin = "> 0202000031000000000000010002656e0000000100";
-    for (line, front, lifetime) in [(6, nothing, ""), (10, begin, "000a0017"), (12, begin, "00010017"), (14, nothing, "")] {
+    for (line, front, lifetime) in [
+        (6, nothing, ""),
+        (10, begin, "000a0017"),
+        (12, begin, "00010017"),
+        (14, nothing, ""),
+    ] {
         let want = format!(in alloc; "{front}{lifetime}")?;
         let given = text.lines().nth(line).ok_or("a line")?;
         assert!(rt; given.starts_with(want.as_str()), "line {line}: {given}");
@@ -210,7 +234,10 @@ fn the_program_answers_its_status(rt: HostRuntime) -> Result<(), Fail> {
     ] {
         let mut out = Vec::new(alloc);
         let mut reader = script.as_bytes();
-        assert_eq!(rt; replay_run(alloc, given.as_slice(), &mut reader, &mut out), status);
+        assert_eq!(rt;
+            replay_run(alloc, given.as_slice(), &mut reader, &mut out),
+            status
+        );
         assert_eq!(rt; out.as_slice(), want.as_bytes());
     }
     Ok(())

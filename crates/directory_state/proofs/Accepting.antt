@@ -156,10 +156,14 @@ possible opening site h moment (Put p) grounded =
     let g = grounds opening site h grounded.verdict.live grounded.moment grounded.asker in
     let by = registered g grounded.sent (record { moment = moment; act = Put p }) grounded.because (sym grounded.verdict.is) in
     let same : p ≡ putting g by.header by.registration by.named = put_put p _ (ap (λ (x : Event). x.act) by.accepted.event) in
-    let at : moment ≡ now h grounded.moment = ap (λ (x : Event). x.moment) by.accepted.event in
-    (subst (λ (x : Putting). 0 < x.lifetime) (sym same) (lasting by.accepted),
-     (grounded.verdict.live, AreLive-acting h grounded.moment moment grounded.verdict.live at grounded.verdict.are_live,
-      subst (λ (x : Putting). IsTrue (is_some (fin.get grounded.verdict.live (x.url, x.language))) ⊎ (fin.len grounded.verdict.live < site.capacity)) (sym same) (has_room by.accepted)))
+    let at : moment ≡ now h grounded.moment = ap (λ (x : Event). x.moment) by.accepted.event in (
+      subst (λ (x : Putting). 0 < x.lifetime) (sym same) (lasting by.accepted),
+      (
+        grounded.verdict.live,
+        AreLive-acting h grounded.moment moment grounded.verdict.live at grounded.verdict.are_live,
+        subst (λ (x : Putting). IsTrue (is_some (fin.get grounded.verdict.live (x.url, x.language))) ⊎ (fin.len grounded.verdict.live < site.capacity)) (sym same) (has_room by.accepted),
+      ),
+    )
 possible opening site h moment (Set s) grounded =
     let by = registered (grounds opening site h grounded.verdict.live grounded.moment grounded.asker) grounded.sent (record { moment = moment; act = Set s }) grounded.because (sym grounded.verdict.is) in
     absurd (no_set s _ (ap (λ (x : Event). x.act) by.accepted.event))

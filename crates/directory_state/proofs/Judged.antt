@@ -55,9 +55,12 @@ stands_for : (opening : List Rule) (site : Place) (h : History) (live : Entries)
 stands_for opening site h live m asker sent (judged.Accept change because) is =
     let by = registered (grounds opening site h live m asker) sent is.0 because is.1 in
     let p = putting (grounds opening site h live m asker) by.header by.registration by.named in
-    let event : is.0 ≡ record { moment = now h m; act = Put p } = by.accepted.event in
-    (is.0, is.1, subst (λ x. StandsFor h x is.0) (sym is.2)
-    (subst (λ (c : Event). StandsFor h (content_on live c) c) (sym event) (refl, p, refl, refl, Stands-put (now h m) p h)))
+    let event : is.0 ≡ record { moment = now h m; act = Put p } = by.accepted.event in (
+      is.0,
+      is.1,
+      subst (λ x. StandsFor h x is.0) (sym is.2)
+          (subst (λ (c : Event). StandsFor h (content_on live c) c) (sym event) (refl, p, refl, refl, Stands-put (now h m) p h)),
+    )
 stands_for opening site h live m asker sent judged.Nothing is = is
 stands_for opening site h live m asker sent (judged.Deny code because) is = is
 
@@ -75,10 +78,11 @@ module _ (opening : List Rule) (h : History) (s : State) (fold : Fold opening s.
   judged_as m asker sent j is =
       let live = passing (outlives (max m s.clock)) s.entries in
       let same = same_grounds s.rules (rules opening h) s.site live (max m s.clock) (now h m) asker fold.ruled (ap (max m) fold.clocks) in
-      let there = subst (λ (g : Grounds). IsJudged live j (judgement g sent)) same is in
-      (judgement (grounds opening s.site h live m asker) sent,
-       record { live = live; are_live = AreLive-state opening s.site h m s fold; is = refl },
-       stands_for opening s.site h live m asker sent j there)
+      let there = subst (λ (g : Grounds). IsJudged live j (judgement g sent)) same is in (
+        judgement (grounds opening s.site h live m asker) sent,
+        record { live = live; are_live = AreLive-state opening s.site h m s fold; is = refl },
+        stands_for opening s.site h live m asker sent j there,
+      )
 
   -- the same of what was judged with the clock and the rules of the state
   pub judged_from : (m asker : ℕ) (sent : Message) (j : Judged) (n : ℕ) (rs : List Rule) → n ≡ max m s.clock → rs ≡ s.rules

@@ -30,11 +30,7 @@ pub fn collect<'a, R: Registry>(
 ) -> Result<(), NoMemory> {
     let mut from = 0;
     while let Some((entry, next)) = registry.by_place(scope, Some(kind), from) {
-        if entry.deadline > now
-            && rules
-                .decide(asker, Action::See, &entry.kind, scope)
-                .allow
-        {
+        if entry.deadline > now && rules.decide(asker, Action::See, &entry.kind, scope).allow {
             note(found, &entry.url, entry.deadline)?;
         }
         from = next;

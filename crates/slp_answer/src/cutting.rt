@@ -8,9 +8,11 @@ const EMPTY_ENTRY: usize = 6;
 
 /// How many whole items, from the front, a reply to a request with a language tag of this length
 /// takes within a limit, all in bytes (RFC 2608, section 8.2).
-pub fn fitting(items: &[UrlEntry], tag: usize, limit: usize) -> usize
-{
-    let Some(mut left) = limit.checked_sub(EMPTY_REPLY).and_then(|left| left.checked_sub(tag)) else {
+pub fn fitting(items: &[UrlEntry], tag: usize, limit: usize) -> usize {
+    let Some(mut left) = limit
+        .checked_sub(EMPTY_REPLY)
+        .and_then(|left| left.checked_sub(tag))
+    else {
         return 0;
     };
     for (count, item) in items.iter().enumerate() {

@@ -42,7 +42,5 @@ fn is_white_space(c: char) -> bool
 pub fn is_blank(text: &str) -> bool
     ensures { result ≡ is_all_white text.now }
 {
-    text.as_bytes()
-        .iter()
-        .all(|b| *b == b' ' || *b == b'\t' || *b == b'\n' || *b == b'\r')
+    text.as_bytes().iter().all(|b| *b == b' ' || *b == b'\t' || *b == b'\n' || *b == b'\r')
 }

@@ -35,14 +35,18 @@ loop-c-preserved c =
     let P : List ℕ → Type 0 = λ t. Reaches true false cut.0 t (key_of c.args.text.now) in
     record {
       inner = λ e. refl;
-      text = (cut.0, cut.2, elim c.if-gap.branch [
-        | then-gap+in_ok-push w ↦
-            let is = c.in_ok-push-2.ensures.bytes ∙ ap (λ t. t ++ encode_utf8 c.in-Some.c) (ap string_bytes w.folded-is ∙ w.in_ok-push.ensures.bytes) in
-            subst P (sym is) (Reaches-gap c.loop-c.begun c.in-Some.c _ _ _ (c.loop-c.invariant.inner w.if-gap.true) plain (rw w.if-gap.true at text))
-        | else-gap w ↦
-            let is = c.in_ok-push-2.ensures.bytes ∙ ap (λ t. t ++ encode_utf8 c.in-Some.c) (ap string_bytes w.folded-is) in
-            subst P (sym is) (Reaches-char c.loop-c.begun c.in-Some.c _ _ _ plain (rw w.if-gap.false at text))
-      ]);
+      text = (
+        cut.0,
+        cut.2,
+        elim c.if-gap.branch [
+          | then-gap+in_ok-push w ↦
+              let is = c.in_ok-push-2.ensures.bytes ∙ ap (λ t. t ++ encode_utf8 c.in-Some.c) (ap string_bytes w.folded-is ∙ w.in_ok-push.ensures.bytes) in
+              subst P (sym is) (Reaches-gap c.loop-c.begun c.in-Some.c _ _ _ (c.loop-c.invariant.inner w.if-gap.true) plain (rw w.if-gap.true at text))
+          | else-gap w ↦
+              let is = c.in_ok-push-2.ensures.bytes ∙ ap (λ t. t ++ encode_utf8 c.in-Some.c) (ap string_bytes w.folded-is) in
+              subst P (sym is) (Reaches-char c.loop-c.begun c.in-Some.c _ _ _ plain (rw w.if-gap.false at text))
+        ],
+      );
     }
 
 pub returns-clause-value : goal.returns-clause-value

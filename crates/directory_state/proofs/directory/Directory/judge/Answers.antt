@@ -15,7 +15,7 @@ returns g c =
     let inside = c.self.inside in
     let s : State = record { entries = g.R.Registry.contents inside.registry; rules = arc_value inside.rules; site = inside.site; clock = inside.clock } in
     let G : State → Type 0 = λ x. (opening : List Rule) (h : History) → Fold opening x.site h x → IsLegal opening x.site h
-        → IfOk c.judge_on.result (λ j. (v : Judgement) × IsVerdict opening x.site h c.args.moment c.args.asker c.args.message.now v × IsJudgedAs h j v) in
+    → IfOk c.judge_on.result (λ j. (v : Judgement) × IsVerdict opening x.site h c.args.moment c.args.asker c.args.message.now v × IsJudgedAs h j v) in
     subst G c.self.view_is (λ opening h fold legal.
     IfOk-more c.judge_on.result _ _
     (λ j. judged_from opening h s fold legal c.args.moment c.args.asker c.args.message.now j c.now.result c.deref.result.now (c.now.ensures ∙ ap (λ (x : State). max c.args.moment x.clock) (sym c.self.view_is)) c.deref.ensures)
