@@ -1,4 +1,5 @@
 pub mod Accepting
 pub mod Folding
+pub mod Histories
 pub mod Judged
 pub mod States

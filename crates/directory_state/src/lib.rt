@@ -4,6 +4,7 @@
 
 mod asking;
 mod directory;
+pub mod laws;
 mod query;
 #[cfg(test)]
 mod tests;

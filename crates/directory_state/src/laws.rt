@@ -1,0 +1,40 @@
+//! What holds of every history. The functions do nothing: their contracts are the laws.
+ghost use Rattle.std.specs.Prelude.{◌≡◌, ◌↔◌, ◌∷◌, ◌<◌, ◌≤◌, ℕ, List, Some};
+ghost use Rattle.std.specs.FinMap as fin;
+ghost use Rattle.access_rules.specs.declared.rule.Rule.{Rule};
+ghost use Rattle.registry_core.specs.Entries.{Pair, pair_of};
+ghost use Rattle.registry_core.specs.declared.entry.Entry.{Entry};
+ghost use Rattle.slp_wire.specs.declared.message.Message.{Message};
+ghost use Rattle.directory_judge.specs.History.{History, Sweep, clock};
+ghost use Rattle.directory_judge.specs.Judging.{Judgement};
+ghost use Rattle.directory_judge.specs.Making.{Content};
+ghost use Rattle.directory_judge.specs.Meaning.{Live, Stands};
+ghost use Rattle.directory_judge.specs.Sites.{Place};
+ghost use Rattle.directory_state.specs.Folding.{Fold, StandFor};
+ghost use Rattle.directory_state.specs.State.{State, after};
+ghost use Rattle.directory_state.specs.Verdicts.{IsLegal, IsVerdict};
+
+/// Changes that stand for the events of a legal history, made one by one, leave its state.
+pub fn changes_leave_their_history()
+    ensures { (opening : List Rule) (site : Place) (h : History) (changes : List Content) → IsLegal opening site h → StandFor h changes → Fold opening site h (after opening site changes) }
+{}
+
+/// What is at a pair in the state of a history is of that pair, and is not dead.
+pub fn no_pair_has_a_dead_or_another_entry()
+    ensures { (opening : List Rule) (site : Place) (h : History) (s : State) (q : Pair) (e : Entry) → Fold opening site h s → fin.get s.entries q ≡ Some e → (pair_of e ≡ q) × (clock h < e.deadline) }
+{}
+
+/// One entry stands of a URL and a language.
+pub fn one_entry_stands_of_a_pair()
+    ensures { (h : History) (e f : Entry) → pair_of e ≡ pair_of f → Stands h e → Stands h f → e ≡ f }
+{}
+
+/// A sweep is not seen at its moment or later.
+pub fn sweeps_are_not_seen()
+    ensures { (h : History) (s m : ℕ) (e : Entry) → s ≤ m → Live (record { moment = s; act = Sweep } ∷ h) m e ↔ Live h m e }
+{}
+
+/// A message has one verdict at a history and a moment.
+pub fn a_message_has_one_verdict()
+    ensures { (opening : List Rule) (site : Place) (h : History) (m asker : ℕ) (sent : Message) (v w : Judgement) → IsVerdict opening site h m asker sent v → IsVerdict opening site h m asker sent w → v ≡ w }
+{}
