@@ -1,3 +1,8 @@
+ghost use Rattle.std.specs.Prelude.{◌≡◌, ◌+◌, ◌≤◌, ℕ, length};
+ghost use Rattle.slp_wire.specs.Spelling.{plain};
+ghost use Rattle.slp_wire.specs.declared.header.Header.{Header};
+ghost use Rattle.slp_answer.specs.Cutting.{reply_of};
+
 use slp_wire::UrlEntry;
 
 // The bytes of a reply with no item, but for the language tag.
@@ -8,13 +13,16 @@ const EMPTY_ENTRY: usize = 6;
 
 /// How many whole items, from the front, a reply to a request with a language tag of this length
 /// takes within a limit, all in bytes (RFC 2608, section 8.2).
-pub fn fitting(items: &[UrlEntry], tag: usize, limit: usize) -> usize {
-    let Some(mut left) = limit
-        .checked_sub(EMPTY_REPLY)
-        .and_then(|left| left.checked_sub(tag))
-    else {
+pub fn fitting(items: &[UrlEntry], tag: usize, limit: usize) -> usize
+    ensures within { result ≤ length items.now }
+    ensures fits { (h : Header) → length h.language ≡ tag → 18 + tag ≤ limit → length (plain (reply_of h items.now result)) ≤ limit }
+    ensures longest { (h : Header) → length h.language ≡ tag → (other : ℕ) → other ≤ length items.now
+        → length (plain (reply_of h items.now other)) ≤ limit → other ≤ result }
+{
+    if limit < EMPTY_REPLY || limit - EMPTY_REPLY < tag {
         return 0;
-    };
+    }
+    let mut left = limit - EMPTY_REPLY - tag;
     for (count, item) in items.iter().enumerate() {
         let url = item.url.as_str().len();
         if left < EMPTY_ENTRY || left - EMPTY_ENTRY < url {
