@@ -1,6 +1,9 @@
 pub mod Accepting
+pub mod Asked
 pub mod Folding
+pub mod Found
 pub mod Histories
 pub mod Judged
+pub mod Lasting
 pub mod Rows
 pub mod States

@@ -1,4 +1,5 @@
 pub mod Asking
+pub mod Finding
 pub mod Folding
 pub mod State
 pub mod Verdicts

@@ -1,17 +1,19 @@
-ghost use Rattle.std.specs.Prelude.{◌≡◌, ◌∷◌, [], max, List, IfOk, IfErr, IsErrOf, ◌↔◌, ◌⊎◌};
+ghost use Rattle.std.specs.Prelude.{◌≡◌, ◌∷◌, [], max, List, IfOk, IfErr, IsErrOf, ◌↔◌, ◌⊎◌, false};
+ghost use Rattle.std.specs.List.{list_any};
 ghost use Rattle.std.specs.Arc.{arc_value};
 ghost use Rattle.std.specs.FinMap as fin;
 ghost use Rattle.access_rules.specs.declared.rule.Rule.{Rule as AnyRule};
 ghost use Rattle.registry_core.specs.Entries.{outlives};
 ghost use Rattle.directory_judge.specs.History.{History, Event};
-ghost use Rattle.directory_judge.specs.Judging.{IsChange, Judgement};
+ghost use Rattle.directory_judge.specs.Judging.{IsChange, Judgement, supports};
 ghost use Rattle.directory_judge.specs.Making.{content};
 ghost use Rattle.directory_judge.specs.Sites.{Place};
+ghost use Rattle.directory_state.specs.Asking.{AreServices};
 ghost use Rattle.directory_state.specs.Folding.{Fold, StandsFor};
 ghost use Rattle.directory_state.specs.State.{State, beginning, made};
 ghost use Rattle.directory_state.specs.Verdicts.{IsLegal, IsVerdict, IsJudgedAs};
 
-use crate::asking::{collect, listed};
+use crate::asking::{gather, listed};
 use crate::query::{QueryFault, ServiceQuery};
 use access_rules::{Addr, Rules};
 use directory_judge::{Change, Judged, Placed, Site, judge_on};
@@ -149,26 +151,23 @@ impl<R: Registry> Directory<R> {
         moment: u32,
         asker: Addr,
         query: &ServiceQuery,
-    ) -> Result<Vec<UrlEntry>, QueryFault> {
+    ) -> Result<Vec<UrlEntry>, QueryFault>
+        ensures scope { IsErrOf result QueryFault.Scope ↔ (list_any (supports self.now.site) query.now.scopes ≡ false) }
+        ensures faults { IfErr result (λ e. (e ≡ QueryFault.Scope) ⊎ (e ≡ QueryFault.NoMemory)) }
+        ensures items { (opening : List AnyRule) (h : History) → Fold opening self.now.site h self.now → IsLegal opening self.now.site h
+            → IfOk result (λ items. AreServices opening self.now.site h moment asker query.now items.items) }
+    {
         let now = u64::from(self.now(moment));
         let mut found = BTreeMap::new(alloc);
-        let mut is_supported = false;
-        for place in 0..query.scopes.len() {
-            if let Some(scope) = query.scopes.at(place)
-                && self.site.scopes().has(scope)
-            {
-                is_supported = true;
-                collect(
-                    &mut found,
-                    &self.registry,
-                    &self.rules,
-                    now,
-                    asker,
-                    &query.kind,
-                    scope,
-                )?;
-            }
-        }
+        let is_supported = gather(
+            &mut found,
+            &self.registry,
+            &self.rules,
+            &self.site,
+            now,
+            asker,
+            query,
+        )?;
         if !is_supported {
             return Err(QueryFault::Scope);
         }

@@ -1,5 +1,5 @@
 -- What is answered to bytes that come in, and what they change.
-use Rattle.std.specs.Prelude.{◌≡◌, ◌≤◌, ◌⊎◌, ℕ, Bool, false, not, ◌==◌, ◌&&◌, ◌||◌, List, [], length, codes, Option, Some, None, Result, Ok, Err, if◌then◌else◌, MatchOption, IsTrue}
+use Rattle.std.specs.Prelude.{◌≡◌, ◌≤◌, ◌⊎◌, ℕ, Bool, false, not, ◌==◌, ◌&&◌, ◌||◌, List, [], ◌∷◌, length, codes, Option, Some, None, Result, Ok, Err, if◌then◌else◌, MatchOption, IsTrue}
 use Rattle.std.specs.Option.{option_map_or}
 use Rattle.std.specs.List.{list_any}
 use Rattle.slp_text.specs.Key.{key_of}
@@ -19,7 +19,7 @@ use Rattle.service_url.specs.declared.fault.UrlFault.{UrlFault}
 use Rattle.access_rules.specs.declared.rule.Action.{Action}
 use Rattle.access_rules.specs.declared.rule.Action.TheVariants.{Register, See}
 use Rattle.access_rules.specs.declared.rule.Rule.{Rule as AnyRule}
-use Rattle.directory_judge.specs.History.{History}
+use Rattle.directory_judge.specs.History.{History, Event}
 use Rattle.directory_judge.specs.Judging.{Judgement, Accepts, Ignores, Denies, agent_type, by_step, supports}
 use Rattle.directory_judge.specs.Meaning.{rules}
 use Rattle.directory_judge.specs.Sites.{Place}
@@ -28,6 +28,11 @@ use Rattle.directory_judge.specs.declared.because.Decider.TheVariants as decider
 use Rattle.directory_state.specs.Asking.{AreServices}
 use Rattle.directory_state.specs.Verdicts.{IsVerdict, next}
 use Rattle.directory_state.specs.declared.query.ServiceQuery.{ServiceQuery}
+use Rattle.directory_judge.specs.Making.{content}
+use Rattle.directory_judge.specs.declared.change.Change.{Change}
+use Rattle.directory_state.specs.Folding.{StandsFor}
+use Rattle.slp_answer.specs.declared.answer.Sent.{Sent}
+use Rattle.slp_answer.specs.declared.answer.Sent.TheVariants as sent
 use Rattle.slp_answer.specs.Auditing.{audit_text}
 use Rattle.slp_answer.specs.Cutting.{IsCut}
 
@@ -99,3 +104,20 @@ IsTold opening site h m asker limit (Err e) t after = (t ≡ silence) × (after 
 -- what bytes may be told that come from an asker at a moment, and the history after them
 abbrev pub IsAnswer : List AnyRule → Place → History → ℕ → ℕ → ℕ → List ℕ → Told → History → Type 0
 IsAnswer opening site h m asker limit bytes t after = IsTold opening site h m asker limit (reading bytes) t after
+
+-- ---- what an acknowledgement hands out
+
+-- the code of what was sent, if anything was
+abbrev pub code_of : Sent → Option ℕ
+code_of (sent.Bytes code) = Some code
+code_of sent.Silence = None
+
+-- what is told, and the change where the history grows by its event
+pub record Acknowledges (opening : List AnyRule) (site : Place) (h : History) (m asker : ℕ) (bytes : List ℕ) (what : Sent) (change : Option Change) (reply audit : List ℕ) : Type 0 where
+  pub told : Told
+  pub next_history : History
+  pub is : (limit : ℕ) → IsAnswer opening site h m asker limit bytes told next_history
+  pub replied : reply ≡ told.reply
+  pub audited : audit ≡ told.audit
+  pub sent : code_of what ≡ told.code
+  pub changed : MatchOption change (next_history ≡ h) (λ c. (event : Event) × (next_history ≡ event ∷ h) × StandsFor h (content c) event)

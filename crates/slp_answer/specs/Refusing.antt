@@ -1,6 +1,6 @@
 -- What comes of a message that found no memory.
-use Rattle.std.specs.Prelude.{ℕ, Bool, ◌==◌, ◌&&◌, ◌||◌, List, [], Option, Some, None, if◌then◌else◌}
-use Rattle.std.specs.Option.{option_map_or, option_and_then}
+use Rattle.std.specs.Prelude.{ℕ, Bool, ◌==◌, ◌&&◌, ◌||◌, List, [], None, if◌then◌else◌}
+use Rattle.std.specs.Option.{option_map_or}
 use Rattle.slp_wire.specs.Headers.{Heading, has_flag, heading_of, refusal_bytes, reply_function_of}
 use Rattle.access_rules.specs.declared.rule.Action.{Action}
 use Rattle.access_rules.specs.declared.rule.Action.TheVariants.{Register, Withdraw, See}

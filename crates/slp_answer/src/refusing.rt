@@ -1,6 +1,12 @@
+ghost use Rattle.std.specs.Prelude.{◌≡◌, ◌≤◌, ◌+◌, ◌++◌, ◌∷◌, [], length, take, codes, if◌then◌else◌};
+ghost use Rattle.std.specs.Fmt.{decimal};
+ghost use Rattle.slp_wire.specs.Headers.{heading, refusal_bytes};
+ghost use Rattle.slp_answer.specs.Auditing.{action_text, addr_text};
+ghost use Rattle.slp_answer.specs.Refusing.{action_of, is_unsent, refused_line, refused_reply};
+
 use crate::audit::action_word;
 use access_rules::{Action, Addr};
-use slp_wire::{error_reply, read_header, reply_function};
+use slp_wire::{HeaderView, error_reply, read_header, reply_function};
 
 /// The code of an error of the agent's own (RFC 2608, section 7).
 const INTERNAL_ERROR: u16 = 10;
@@ -8,17 +14,32 @@ const INTERNAL_ERROR: u16 = 10;
 // The flag that a request was sent to many.
 const MULTICAST: u16 = 0x2000;
 
-// Writes a text at a place, and answers the place behind it.
-fn put(line: &mut [u8; 128], at: usize, text: &[u8]) -> usize {
-    if at > 128 || text.len() > 128 - at {
-        return at;
-    }
-    line[at..at + text.len()].copy_from_slice(text);
-    at + text.len()
+// ---- each function below writes at a place, and answers the place behind what it wrote
+
+fn put(line: &mut [u8; 128], at: usize, part: &[u8]) -> usize
+    requires { at + length part.now ≤ 128 }
+    ensures bytes { take result line.new ≡ take at line.old ++ part.now }
+    ensures end { result ≡ at + length part.now }
+{
+    let end = at + part.len();
+    line[at..end].copy_from_slice(part);
+    end
 }
 
-// Writes a number below 256.
-fn put_byte(line: &mut [u8; 128], at: usize, number: u8) -> usize {
+fn put_text(line: &mut [u8; 128], at: usize, text: &str) -> usize
+    requires { at + length text.now ≤ 128 }
+    ensures bytes { take result line.new ≡ take at line.old ++ text.now }
+    ensures end { result ≡ at + length text.now }
+{
+    put(line, at, text.as_bytes())
+}
+
+#[tactic(auto, using(crate::proofs::Digits::one_digit, crate::proofs::Digits::two_digits, crate::proofs::Digits::three_digits))]
+fn put_byte(line: &mut [u8; 128], at: usize, number: u8) -> usize
+    requires { at + 3 ≤ 128 }
+    ensures bytes { take result line.new ≡ take at line.old ++ decimal number }
+    ensures end { result ≤ at + 3 }
+{
     let hundreds = b'0' + number / 100;
     let tens = b'0' + number / 10 % 10;
     let ones = b'0' + number % 10;
@@ -31,15 +52,80 @@ fn put_byte(line: &mut [u8; 128], at: usize, number: u8) -> usize {
     }
 }
 
-fn put_addr(line: &mut [u8; 128], at: usize, addr: Addr) -> usize {
-    let [first, second, third, fourth] = addr.0.to_be_bytes();
-    let at = put_byte(line, at, first);
-    let at = put(line, at, b".");
-    let at = put_byte(line, at, second);
-    let at = put(line, at, b".");
-    let at = put_byte(line, at, third);
-    let at = put(line, at, b".");
-    put_byte(line, at, fourth)
+fn put_dotted(line: &mut [u8; 128], at: usize, number: u8) -> usize
+    requires { at + 4 ≤ 128 }
+    ensures bytes { take result line.new ≡ take at line.old ++ (decimal number ++ 46 ∷ []) }
+    ensures end { result ≤ at + 4 }
+{
+    let at = put_byte(line, at, number);
+    put(line, at, &[b'.'])
+}
+
+fn put_addr(line: &mut [u8; 128], at: usize, addr: Addr) -> usize
+    requires { at + 15 ≤ 128 }
+    ensures bytes { take result line.new ≡ take at line.old ++ addr_text addr }
+    ensures end { result ≤ at + 15 }
+{
+    let number = addr.0;
+    let at = put_dotted(line, at, (number / 16_777_216) as u8);
+    let at = put_dotted(line, at, (number / 65_536 % 256) as u8);
+    let at = put_dotted(line, at, (number / 256 % 256) as u8);
+    put_byte(line, at, (number % 256) as u8)
+}
+
+#[tactic(auto, using(crate::proofs::Refusals::action_is_short))]
+fn put_action(line: &mut [u8; 128], action: Action) -> usize
+    ensures bytes { take result line.new ≡ codes "# deny code=10 by=memory action=" ++ action_text action }
+    ensures end { result ≤ 40 }
+{
+    let at = put_text(line, 0, "# deny code=10 by=memory action=");
+    put_text(line, at, action_word(action))
+}
+
+fn put_asker(line: &mut [u8; 128], at: usize, asker: Addr) -> usize
+    requires { at ≤ 40 }
+    ensures bytes { take result line.new ≡ take at line.old ++ (codes " asker=" ++ addr_text asker) }
+    ensures end { result ≤ 62 }
+{
+    let at = put_text(line, at, " asker=");
+    put_addr(line, at, asker)
+}
+
+fn put_line(line: &mut [u8; 128], action: Action, asker: Addr) -> usize
+    ensures bytes { take result line.new ≡ codes "# deny code=10 by=memory action=" ++ action_text action ++ (codes " asker=" ++ addr_text asker) ++ (codes " type=- scope=-" ++ 10 ∷ []) }
+    ensures end { result ≤ 128 }
+{
+    let at = put_action(line, action);
+    let at = put_asker(line, at, asker);
+    put_text(line, at, " type=- scope=-\n")
+}
+
+fn action_in(function: u8) -> Action
+    ensures { result ≡ action_of function }
+{
+    match function {
+        3 => Action::Register,
+        4 => Action::Withdraw,
+        _ => Action::See,
+    }
+}
+
+// A question that was sent to many gets no error (RFC 2608, section 7).
+fn is_silent(header: &HeaderView<'_>) -> bool
+    ensures { result ≡ is_unsent (heading header.now) }
+{
+    header.flags & MULTICAST != 0 && matches!(header.function, 1 | 6 | 9)
+}
+
+fn put_reply(header: &HeaderView<'_>, function: u8, reply: &mut [u8; 80]) -> usize
+    ensures bytes { take result reply.new ≡ (if is_unsent (heading header.now) then [] else refusal_bytes function 10 header.now.xid header.now.language.now) }
+    ensures room { result ≤ 80 }
+{
+    if is_silent(header) {
+        0
+    } else {
+        error_reply(header, function, INTERNAL_ERROR, reply)
+    }
 }
 
 /// What a message that found no memory gets: the bytes of a reply with code 10, and those of its
@@ -51,28 +137,19 @@ pub fn refusal(
     asker: Addr,
     reply: &mut [u8; 80],
     line: &mut [u8; 128],
-) -> (usize, usize) {
+) -> (usize, usize)
+    ensures reply { take result.0 reply.new ≡ refused_reply bytes.now }
+    ensures line { take result.1 line.new ≡ refused_line bytes.now asker }
+    ensures room { result.0 ≤ 80 }
+    ensures line_room { result.1 ≤ 128 }
+{
     let Some(header) = read_header(bytes) else {
         return (0, 0);
     };
     let Some(function) = reply_function(header.function) else {
         return (0, 0);
     };
-    let action = match header.function {
-        3 => Action::Register,
-        4 => Action::Withdraw,
-        _ => Action::See,
-    };
-    let is_silent = matches!(action, Action::See) && header.flags & MULTICAST != 0;
-    let sent = if is_silent {
-        0
-    } else {
-        error_reply(&header, function, INTERNAL_ERROR, reply)
-    };
-    let at = put(line, 0, b"# deny code=10 by=memory action=");
-    let at = put(line, at, action_word(action).as_bytes());
-    let at = put(line, at, b" asker=");
-    let at = put_addr(line, at, asker);
-    let at = put(line, at, b" type=- scope=-\n");
-    (sent, at)
+    let sent = put_reply(&header, function, reply);
+    let told = put_line(line, action_in(header.function), asker);
+    (sent, told)
 }

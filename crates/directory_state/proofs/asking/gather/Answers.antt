@@ -1,0 +1,59 @@
+use Rattle.std.proofs.Common.{◌≡◌, ℕ, List, Some, None, true, false, sym, ap, ◌∙◌, arith, rules}
+use Rattle.std.specs.Prelude.{slice_get}
+use Rattle.std.specs.List.{list_any}
+use Rattle.std.specs.Option.{option_copied}
+use Rattle.std.proofs.lemmas.Option.{slice_get_within}
+use Rattle.registry_core.specs.declared.entry.Entry.{Entry}
+use Rattle.registry_core.specs.Entries.{is_at_place, IsListing}
+use Rattle.slp_text.specs.Words.{bytes_eq}
+use Rattle.directory_judge.specs.Judging.{supports}
+use Rattle.directory_state.specs.Finding.{found_at, Found}
+use Rattle.directory_state.proofs.Found.{on_err, not_none, any_supported, or_true, or_same, no_other, seen-turn, supported-turn, listing-turn}
+use Rattle.directory_state.proofs.asking.gather.Goals as goal
+use Rattle.directory_state.proofs.asking.gather.Goals.{in-Some+then-has+in_ok-collect, in_default, in_default-via-in-None-1, in_default-via-in-Some+else-has}
+
+pub loop-place-preserved : goal.loop-place-preserved
+loop-place-preserved g c =
+    let listing : List ℕ → List Entry = λ s. g.R.Registry.rest_at c.args.registry.now s (Some c.args.query.now.kind) 0 in
+    let scopes : List (List ℕ) = c.args.query.now.scopes in
+    elim c.match-at.branch [
+      | in-Some+then-has+in_ok-collect w ↦
+          let s : List ℕ = w.in-Some.scope.now in
+          let at : slice_get scopes c.loop-place.place ≡ Some s = sym c.at.ensures ∙ ap option_copied w.in-Some.is in
+          let is : supports c.args.site.now s ≡ true = ap (list_any (λ k. bytes_eq k s)) (sym w.scopes.ensures.value) ∙ sym w.has.ensures ∙ w.if-has.true in (
+            (λ u. seen-turn listing c.args.rules.now c.args.site.now c.args.now c.args.asker scopes c.loop-place.place s at true u (found_at c.loop-place.found u) (found_at c.match-at.found u) is
+                (ap (λ (m : Found). found_at m u) w.found-is ∙ w.in_ok-collect.ensures.found u) ∙ c.loop-place.invariant.0 u),
+            listing-turn listing c.args.rules.now c.args.site.now c.args.now c.args.asker scopes c.loop-place.place s at
+                (λ t. IsListing (is_at_place t (Some c.args.query.now.kind)) (g.R.Registry.contents c.args.registry.now) (listing t)) c.loop-place.invariant.1 (λ _. w.in_ok-collect.ensures.listing),
+            supported-turn listing c.args.rules.now c.args.site.now c.args.now c.args.asker scopes c.loop-place.place s at true c.loop-place.is_supported c.match-at.is_supported is
+                (or_true c.loop-place.is_supported c.match-at.is_supported w.is_supported-is) c.loop-place.invariant.2,
+          )
+      | in_default w ↦ elim w.in_default.branch [
+        | in_default-via-in-None-1 x ↦
+            let none : c.at.result ≡ None = search rules in
+            absurd (not_none scopes c.loop-place.place (omega (arith, c.loop-place-test.true, c.len-place-end.ensures.value)) (sym c.at.ensures ∙ ap option_copied none))
+        | in_default-via-in-Some+else-has x ↦
+            let s : List ℕ = x.in-Some.scope.now in
+            let at : slice_get scopes c.loop-place.place ≡ Some s = sym c.at.ensures ∙ ap option_copied x.in-Some.is in
+            let is : supports c.args.site.now s ≡ false = ap (list_any (λ k. bytes_eq k s)) (sym x.scopes.ensures.value) ∙ sym x.has.ensures ∙ x.if-has.false in (
+              (λ u. seen-turn listing c.args.rules.now c.args.site.now c.args.now c.args.asker scopes c.loop-place.place s at false u (found_at c.loop-place.found u) (found_at c.match-at.found u) is
+                  (ap (λ (m : Found). found_at m u) w.found-is) ∙ c.loop-place.invariant.0 u),
+              listing-turn listing c.args.rules.now c.args.site.now c.args.now c.args.asker scopes c.loop-place.place s at
+                  (λ t. IsListing (is_at_place t (Some c.args.query.now.kind)) (g.R.Registry.contents c.args.registry.now) (listing t)) c.loop-place.invariant.1 (λ t. absurd (no_other (supports c.args.site.now s) t is)),
+              supported-turn listing c.args.rules.now c.args.site.now c.args.now c.args.asker scopes c.loop-place.place s at false c.loop-place.is_supported c.match-at.is_supported is
+                  (or_same c.loop-place.is_supported c.match-at.is_supported w.is_supported-is) c.loop-place.invariant.2,
+            )
+      ]
+    ]
+
+pub returns-in_err-collect-clause-err : goal.returns-in_err-collect-clause-err
+returns-in_err-collect-clause-err g c =
+    let scopes : List (List ℕ) = c.args.query.now.scopes in
+    let s : List ℕ = c.in-Some.scope.now in
+    let at : slice_get scopes c.loop-place.place ≡ Some s = sym c.at.ensures ∙ ap option_copied c.in-Some.is in
+    let is : supports c.args.site.now s ≡ true = ap (list_any (λ k. bytes_eq k s)) (sym c.scopes.ensures.value) ∙ sym c.has.ensures ∙ c.if-has.true in
+    on_err c.from_residual.result _ (any_supported (supports c.args.site.now) scopes c.loop-place.place s c.loop-place.is_supported at is c.loop-place.invariant.2)
+
+pub returns-clause-listings : goal.returns-clause-listings
+returns-clause-listings g c = λ k s is yes.
+    c.loop-place.invariant.1 k s (omega (arith, slice_get_within c.args.query.now.scopes k s is)) is yes
