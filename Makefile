@@ -2,12 +2,12 @@
 .PHONY: run build test
 
 run: build
-	bin/slpreplay < examples/printer.script
+	@bin/slpreplay < examples/printer.script
 
 build:
-	cd crates/slpreplay && rt run < ../../examples/printer.script > /dev/null
-	mkdir -p bin
-	cp crates/slpreplay/out/slpreplay bin/slpreplay
+	@cd crates/slpreplay && rt run < ../../examples/printer.script > /dev/null
+	@mkdir -p bin
+	@cp crates/slpreplay/out/slpreplay bin/slpreplay
 
 test:
 	rt ci
