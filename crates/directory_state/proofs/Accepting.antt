@@ -1,12 +1,11 @@
 -- What is known of a change that a message makes.
-use Rattle.std.proofs.Common.{◌≡◌, ℕ, ◌<◌, ◌≤◌, max, Bool, true, false, cond, List, [], ◌∷◌, Option, Some, None, Result, Ok, Err, length, refl, sym, ap, ap₂, subst, ◌∙◌, arith, inl, inr}
-use Rattle.std.specs.Prelude.{◌↔◌, ◌⊎◌, ◌==◌, ◌&&◌, ◌||◌, not, is_some, is_none, is_err, nat_le, unwrap_or, IsTrue, filter, find}
+use Rattle.std.proofs.Common.{◌≡◌, ℕ, ◌<◌, Bool, true, false, cond, List, [], ◌∷◌, Option, Some, None, length, refl, sym, ap, subst, arith, inl, inr}
+use Rattle.std.specs.Prelude.{◌⊎◌, ◌==◌, ◌&&◌, ◌||◌, is_some, is_none, is_err, nat_le, unwrap_or, IsTrue, filter}
 use Rattle.std.specs.Option.{option_or, option_map, option_map_or}
 use Rattle.std.specs.List.{list_any}
 use Rattle.std.proofs.lemmas.Bool.Decides.{nat_tests}
 use Rattle.std.proofs.lemmas.Option.{none-some, same_Some}
 use Rattle.std.specs.FinMap as fin
-use Rattle.access_rules.specs.declared.rule.Action.{Action}
 use Rattle.access_rules.specs.declared.rule.Action.TheVariants.{Register}
 use Rattle.access_rules.specs.declared.rule.Rule.{Rule}
 use Rattle.registry_core.specs.declared.entry.Entry.{Entry}
@@ -18,12 +17,12 @@ use Rattle.slp_wire.specs.declared.message.Message.TheVariants as message
 use Rattle.slp_wire.specs.declared.message.Registration.{Registration}
 use Rattle.directory_judge.specs.declared.because.Because.{Because}
 use Rattle.directory_judge.specs.declared.taken.Taken.{Taken}
-use Rattle.directory_judge.specs.History.{Putting, Setting, Removing, Act, Put, Set, Remove, Withdraw, Sweep, Reload, Event, History, clock, now, last_that}
-use Rattle.directory_judge.specs.Judging.{Grounds, Judgement, Accepts, Ignores, Denies, judgement, judgement_of, judged_taken, taken, invalid, unsupported, denied_new, denied_old, denial_in, denial_of, no_room, putting, allowance, pair_in, stored_scopes, supports}
-use Rattle.directory_judge.specs.Meaning.{only, put_of, Stands, Live, AreLive, founding}
+use Rattle.directory_judge.specs.History.{Putting, Setting, Removing, Act, Put, Set, Remove, Withdraw, Sweep, Reload, Event, History, now, last_that}
+use Rattle.directory_judge.specs.Judging.{Grounds, Judgement, Accepts, Ignores, Denies, judgement, judged_taken, taken, invalid, unsupported, denied_new, denied_old, denial_of, no_room, putting, allowance, pair_in, stored_scopes, supports}
+use Rattle.directory_judge.specs.Meaning.{only, put_of, Stands, AreLive}
 use Rattle.directory_judge.specs.Sites.{Place}
-use Rattle.directory_state.specs.Verdicts.{grounds, IsVerdict, IsAccepted, IsGrounded, IsLegal}
-use Rattle.directory_state.proofs.Folding.{IsPossible, HasRoom, founding-put}
+use Rattle.directory_state.specs.Verdicts.{grounds, IsGrounded, IsLegal}
+use Rattle.directory_state.proofs.Folding.{IsPossible, founding-put}
 
 -- ---- a step denies, or finds nothing
 
@@ -195,7 +194,7 @@ option_or_some : {A : Type 0} (a b : Option A) (x : A) → option_or a b ≡ Som
 option_or_some None b x h = inr h
 option_or_some (Some y) b x h = inl h
 
-only_some : (b : Bool) (o p : Putting) → only b (Some o) ≡ Some p → o ≡ p
+pub only_some : (b : Bool) (o p : Putting) → only b (Some o) ≡ Some p → o ≡ p
 only_some true o p h = same_Some o p h
 only_some false o p h = absurd (none-some p h)
 

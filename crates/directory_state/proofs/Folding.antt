@@ -1,21 +1,20 @@
 -- What one more event does to what a history leaves.
 use Rattle.std.proofs.Common.{◌≡◌, ℕ, ◌+◌, ◌<◌, ◌≤◌, max, Bool, true, false, cond, List, [], ◌∷◌, Option, Some, None, refl, sym, ap, ap₂, subst, ◌∙◌, arith, inl, inr}
-use Rattle.std.specs.Prelude.{◌↔◌, ◌⊎◌, is_some, is_none, IsTrue, unwrap_or, ◌||◌, ◌&&◌, not}
+use Rattle.std.specs.Prelude.{◌↔◌, ◌⊎◌, is_some, IsTrue, unwrap_or, ◌||◌, ◌&&◌, not}
 use Rattle.std.specs.List.{list_any}
 use Rattle.std.specs.Option.{option_or}
-use Rattle.std.proofs.lemmas.Option.{none-some, same_Some, cond_some}
+use Rattle.std.proofs.lemmas.Option.{none-some, same_Some}
 use borrow.Author.Tests.{ltb-true, lt-ltb}
 use Rattle.std.specs.Cmp.{eq_by_cmp_equiv}
 use Rattle.std.specs.FinMap as fin
 use Rattle.slp_text.specs.Words.{bytes_eq, texts_eq}
 use Rattle.access_rules.specs.declared.rule.Rule.{Rule}
 use Rattle.registry_core.specs.declared.entry.Entry.{Entry}
-use Rattle.registry_core.specs.Entries.{Pair, Entries, pair_cmp, pair_of, pair_eq, kept, outlives}
+use Rattle.registry_core.specs.Entries.{Pair, Entries, pair_cmp, pair_of, pair_eq, outlives}
 use Rattle.registry_core.proofs.Lists.{pair_total, pair_exact, cmp-pair_eq, pair_eq-true, pair_eq-same}
-use Rattle.directory_judge.specs.Attributes.{selects}
 use Rattle.directory_judge.specs.History.{Putting, Withdrawing, Act, Put, Set, Remove, Withdraw, Sweep, Reload, Event, History, clock, now, last_that}
 use Rattle.directory_judge.specs.Making.{Content, Stores, Edits, Withdraws, Sweeps, Reloads, passing}
-use Rattle.directory_judge.specs.Meaning.{only, put_of, withdraws, deadline_of, rules_of, rules, since_put, unless_withdrawn, founding, Stands, Live, AreLive}
+use Rattle.directory_judge.specs.Meaning.{only, put_of, withdraws, deadline_of, rules_of, since_put, unless_withdrawn, founding, Stands, Live, AreLive}
 use Rattle.directory_judge.specs.Sites.{Place}
 use Rattle.directory_state.specs.Folding.{Fold, IsEditOf, StandsFor}
 use Rattle.directory_state.specs.State.{State, is_full_for, is_withdrawn, stored, edited, made}
@@ -223,7 +222,7 @@ option_or_some : {A : Type 0} (a b : Option A) (x : A) → option_or a b ≡ Som
 option_or_some None b x h = inr h
 option_or_some (Some y) b x h = inl h
 
-unless-parts : (g : History) (o : Option Putting) (p : Putting) → unless_withdrawn g o ≡ Some p → (o ≡ Some p) × (list_any (withdraws p) g ≡ false)
+pub unless-parts : (g : History) (o : Option Putting) (p : Putting) → unless_withdrawn g o ≡ Some p → (o ≡ Some p) × (list_any (withdraws p) g ≡ false)
 unless-parts g None p h = absurd (none-some p h)
 unless-parts g (Some o) p h =
     let k = cond_none (list_any (withdraws o) g) o p h in

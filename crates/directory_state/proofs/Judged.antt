@@ -1,19 +1,15 @@
 -- The judgement over a state is the verdict at its history.
-use Rattle.std.proofs.Common.{◌≡◌, ℕ, ◌∷◌, max, true, Some, List, Result, Ok, Err, refl, sym, ap, subst, ◌∙◌, arith}
-use Rattle.std.specs.Prelude.{◌↔◌, IsTrue, IfOk}
-use Rattle.std.specs.List.{list_any}
-use Rattle.std.specs.Option.{option_or}
-use Rattle.std.specs.FinMap as fin
+use Rattle.std.proofs.Common.{◌≡◌, ℕ, ◌∷◌, max, true, List, Result, Ok, Err, refl, sym, ap, subst, arith}
+use Rattle.std.specs.Prelude.{IfOk}
 use Rattle.access_rules.specs.declared.rule.Rule.{Rule}
-use Rattle.registry_core.specs.declared.entry.Entry.{Entry}
-use Rattle.registry_core.specs.Entries.{Pair, Entries, pair_of, pair_eq, outlives}
+use Rattle.registry_core.specs.Entries.{Entries, pair_eq, outlives}
 use Rattle.registry_core.proofs.Lists.{pair_eq-same}
 use Rattle.slp_wire.specs.declared.message.Message.{Message}
 use Rattle.directory_judge.specs.declared.judged.Judged.{Judged}
 use Rattle.directory_judge.specs.declared.judged.Judged.TheVariants as judged
 use Rattle.directory_judge.specs.History.{Putting, Put, Event, History, clock, now}
-use Rattle.directory_judge.specs.Judging.{Grounds, Judgement, Accepts, Ignores, Denies, judgement, IsJudged, IsRegistryOf, putting, supports}
-use Rattle.directory_judge.specs.Making.{content, content_on, entry_of, passing}
+use Rattle.directory_judge.specs.Judging.{Grounds, Judgement, judgement, IsJudged, IsRegistryOf, putting}
+use Rattle.directory_judge.specs.Making.{content_on, entry_of, passing}
 use Rattle.directory_judge.specs.Meaning.{AreLive, Stands, rules}
 use Rattle.directory_judge.specs.Sites.{Place}
 use Rattle.directory_state.specs.Folding.{Fold, StandsFor}

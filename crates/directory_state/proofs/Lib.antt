@@ -2,8 +2,10 @@ pub mod Accepting
 pub mod Asked
 pub mod Folding
 pub mod Found
+pub mod Founders
 pub mod Histories
 pub mod Judged
 pub mod Lasting
 pub mod Rows
+pub mod SameAnswers
 pub mod States

@@ -1,12 +1,12 @@
 -- The definitions on small histories: what they say, by computation.
-use Rattle.std.proofs.Common.{◌≡◌, ℕ, ◌<◌, ◌-◌, List, [], ◌∷◌, Option, Some, None, refl, sym, ap, ◌∙◌, arith}
+use Rattle.std.proofs.Common.{◌≡◌, ℕ, ◌-◌, List, [], ◌∷◌, None, refl, sym, ap, ◌∙◌, arith}
 use Rattle.std.specs.Prelude.{codes}
 use Rattle.std.proofs.lemmas.Option.{same_Some}
 use Rattle.std.specs.FinMap as fin
 use Rattle.registry_core.specs.declared.entry.Entry.{Entry}
 use Rattle.registry_core.specs.Entries.{Pair, pair_of}
-use Rattle.directory_judge.specs.History.{Putting, Put, Withdraw, Sweep, Event, History, now, last_that}
-use Rattle.directory_judge.specs.Meaning.{put_of, deadline_of, founding, Stands, Live}
+use Rattle.directory_judge.specs.History.{Put, Withdraw, Sweep, Event, History, now, last_that}
+use Rattle.directory_judge.specs.Meaning.{put_of, deadline_of, founding, Live}
 
 abbrev url : List ℕ
 url = codes "service:printer:lpr://a"

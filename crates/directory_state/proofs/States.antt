@@ -1,7 +1,6 @@
 -- What a change makes of any state.
-use Rattle.std.proofs.Common.{◌≡◌, ℕ, Bool, true, false, cond, Option, Some, None, Result, Ok, Err, List, refl, sym, ap, ap₂, ◌∙◌, eq-eqb}
-use Rattle.std.specs.Prelude.{◌↔◌, is_some, is_none, ◌==◌, OnOk, OnErr, IsErrOf, ◌&&◌}
-use Rattle.std.proofs.lemmas.Option.{none-some, cond_some}
+use Rattle.std.proofs.Common.{◌≡◌, ℕ, true, false, cond, Option, Some, None, Result, Ok, Err, List, refl, sym, ap, ap₂, ◌∙◌, eq-eqb}
+use Rattle.std.specs.Prelude.{◌↔◌, is_none, ◌==◌, OnOk, OnErr, IsErrOf, ◌&&◌}
 use Rattle.std.proofs.lemmas.Bool.{and_parts}
 use borrow.Author.Tests.{eqb-true}
 use Rattle.std.specs.FinMap as fin
@@ -9,8 +8,7 @@ use Rattle.access_rules.specs.declared.rule.Rule.{Rule}
 use Rattle.registry_core.specs.declared.entry.Entry.{Entry}
 use Rattle.registry_core.specs.declared.registry.RegistryFault.{RegistryFault}
 use Rattle.registry_core.specs.declared.registry.RegistryFault.TheVariants.{Full}
-use Rattle.registry_core.specs.Entries.{Pair, Entries, pair_of, kept}
-use Rattle.registry_core.proofs.Lists.{pair_total, pair_exact}
+use Rattle.registry_core.specs.Entries.{Entries, pair_of}
 pub use Rattle.directory_judge.proofs.Maps.{get-passing, passing-is}
 use Rattle.directory_judge.specs.Sites.{Place}
 use Rattle.directory_state.specs.State.{State, is_full_for, stored}

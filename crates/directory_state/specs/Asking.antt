@@ -20,6 +20,11 @@ pub record Open (rs : List Rule) (site : Place) (asker : ℕ) (asked : List (Lis
   pub supported : Contains site.scopes scope
   pub allowed : IsTrue (deciding rs asker See e.kind scope).allow
 
+-- the entry is live, and open to the asker in the scopes that are asked for
+pub record IsOpenNow (opening : List Rule) (site : Place) (h : History) (m asker : ℕ) (asked : List (List ℕ)) (e : Entry) : Type 0 where
+  pub live : Live h m e
+  pub open_to : Open (rules opening h) site asker asked e
+
 -- the entry is live, open to the asker, and of a type that the one asked for covers
 pub record Answers (opening : List Rule) (site : Place) (h : History) (m asker : ℕ) (q : ServiceQuery) (e : Entry) : Type 0 where
   pub live : Live h m e

@@ -1,4 +1,4 @@
-use Rattle.std.proofs.Common.{◌≡◌, ◌∷◌, ℕ, List, max, ap, sym, subst, ◌∙◌}
+use Rattle.std.proofs.Common.{List, max, ap, sym, subst, ◌∙◌}
 use Rattle.std.specs.Prelude.{IfOk}
 use Rattle.std.specs.Arc.{arc_value}
 use Rattle.access_rules.specs.declared.rule.Rule.{Rule}
