@@ -17,6 +17,7 @@ pub line_is_written : (rules : List Rule) (a : Audit) (old first second third fo
     → fourth ≡ third ++ (codes " action=" ++ action_text a.action ++ codes " asker=" ++ addr_text a.asker)
     → new ≡ fourth ++ (codes " type=" ++ text_or_dash a.because.kind ++ codes " scope=" ++ text_or_dash a.because.scope ++ 10 ∷ [])
     → new ≡ old ++ audit_text rules a
+unfolding audit_text
 line_is_written rules a old first second third fourth new h1 h2 h3 h4 h5 =
     parts_are_one old (if a.code == 0 then codes "# allow code=" else codes "# deny code=") (decimal a.code) (codes " by=") (decider_text rules a.because.decider)
     (codes " action=") (action_text a.action) (codes " asker=") (addr_text a.asker)

@@ -24,6 +24,7 @@ parts_are_one : (v d b m w a k r t n s o e : List ℕ)
 parts_are_one v d b m w a k r t n s o e = simp append_assoc refl
 
 line_is_told : (a : Action) (asker : ℕ) → told a asker ≡ audit_text [] (record { code = 10; because = record { decider = Memory; kind = None; scope = None }; action = a; asker = asker })
+unfolding audit_text
 line_is_told a asker =
     let ten : decimal 10 ≡ 49 ∷ 48 ∷ [] = two_digits 10 (omega arith) (omega arith) in
     ap (λ (d : List ℕ). (codes "# deny code=" ++ d ++ codes " by=" ++ codes "memory" ++ codes " action=") ++ action_text a ++ (codes " asker=" ++ addr_text asker) ++ (codes " type=- scope=-" ++ 10 ∷ [])) (sym ten)

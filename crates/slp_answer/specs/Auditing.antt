@@ -45,7 +45,8 @@ abbrev pub text_or_dash : Option (List ℕ) → List ℕ
 text_or_dash None = codes "-"
 text_or_dash (Some text) = text
 
-abbrev pub audit_text : List AnyRule → Audit → List ℕ
+-- the whole line
+unfoldable pub audit_text : List AnyRule → Audit → List ℕ
 audit_text rules a =
     (if a.code == 0 then codes "# allow code=" else codes "# deny code=") ++ decimal a.code
     ++ codes " by=" ++ decider_text rules a.because.decider

@@ -1,16 +1,24 @@
-ghost use Rattle.std.specs.Prelude.{◌≡◌, true, IsTrue};
-ghost use Rattle.slp_wire.specs.Messages.{header_of};
+ghost use Rattle.std.specs.Prelude.{◌≡◌, [], true, List, IfOk, OnErr};
+ghost use Rattle.slp_wire.specs.Messages.{IsMessage, header_of};
+ghost use Rattle.access_rules.specs.declared.rule.Action.TheVariants.{Register};
+ghost use Rattle.access_rules.specs.declared.rule.Rule.{Rule as AnyRule};
+ghost use Rattle.directory_judge.specs.History.{History};
 ghost use Rattle.directory_judge.specs.Judging.{IsChange};
-ghost use Rattle.slp_answer.specs.Answering.{is_change_of};
+ghost use Rattle.directory_state.specs.Folding.{Fold};
+ghost use Rattle.directory_state.specs.Verdicts.{IsLegal};
+ghost use Rattle.slp_answer.specs.Answering.{is_change_of, Tells, telling, audit_of, coded, AcknowledgesTo, Acknowledges};
+ghost use Rattle.std.specs.Prelude.{Ok as Read};
 
 use crate::answer::{Answer, Sent};
-use crate::audit::{Audit, audit_line};
+use crate::audit::Audit;
+use crate::sending::{reply_header, send};
+use crate::understanding::understood;
 use access_rules::{Action, Addr};
 use directory_judge::{Because, Change, Judged};
 use directory_state::Directory;
 use registry_core::Registry;
 use slp_text::NoMemory;
-use slp_wire::{Flags, Header, Message, WireFault, decode, encode};
+use slp_wire::{Header, Message};
 use std::alloc::Global;
 
 fn acknowledge_with<R: Registry>(
@@ -20,44 +28,19 @@ fn acknowledge_with<R: Registry>(
     code: u16,
     because: Because,
     answer: &mut Answer,
-) -> Result<Sent, NoMemory> {
-    let Header {
-        flags: _,
-        xid,
-        language,
-    } = header;
-    let header = Header {
-        flags: Flags {
-            overflow: false,
-            fresh: false,
-            multicast: false,
-        },
-        xid,
-        language,
-    };
-    let message = Message::Acknowledgement(header, code);
-    match encode(&message, &mut answer.bytes) {
-        Ok(()) => {}
-        Err(_) => return Err(NoMemory),
-    }
+) -> Result<Sent, NoMemory>
+    requires no_reply { answer.old.bytes.items ≡ [] }
+    requires no_line { answer.old.audit.items ≡ [] }
+    ensures { IfOk result (λ what. Tells (telling directory.now.rules (audit_of asker Register code because) (coded 5 header code)) what answer.new.bytes.items answer.new.audit.items) }
+{
+    let message = Message::Acknowledgement(reply_header(header, false), code);
     let audit = Audit {
         code,
         because,
         action: Action::Register,
         asker,
     };
-    audit_line(directory.rules(), &audit, &mut answer.audit)?;
-    Ok(Sent::Bytes(code))
-}
-
-// Whether a message may change something.
-fn is_registration(message: &Message) -> bool
-    ensures { IsTrue result → IsChange message.now }
-{
-    match message {
-        Message::Registration(_, _) => true,
-        _ => false,
-    }
+    send(directory.rules(), &message, &audit, answer)
 }
 
 // The header of a message.
@@ -72,22 +55,21 @@ fn into_header(message: Message) -> Header
     }
 }
 
-fn acknowledge_change<R: Registry>(
+fn acknowledge_message<R: Registry>(
     alloc: Global,
     directory: &Directory<R>,
     moment: u32,
     asker: Addr,
-    bytes: &[u8],
+    message: Message,
     answer: &mut Answer,
-) -> Result<(Sent, Option<Change>), NoMemory> {
-    let message = match decode(alloc, bytes) {
-        Ok(message) => message,
-        Err(WireFault::NoMemory) => return Err(NoMemory),
-        Err(_) => return Ok((Sent::Silence, None)),
-    };
-    if !is_registration(&message) {
-        return Ok((Sent::Silence, None));
-    }
+) -> Result<(Sent, Option<Change>), NoMemory>
+    requires change { IsChange message }
+    requires sound { IsMessage message }
+    requires no_reply { answer.old.bytes.items ≡ [] }
+    requires no_line { answer.old.audit.items ≡ [] }
+    ensures { (opening : List AnyRule) (h : History) → Fold opening directory.now.site h directory.now → IsLegal opening directory.now.site h
+        → IfOk result (λ r. AcknowledgesTo opening directory.now.site h moment asker (Read message) r.0 r.1 answer.new.bytes.items answer.new.audit.items) }
+{
     let judged = directory.judge(alloc, moment, asker, &message)?;
     let header = into_header(message);
     match judged {
@@ -103,6 +85,26 @@ fn acknowledge_change<R: Registry>(
     }
 }
 
+fn acknowledge_bytes<R: Registry>(
+    alloc: Global,
+    directory: &Directory<R>,
+    moment: u32,
+    asker: Addr,
+    bytes: &[u8],
+    answer: &mut Answer,
+) -> Result<(Sent, Option<Change>), NoMemory>
+    requires change { is_change_of bytes.now ≡ true }
+    requires no_reply { answer.old.bytes.items ≡ [] }
+    requires no_line { answer.old.audit.items ≡ [] }
+    ensures { (opening : List AnyRule) (h : History) → Fold opening directory.now.site h directory.now → IsLegal opening directory.now.site h
+        → IfOk result (λ r. Acknowledges opening directory.now.site h moment asker bytes.now r.0 r.1 answer.new.bytes.items answer.new.audit.items) }
+{
+    match understood(alloc, bytes)? {
+        Some(message) => acknowledge_message(alloc, directory, moment, asker, message, answer),
+        None => Ok((Sent::Silence, None)),
+    }
+}
+
 /// Acknowledges bytes that ask for a change, and hands out the change where one is accepted. It is
 /// not made yet. After `NoMemory` the answer is empty.
 pub fn acknowledge<R: Registry>(
@@ -114,9 +116,13 @@ pub fn acknowledge<R: Registry>(
     answer: &mut Answer,
 ) -> Result<(Sent, Option<Change>), NoMemory>
     requires { is_change_of bytes.now ≡ true }
+    ensures told { (opening : List AnyRule) (h : History) → Fold opening directory.now.site h directory.now → IsLegal opening directory.now.site h
+        → IfOk result (λ r. Acknowledges opening directory.now.site h moment asker bytes.now r.0 r.1 answer.new.bytes.items answer.new.audit.items) }
+    ensures no_reply { OnErr result (answer.new.bytes.items ≡ []) }
+    ensures no_line { OnErr result (answer.new.audit.items ≡ []) }
 {
     answer.clear();
-    match acknowledge_change(alloc, directory, moment, asker, bytes, answer) {
+    match acknowledge_bytes(alloc, directory, moment, asker, bytes, answer) {
         Ok(told) => Ok(told),
         Err(fault) => {
             answer.clear();

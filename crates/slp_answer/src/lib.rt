@@ -7,8 +7,10 @@ mod audit;
 mod cutting;
 mod refusing;
 mod replying;
+mod sending;
 #[cfg(test)]
 mod tests;
+mod understanding;
 
 pub use acknowledging::acknowledge;
 pub use answer::{Answer, Sent, is_change};

@@ -1,19 +1,26 @@
-ghost use Rattle.std.specs.Prelude.{◌≡◌, ◌≤◌, false};
-ghost use Rattle.slp_answer.specs.Answering.{is_change_of};
+ghost use Rattle.std.specs.Prelude.{◌≡◌, ◌≤◌, [], false, ℕ, List, Some, IfOk, OnErr};
+ghost use Rattle.access_rules.specs.declared.rule.Action.TheVariants.{See};
+ghost use Rattle.access_rules.specs.declared.rule.Rule.{Rule as AnyRule};
+ghost use Rattle.directory_judge.specs.History.{History};
+ghost use Rattle.directory_judge.specs.Judging.{by_step};
+ghost use Rattle.directory_judge.specs.declared.because.Decider.TheVariants as decider;
+ghost use Rattle.directory_state.specs.Folding.{Fold};
+ghost use Rattle.directory_state.specs.Verdicts.{IsLegal};
+ghost use Rattle.slp_answer.specs.Answering.{is_change_of, query_of, Told, Tells, telling, audit_of, coded, IsFoundOf, Replies};
+ghost use Rattle.slp_answer.specs.Cutting.{IsCut};
 
 use crate::answer::{Answer, Sent};
-use crate::audit::{Audit, audit_line};
+use crate::audit::Audit;
 use crate::cutting::fitting;
+use crate::sending::{reply_header, send};
+use crate::understanding::{into_request, understood};
 use access_rules::{Action, Addr};
 use directory_judge::{Because, Decider};
 use directory_state::{Directory, QueryFault, ServiceQuery};
 use registry_core::Registry;
 use service_url::{ServiceType, UrlFault};
 use slp_text::{NoMemory, Row, ScopeList, TextFault, is_blank, key};
-use slp_wire::{
-    ErrorCode, Flags, Header, Message, ServiceReply, ServiceRequest, UrlEntry, WireFault, decode,
-    encode,
-};
+use slp_wire::{ErrorCode, Header, Message, ServiceReply, ServiceRequest, UrlEntry};
 use std::alloc::Global;
 
 /// The type for which a directory agent is asked for itself.
@@ -22,13 +29,15 @@ const AGENT_TYPE: &str = "service:directory-agent";
 /// The type that only service agents answer for.
 const OTHER_AGENT_TYPE: &str = "service:service-agent";
 
-/// The question of a request, where such a one is answered so far: sent to one agent, with no
-/// responders and no predicate, of a type and in scopes that are read.
-pub fn read_query(
+// The question of a request, where such a one is answered so far: sent to one agent, with no
+// responders and no predicate, of a type and in scopes that are read.
+fn read_query(
     alloc: Global,
     header: &Header,
     request: &ServiceRequest,
-) -> Result<Option<ServiceQuery>, NoMemory> {
+) -> Result<Option<ServiceQuery>, NoMemory>
+    ensures { IfOk result (λ q. q ≡ query_of header.now request.now) }
+{
     if header.flags.multicast
         || !request.responders.as_str().is_empty()
         || !is_blank(request.predicate.as_str())
@@ -58,11 +67,19 @@ pub fn read_query(
     }
 }
 
-// Appends a message that no limit refuses.
-fn append(message: &Message, bytes: &mut Vec<u8>) -> Result<(), NoMemory> {
-    match encode(message, bytes) {
-        Ok(()) => Ok(()),
-        Err(_) => Err(NoMemory),
+// What is told of a question about services of a type.
+fn seen(asker: Addr, code: u16, decider: Decider, kind: ServiceType) -> Audit
+    ensures { result ≡ audit_of asker See code (by_step decider (Some kind)) }
+{
+    Audit {
+        code,
+        because: Because {
+            decider,
+            kind: Some(kind),
+            scope: None,
+        },
+        action: Action::See,
+        asker,
     }
 }
 
@@ -74,49 +91,20 @@ fn answer_found<R: Registry>(
     mut items: Vec<UrlEntry>,
     limit: usize,
     answer: &mut Answer,
-) -> Result<Sent, NoMemory> {
-    let Header {
-        flags: _,
-        xid,
-        language,
-    } = header;
-    let count = fitting(&items, language.as_str().len(), limit);
+) -> Result<Sent, NoMemory>
+    requires datagram { 1400 ≤ limit }
+    requires no_reply { answer.old.bytes.items ≡ [] }
+    requires no_line { answer.old.audit.items ≡ [] }
+    ensures { IfOk result (λ what. (reply : List ℕ) × IsCut header items.items limit reply
+        × Tells (telling directory.now.rules (audit_of asker See 0 (by_step decider.Nobody (Some kind))) reply) what answer.new.bytes.items answer.new.audit.items) }
+{
+    let count = fitting(&items, header.language.as_str().len(), limit);
     let overflow = count < items.len();
     items.truncate(count);
-    let header = Header {
-        flags: Flags {
-            overflow,
-            fresh: false,
-            multicast: false,
-        },
-        xid,
-        language,
-    };
-    let message = Message::ServiceReply(header, ServiceReply::Found(Row::wrap(items)));
-    append(&message, &mut answer.bytes)?;
-    tell(directory, asker, 0, Decider::Nobody, kind, answer)
-}
-
-fn tell<R: Registry>(
-    directory: &Directory<R>,
-    asker: Addr,
-    code: u16,
-    decider: Decider,
-    kind: ServiceType,
-    answer: &mut Answer,
-) -> Result<Sent, NoMemory> {
-    let audit = Audit {
-        code,
-        because: Because {
-            decider,
-            kind: Some(kind),
-            scope: None,
-        },
-        action: Action::See,
-        asker,
-    };
-    audit_line(directory.rules(), &audit, &mut answer.audit)?;
-    Ok(Sent::Bytes(code))
+    let reply = ServiceReply::Found(Row::wrap(items));
+    let message = Message::ServiceReply(reply_header(header, overflow), reply);
+    let audit = seen(asker, 0, Decider::Nobody, kind);
+    send(directory.rules(), &message, &audit, answer)
 }
 
 fn answer_refused<R: Registry>(
@@ -125,24 +113,15 @@ fn answer_refused<R: Registry>(
     header: Header,
     kind: ServiceType,
     answer: &mut Answer,
-) -> Result<Sent, NoMemory> {
-    let Header {
-        flags: _,
-        xid,
-        language,
-    } = header;
-    let header = Header {
-        flags: Flags {
-            overflow: false,
-            fresh: false,
-            multicast: false,
-        },
-        xid,
-        language,
-    };
-    let message = Message::ServiceReply(header, ServiceReply::Refused(ErrorCode::new(4)));
-    append(&message, &mut answer.bytes)?;
-    tell(directory, asker, 4, Decider::Scope, kind, answer)
+) -> Result<Sent, NoMemory>
+    requires no_reply { answer.old.bytes.items ≡ [] }
+    requires no_line { answer.old.audit.items ≡ [] }
+    ensures { IfOk result (λ what. Tells (telling directory.now.rules (audit_of asker See 4 (by_step decider.Scope (Some kind))) (coded 2 header 4)) what answer.new.bytes.items answer.new.audit.items) }
+{
+    let reply = ServiceReply::Refused(ErrorCode::new(4));
+    let message = Message::ServiceReply(reply_header(header, false), reply);
+    let audit = seen(asker, 4, Decider::Scope, kind);
+    send(directory.rules(), &message, &audit, answer)
 }
 
 fn answer_request<R: Registry>(
@@ -150,16 +129,18 @@ fn answer_request<R: Registry>(
     directory: &Directory<R>,
     moment: u32,
     asker: Addr,
-    bytes: &[u8],
+    header: Header,
+    request: &ServiceRequest,
     limit: usize,
     answer: &mut Answer,
-) -> Result<Sent, NoMemory> {
-    let (header, request) = match decode(alloc, bytes) {
-        Ok(Message::ServiceRequest(header, request)) => (header, request),
-        Err(WireFault::NoMemory) => return Err(NoMemory),
-        _ => return Ok(Sent::Silence),
-    };
-    let Some(query) = read_query(alloc, &header, &request)? else {
+) -> Result<Sent, NoMemory>
+    requires datagram { 1400 ≤ limit }
+    requires no_reply { answer.old.bytes.items ≡ [] }
+    requires no_line { answer.old.audit.items ≡ [] }
+    ensures { (opening : List AnyRule) (h : History) → Fold opening directory.now.site h directory.now → IsLegal opening directory.now.site h
+        → IfOk result (λ what. (t : Told) × IsFoundOf opening directory.now.site h moment asker limit header request.now t × Tells t what answer.new.bytes.items answer.new.audit.items) }
+{
+    let Some(query) = read_query(alloc, &header, request)? else {
         return Ok(Sent::Silence);
     };
     let found = directory.services(alloc, moment, asker, &query);
@@ -170,9 +151,36 @@ fn answer_request<R: Registry>(
     } = query;
     match found {
         Ok(items) => answer_found(directory, asker, header, kind, items, limit, answer),
-        Err(QueryFault::NoMemory) => Err(NoMemory),
-        Err(_) => answer_refused(directory, asker, header, kind, answer),
+        Err(QueryFault::Scope) => answer_refused(directory, asker, header, kind, answer),
+        Err(_) => Err(NoMemory),
     }
+}
+
+fn answer_bytes<R: Registry>(
+    alloc: Global,
+    directory: &Directory<R>,
+    moment: u32,
+    asker: Addr,
+    bytes: &[u8],
+    limit: usize,
+    answer: &mut Answer,
+) -> Result<Sent, NoMemory>
+    requires no_change { is_change_of bytes.now ≡ false }
+    requires datagram { 1400 ≤ limit }
+    requires no_reply { answer.old.bytes.items ≡ [] }
+    requires no_line { answer.old.audit.items ≡ [] }
+    ensures { (opening : List AnyRule) (h : History) → Fold opening directory.now.site h directory.now → IsLegal opening directory.now.site h
+        → IfOk result (λ what. Replies opening directory.now.site h moment asker limit bytes.now what answer.new.bytes.items answer.new.audit.items) }
+{
+    let Some(message) = understood(alloc, bytes)? else {
+        return Ok(Sent::Silence);
+    };
+    let Some((header, request)) = into_request(message) else {
+        return Ok(Sent::Silence);
+    };
+    answer_request(
+        alloc, directory, moment, asker, header, &request, limit, answer,
+    )
 }
 
 /// Answers bytes that ask for no change, in at most `limit` bytes. `own` is the address of the loop
@@ -190,10 +198,14 @@ pub fn reply<R: Registry>(
     requires no_change { is_change_of bytes.now ≡ false }
     requires datagram { 1400 ≤ limit }
     requires stream { limit ≤ 65535 }
+    ensures told { (opening : List AnyRule) (h : History) → Fold opening directory.now.site h directory.now → IsLegal opening directory.now.site h
+        → IfOk result (λ what. Replies opening directory.now.site h moment asker limit bytes.now what answer.new.bytes.items answer.new.audit.items) }
+    ensures no_reply { OnErr result (answer.new.bytes.items ≡ []) }
+    ensures no_line { OnErr result (answer.new.audit.items ≡ []) }
 {
     let _own = own;
     answer.clear();
-    match answer_request(alloc, directory, moment, asker, bytes, limit, answer) {
+    match answer_bytes(alloc, directory, moment, asker, bytes, limit, answer) {
         Ok(sent) => Ok(sent),
         Err(fault) => {
             answer.clear();

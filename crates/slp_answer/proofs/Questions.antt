@@ -1,0 +1,55 @@
+-- What is told of a question.
+use Rattle.std.proofs.Common.{◌≡◌, ℕ, Bool, true, false, List, [], Option, Some, None, Result, Ok, Err, refl, sym, subst}
+use Rattle.std.specs.Prelude.{MatchOption, IfOk, IsErrOf, IsTrue, ◌↔◌}
+use Rattle.std.specs.List.{list_any}
+use Rattle.slp_wire.specs.declared.header.Header.{Header}
+use Rattle.slp_wire.specs.declared.message.ServiceRequest.{ServiceRequest}
+use Rattle.slp_wire.specs.declared.message.UrlEntry.{UrlEntry}
+use Rattle.access_rules.specs.declared.rule.Rule.{Rule as AnyRule}
+use Rattle.directory_judge.specs.History.{History}
+use Rattle.directory_judge.specs.Judging.{supports}
+use Rattle.directory_judge.specs.Meaning.{rules}
+use Rattle.directory_judge.specs.Sites.{Place}
+use Rattle.directory_state.specs.Asking.{AreServices}
+use Rattle.directory_state.specs.declared.query.ServiceQuery.{ServiceQuery}
+use Rattle.slp_answer.specs.Answering.{Told, silence, telling, found_audit, query_of, IsFound, Listed, IsFoundOf, Tells}
+use Rattle.slp_answer.specs.Cutting.{IsCut}
+use Rattle.slp_answer.specs.declared.answer.Sent.{Sent}
+use Rattle.slp_answer.specs.declared.answer.Sent.TheVariants as sent
+use Rattle.slp_answer.proofs.Tellings.{silence-tells}
+
+not-false : (b : Bool) → (b ≡ false → ⊥) → b ≡ true
+not-false true h = refl
+not-false false h = absurd (h refl)
+
+ok_err : {A E : Type 0} (x : A) (e : E) → ◌≡◌ {A = Result A E} (Ok x) (Err e) → ⊥
+ok_err x e h = cc
+
+-- what was found, wherever it lies in memory, is not refused
+pub found-supported : {A E : Type 0} (x : A) (e : E) (b : Bool) → IsErrOf (Ok x) e ↔ (b ≡ false) → b ≡ true
+found-supported x e b h = not-false b (λ f. ok_err x e (h.1 f))
+
+module _ (opening : List AnyRule) (site : Place) (h : History) (m asker limit : ℕ) (header : Header) (request : ServiceRequest) where
+  pub nothing-found : (reply audit : List ℕ) → query_of header request ≡ None → reply ≡ [] → audit ≡ []
+      → (t : Told) × IsFoundOf opening site h m asker limit header request t × Tells t sent.Silence reply audit
+  nothing-found reply audit none r a = (
+    silence,
+    subst (λ (o : Option ServiceQuery). MatchOption o (silence ≡ silence) (λ query. IsFound opening site h m asker limit header query silence)) (sym none) refl,
+    silence-tells reply audit r a,
+  )
+
+  pub services-found : (query : ServiceQuery) (items : List UrlEntry) (rs : List AnyRule) (what : Sent) (reply audit : List ℕ) → query_of header request ≡ Some query → IsTrue (list_any (supports site) query.scopes)
+      → AreServices opening site h m asker query items → rs ≡ rules opening h
+      → (bytes : List ℕ) × IsCut header items limit bytes × Tells (telling rs (found_audit asker query) bytes) what reply audit
+      → (t : Told) × IsFoundOf opening site h m asker limit header request t × Tells t what reply audit
+  services-found query items rs what reply audit some supported are ruled sent =
+      let t = telling (rules opening h) (found_audit asker query) sent.0 in
+      let found : IsFound opening site h m asker limit header query t = Listed supported items are sent.0 sent.1 refl in (
+        t,
+        subst (λ (o : Option ServiceQuery). MatchOption o (t ≡ silence) (λ q. IsFound opening site h m asker limit header q t)) (sym some) found,
+        subst (λ (r : List AnyRule). Tells (telling r (found_audit asker query) sent.0) what reply audit) ruled sent.2,
+      )
+
+pub IfOk-more : {A E : Type 0} (r : Result A E) (P Q : A → Type 0) → ((x : A) → P x → Q x) → IfOk r P → IfOk r Q
+IfOk-more (Ok x) P Q f h = f x h
+IfOk-more (Err e) P Q f h = h

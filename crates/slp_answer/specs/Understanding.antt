@@ -1,0 +1,32 @@
+-- What bytes that come in are read as.
+use Rattle.std.specs.Prelude.{◌≡◌, ℕ, Bool, ◌==◌, ◌||◌, List, Option, Some, None, Result, Ok, Err}
+use Rattle.slp_wire.specs.Messages.{IsMessage, function_of}
+use Rattle.slp_wire.specs.Reading.{reading}
+use Rattle.slp_wire.specs.declared.fault.WireFault.{WireFault}
+use Rattle.slp_wire.specs.declared.header.Header.{Header}
+use Rattle.slp_wire.specs.declared.message.Message.{Message}
+use Rattle.slp_wire.specs.declared.message.Message.TheVariants as message
+use Rattle.slp_wire.specs.declared.message.ServiceRequest.{ServiceRequest}
+use Rattle.slp_answer.specs.Answering.{is_change_of}
+
+-- a registration or a withdrawal, by its function
+abbrev pub may_change : Message → Bool
+may_change m = function_of m == 3 || function_of m == 4
+
+-- the bytes are read as this message, and their header says whether it may change something
+pub record IsRead (bytes : List ℕ) (m : Message) : Type 0 where
+  pub read : reading bytes ≡ Ok m
+  pub sound : IsMessage m
+  pub change : is_change_of bytes ≡ may_change m
+
+-- the bytes are no message that is read
+pub record IsUnread (bytes : List ℕ) : Type 0 where
+  pub fault : WireFault
+  pub read : reading bytes ≡ Err fault
+
+-- the service request that a message is, if it is one
+abbrev pub request_of : Message → Option (Header × ServiceRequest)
+request_of (message.ServiceRequest h q) = Some (h, q)
+request_of (message.ServiceReply h r) = None
+request_of (message.Registration h r) = None
+request_of (message.Acknowledgement h code) = None
