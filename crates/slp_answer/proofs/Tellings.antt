@@ -1,6 +1,7 @@
 -- What is told of a message, by what it is.
 use Rattle.std.proofs.Common.{◌≡◌, ℕ, Bool, true, false, List, [], ◌∷◌, Option, Some, None, Result, Ok, Err, refl, sym, ap, subst, ◌∙◌}
 use Rattle.std.proofs.lemmas.Option.{none-some, same_Some}
+use Rattle.slp_wire.specs.Headers.{Heading}
 use Rattle.slp_wire.specs.Messages.{IsMessage, header_of}
 use Rattle.slp_wire.specs.declared.fault.WireFault.{WireFault}
 use Rattle.slp_wire.specs.declared.header.Header.{Header}
@@ -19,7 +20,7 @@ use Rattle.directory_judge.specs.declared.judged.Judged.{Judged}
 use Rattle.directory_judge.specs.declared.judged.Judged.TheVariants as judged
 use Rattle.directory_state.proofs.Histories.{legal_next}
 use Rattle.directory_state.specs.Verdicts.{IsLegal, IsVerdict, IsJudgedAs, next}
-use Rattle.slp_answer.specs.Answering.{Told, silence, telling, audit_of, coded, acknowledged, IsFoundOf, IsTold, Tells, RepliesTo, AcknowledgesTo}
+use Rattle.slp_answer.specs.Answering.{Told, silence, faulted, telling, audit_of, coded, acknowledged, IsFoundOf, IsTold, Tells, RepliesTo, AcknowledgesTo}
 use Rattle.slp_answer.specs.Understanding.{may_change, request_of}
 use Rattle.slp_answer.specs.declared.answer.Sent.{Sent}
 use Rattle.slp_answer.specs.declared.answer.Sent.TheVariants as sent
@@ -33,24 +34,24 @@ may-change (message.ServiceRequest h q) is = absurd cc
 may-change (message.ServiceReply h r) is = absurd cc
 may-change (message.Acknowledgement h code) is = absurd cc
 
-module _ (opening : List AnyRule) (site : Place) (h : History) (m asker limit : ℕ) where
-  unread-told : (e : WireFault) → IsTold opening site h m asker limit (Err e) silence h
+module _ (opening : List AnyRule) (site : Place) (h : History) (m asker limit : ℕ) (heading : Option Heading) where
+  unread-told : (e : WireFault) → IsTold opening site h m asker limit heading (Err e) (faulted (rules opening h) asker heading e) h
   unfolding IsTold
   unread-told e = (refl, refl)
 
-  request-told : (header : Header) (q : ServiceRequest) (t : Told) → IsFoundOf opening site h m asker limit header q t → IsTold opening site h m asker limit (Ok (message.ServiceRequest header q)) t h
+  request-told : (header : Header) (q : ServiceRequest) (t : Told) → IsFoundOf opening site h m asker limit header q t → IsTold opening site h m asker limit heading (Ok (message.ServiceRequest header q)) t h
   unfolding IsTold
   request-told header q t found = (refl, found)
 
   -- nothing is told of a message that is neither a service request nor a change
-  other-told : (x : Message) → request_of x ≡ None → may_change x ≡ false → IsTold opening site h m asker limit (Ok x) silence h
+  other-told : (x : Message) → request_of x ≡ None → may_change x ≡ false → IsTold opening site h m asker limit heading (Ok x) silence h
   unfolding IsTold
   other-told (message.ServiceRequest header q) none still = absurd (none-some _ (sym none))
   other-told (message.Registration header r) none still = absurd cc
   other-told (message.ServiceReply header r) none still = (refl, refl)
   other-told (message.Acknowledgement header code) none still = (refl, refl)
 
-  change-told : (x : Message) (v : Judgement) → IsChange x → IsVerdict opening site h m asker x v → IsTold opening site h m asker limit (Ok x) (acknowledged (rules opening h) asker (header_of x) v) (next h v)
+  change-told : (x : Message) (v : Judgement) → IsChange x → IsVerdict opening site h m asker x v → IsTold opening site h m asker limit heading (Ok x) (acknowledged (rules opening h) asker (header_of x) v) (next h v)
   unfolding IsTold
   change-told (message.Registration header r) v is verdict = (v, verdict, refl, refl)
   change-told (message.ServiceRequest header q) v is verdict = absurd is
@@ -59,17 +60,19 @@ module _ (opening : List AnyRule) (site : Place) (h : History) (m asker limit : 
 
   -- ---- questions
 
-  pub unread-replies : (read : Result Message WireFault) (e : WireFault) (reply audit : List ℕ) → read ≡ Err e → reply ≡ [] → audit ≡ [] → RepliesTo opening site h m asker limit read sent.Silence reply audit
-  unread-replies read e reply audit is r a = record {
-    told = silence;
-    is = subst (λ (x : Result Message WireFault). IsTold opening site h m asker limit x silence h) (sym is) (unread-told e);
-    tells = silence-tells reply audit r a;
+  -- with the rules of the directory's state
+  pub unread-replies : (read : Result Message WireFault) (e : WireFault) (rs : List AnyRule) (what : Sent) (reply audit : List ℕ) → read ≡ Err e → rs ≡ rules opening h
+      → Tells (faulted rs asker heading e) what reply audit → RepliesTo opening site h m asker limit heading read what reply audit
+  unread-replies read e rs what reply audit is ruled t = record {
+    told = faulted (rules opening h) asker heading e;
+    is = subst (λ (x : Result Message WireFault). IsTold opening site h m asker limit heading x (faulted (rules opening h) asker heading e) h) (sym is) (unread-told e);
+    tells = subst (λ (r : List AnyRule). Tells (faulted r asker heading e) what reply audit) ruled t;
   }
 
-  pub other-replies : (read : Result Message WireFault) (x : Message) (reply audit : List ℕ) → read ≡ Ok x → request_of x ≡ None → may_change x ≡ false → reply ≡ [] → audit ≡ [] → RepliesTo opening site h m asker limit read sent.Silence reply audit
+  pub other-replies : (read : Result Message WireFault) (x : Message) (reply audit : List ℕ) → read ≡ Ok x → request_of x ≡ None → may_change x ≡ false → reply ≡ [] → audit ≡ [] → RepliesTo opening site h m asker limit heading read sent.Silence reply audit
   other-replies read x reply audit is none still r a = record {
     told = silence;
-    is = subst (λ (y : Result Message WireFault). IsTold opening site h m asker limit y silence h) (sym is) (other-told x none still);
+    is = subst (λ (y : Result Message WireFault). IsTold opening site h m asker limit heading y silence h) (sym is) (other-told x none still);
     tells = silence-tells reply audit r a;
   }
 
@@ -80,30 +83,31 @@ module _ (opening : List AnyRule) (site : Place) (h : History) (m asker limit : 
   request-is (message.Acknowledgement g code) header q is = absurd (none-some _ is)
 
   pub request-replies : (read : Result Message WireFault) (x : Message) (header : Header) (q : ServiceRequest) (what : Sent) (reply audit : List ℕ) → read ≡ Ok x → request_of x ≡ Some (header, q)
-      → (t : Told) × IsFoundOf opening site h m asker limit header q t × Tells t what reply audit → RepliesTo opening site h m asker limit read what reply audit
+      → (t : Told) × IsFoundOf opening site h m asker limit header q t × Tells t what reply audit → RepliesTo opening site h m asker limit heading read what reply audit
   request-replies read x header q what reply audit is some found = record {
     told = found.0;
-    is = subst (λ (y : Result Message WireFault). IsTold opening site h m asker limit y found.0 h) (sym (is ∙ ap Ok (request-is x header q some))) (request-told header q found.0 found.1);
+    is = subst (λ (y : Result Message WireFault). IsTold opening site h m asker limit heading y found.0 h) (sym (is ∙ ap Ok (request-is x header q some))) (request-told header q found.0 found.1);
     tells = found.2;
   }
 
 -- ---- changes
 
-module _ (opening : List AnyRule) (site : Place) (h : History) (m asker : ℕ) where
-  pub unread-acknowledges : (read : Result Message WireFault) (e : WireFault) (reply audit : List ℕ) → read ≡ Err e → reply ≡ [] → audit ≡ [] → AcknowledgesTo opening site h m asker read sent.Silence None reply audit
-  unread-acknowledges read e reply audit is r a = record {
-    told = silence;
+module _ (opening : List AnyRule) (site : Place) (h : History) (m asker : ℕ) (heading : Option Heading) where
+  pub unread-acknowledges : (read : Result Message WireFault) (e : WireFault) (rs : List AnyRule) (what : Sent) (reply audit : List ℕ) → read ≡ Err e → rs ≡ rules opening h
+      → Tells (faulted rs asker heading e) what reply audit → AcknowledgesTo opening site h m asker heading read what None reply audit
+  unread-acknowledges read e rs what reply audit is ruled t = record {
+    told = faulted (rules opening h) asker heading e;
     after = h;
-    is = λ limit. subst (λ (x : Result Message WireFault). IsTold opening site h m asker limit x silence h) (sym is) (unread-told opening site h m asker limit e);
-    tells = silence-tells reply audit r a;
+    is = λ limit. subst (λ (x : Result Message WireFault). IsTold opening site h m asker limit heading x (faulted (rules opening h) asker heading e) h) (sym is) (unread-told opening site h m asker limit heading e);
+    tells = subst (λ (r : List AnyRule). Tells (faulted r asker heading e) what reply audit) ruled t;
     changed = refl;
   }
 
-  pub read-acknowledges : (read : Result Message WireFault) (x : Message) (what : Sent) (change : Option Change) (reply audit : List ℕ) → read ≡ Ok x → AcknowledgesTo opening site h m asker (Ok x) what change reply audit → AcknowledgesTo opening site h m asker read what change reply audit
-  read-acknowledges read x what change reply audit is a = subst (λ (y : Result Message WireFault). AcknowledgesTo opening site h m asker y what change reply audit) (sym is) a
+  pub read-acknowledges : (read : Result Message WireFault) (x : Message) (what : Sent) (change : Option Change) (reply audit : List ℕ) → read ≡ Ok x → AcknowledgesTo opening site h m asker heading (Ok x) what change reply audit → AcknowledgesTo opening site h m asker heading read what change reply audit
+  read-acknowledges read x what change reply audit is a = subst (λ (y : Result Message WireFault). AcknowledgesTo opening site h m asker heading y what change reply audit) (sym is) a
 
-  judged-told : (limit : ℕ) (x : Message) (v w : Judgement) → IsChange x → IsVerdict opening site h m asker x v → v ≡ w → IsTold opening site h m asker limit (Ok x) (acknowledged (rules opening h) asker (header_of x) w) (next h w)
-  judged-told limit x v w is verdict same = subst (λ (u : Judgement). IsTold opening site h m asker limit (Ok x) (acknowledged (rules opening h) asker (header_of x) u) (next h u)) same (change-told opening site h m asker limit x v is verdict)
+  judged-told : (limit : ℕ) (x : Message) (v w : Judgement) → IsChange x → IsVerdict opening site h m asker x v → v ≡ w → IsTold opening site h m asker limit heading (Ok x) (acknowledged (rules opening h) asker (header_of x) w) (next h w)
+  judged-told limit x v w is verdict same = subst (λ (u : Judgement). IsTold opening site h m asker limit heading (Ok x) (acknowledged (rules opening h) asker (header_of x) u) (next h u)) same (change-told opening site h m asker limit heading x v is verdict)
 
   telling-tells : (rs : List AnyRule) (x : Message) (header : Header) (code : ℕ) (because : Because) (what : Sent) (reply audit : List ℕ) → rs ≡ rules opening h → header ≡ header_of x
       → Tells (telling rs (audit_of asker Register code because) (coded 5 header code)) what reply audit → Tells (telling (rules opening h) (audit_of asker Register code because) (coded 5 (header_of x) code)) what reply audit
@@ -113,7 +117,7 @@ module _ (opening : List AnyRule) (site : Place) (h : History) (m asker : ℕ) w
 
   pub accept-acknowledges : (x : Message) (j : Judged) (change : Change) (because : Because) (rs : List AnyRule) (header : Header) (what : Sent) (reply audit : List ℕ) → IsChange x → IsMessage x → IsLegal opening site h
       → (v : Judgement) × IsVerdict opening site h m asker x v × IsJudgedAs h j v → j ≡ judged.Accept change because → rs ≡ rules opening h → header ≡ header_of x
-      → Tells (telling rs (audit_of asker Register 0 because) (coded 5 header 0)) what reply audit → AcknowledgesTo opening site h m asker (Ok x) what (Some change) reply audit
+      → Tells (telling rs (audit_of asker Register 0 because) (coded 5 header 0)) what reply audit → AcknowledgesTo opening site h m asker heading (Ok x) what (Some change) reply audit
   accept-acknowledges x j change because rs header what reply audit is sound legal verdict accepted ruled same t =
       let stands = subst (λ (k : Judged). IsJudgedAs h k verdict.0) accepted verdict.2 in
       record {
@@ -126,7 +130,7 @@ module _ (opening : List AnyRule) (site : Place) (h : History) (m asker : ℕ) w
 
   pub deny-acknowledges : (x : Message) (j : Judged) (code : ℕ) (because : Because) (rs : List AnyRule) (header : Header) (what : Sent) (reply audit : List ℕ) → IsChange x
       → (v : Judgement) × IsVerdict opening site h m asker x v × IsJudgedAs h j v → j ≡ judged.Deny code because → rs ≡ rules opening h → header ≡ header_of x
-      → Tells (telling rs (audit_of asker Register code because) (coded 5 header code)) what reply audit → AcknowledgesTo opening site h m asker (Ok x) what None reply audit
+      → Tells (telling rs (audit_of asker Register code because) (coded 5 header code)) what reply audit → AcknowledgesTo opening site h m asker heading (Ok x) what None reply audit
   deny-acknowledges x j code because rs header what reply audit is verdict denied ruled same t =
       let stands = subst (λ (k : Judged). IsJudgedAs h k verdict.0) denied verdict.2 in
       record {
@@ -138,7 +142,7 @@ module _ (opening : List AnyRule) (site : Place) (h : History) (m asker : ℕ) w
       }
 
   pub nothing-acknowledges : (x : Message) (j : Judged) (reply audit : List ℕ) → IsChange x → (v : Judgement) × IsVerdict opening site h m asker x v × IsJudgedAs h j v → j ≡ judged.Nothing → reply ≡ [] → audit ≡ []
-      → AcknowledgesTo opening site h m asker (Ok x) sent.Silence None reply audit
+      → AcknowledgesTo opening site h m asker heading (Ok x) sent.Silence None reply audit
   nothing-acknowledges x j reply audit is verdict nothing r a =
       let stands = subst (λ (k : Judged). IsJudgedAs h k verdict.0) nothing verdict.2 in
       record {

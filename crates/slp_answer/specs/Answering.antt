@@ -6,9 +6,10 @@ use Rattle.slp_text.specs.Key.{key_of}
 use Rattle.slp_text.specs.Scopes.{scopes_of}
 use Rattle.slp_text.specs.Words.{bytes_eq, is_blank}
 use Rattle.slp_text.specs.declared.faults.TextFault.{TextFault}
-use Rattle.slp_wire.specs.Headers.{heading_of, refusal_bytes}
+use Rattle.slp_wire.specs.Headers.{Heading, heading_of, refusal_bytes, reply_function_of}
 use Rattle.slp_wire.specs.Reading.{reading}
 use Rattle.slp_wire.specs.declared.fault.WireFault.{WireFault}
+use Rattle.slp_wire.specs.declared.fault.WireFault.TheVariants as fault
 use Rattle.slp_wire.specs.declared.header.Header.{Header}
 use Rattle.slp_wire.specs.declared.message.Message.{Message}
 use Rattle.slp_wire.specs.declared.message.Message.TheVariants as message
@@ -24,6 +25,7 @@ use Rattle.directory_judge.specs.Judging.{Judgement, Accepts, Ignores, Denies, a
 use Rattle.directory_judge.specs.Meaning.{rules}
 use Rattle.directory_judge.specs.Sites.{Place}
 use Rattle.directory_judge.specs.declared.because.Because.{Because}
+use Rattle.directory_judge.specs.declared.because.Decider.{Decider}
 use Rattle.directory_judge.specs.declared.because.Decider.TheVariants as decider
 use Rattle.directory_state.specs.Asking.{AreServices}
 use Rattle.directory_state.specs.Verdicts.{IsLegal, IsVerdict, next}
@@ -36,6 +38,7 @@ use Rattle.slp_answer.specs.declared.answer.Sent.TheVariants as sent
 use Rattle.slp_answer.specs.Auditing.{audit_text}
 use Rattle.slp_answer.specs.declared.audit.Audit.{Audit}
 use Rattle.slp_answer.specs.Cutting.{IsCut}
+use Rattle.slp_answer.specs.Refusing.{action_of, is_unsent}
 
 -- ---- which bytes ask for a change
 
@@ -88,6 +91,40 @@ acknowledged rs asker h (Accepts c because) = telling rs (audit_of asker Registe
 acknowledged rs asker h Ignores = silence
 acknowledged rs asker h (Denies code because) = telling rs (audit_of asker Register code because) (coded 5 h code)
 
+-- ---- bytes that are no message that is read
+
+-- the code of a fault, and the name of the step that asks for it
+abbrev pub code_of_fault : WireFault → Option (ℕ × Decider)
+code_of_fault fault.Version = Some (9, decider.Version)
+code_of_fault fault.Parse = Some (2, decider.Parse)
+code_of_fault fault.Auth = Some (5, decider.Auth)
+code_of_fault fault.Option = Some (12, decider.Option)
+code_of_fault fault.NoHeader = None
+code_of_fault fault.Unknown = None
+code_of_fault fault.NoMemory = None
+code_of_fault fault.TooLong = None
+
+-- an error in answer to a question that was sent to many is not sent; the audit line stands
+abbrev pub refusing : List AnyRule → ℕ → Heading → ℕ → ℕ × Decider → Told
+refusing rs asker h function why = record {
+  reply = if is_unsent h then [] else refusal_bytes function why.0 h.xid h.language;
+  audit = audit_text rs (audit_of asker (action_of h.function) why.0 (by_step why.1 None));
+  code = if is_unsent h then None else Some why.0;
+}
+
+-- the function of the reply, and the code of the fault, where there are both
+abbrev pub faulted_by : List AnyRule → ℕ → Heading → Option ℕ → Option (ℕ × Decider) → Told
+faulted_by rs asker h (Some function) (Some why) = refusing rs asker h function why
+faulted_by rs asker h (Some function) None = silence
+faulted_by rs asker h None why = silence
+
+-- what is told of a fault, where there is a readable header of a function that is answered
+abbrev pub faulted : List AnyRule → ℕ → Option Heading → WireFault → Told
+faulted rs asker None e = silence
+faulted rs asker (Some h) e = faulted_by rs asker h (reply_function_of h.function) (code_of_fault e)
+
+-- ---- service requests, and what is found
+
 -- why none of the scopes of a request is answered for, and why it is answered
 abbrev pub unsupported_audit : ℕ → ServiceQuery → Audit
 unsupported_audit asker q = audit_of asker See 4 (by_step decider.Scope (Some q.kind))
@@ -108,17 +145,17 @@ abbrev pub IsFoundOf : List AnyRule → Place → History → ℕ → ℕ → �
 IsFoundOf opening site h m asker limit header q t = MatchOption (query_of header q) (t ≡ silence) (λ query. IsFound opening site h m asker limit header query t)
 
 -- what is told of a message, and the history after it
-unfoldable pub IsTold : List AnyRule → Place → History → ℕ → ℕ → ℕ → Result Message WireFault → Told → History → Type 0
-IsTold opening site h m asker limit (Ok (message.ServiceRequest header q)) t after = (after ≡ h) × IsFoundOf opening site h m asker limit header q t
-IsTold opening site h m asker limit (Ok (message.Registration header r)) t after =
+unfoldable pub IsTold : List AnyRule → Place → History → ℕ → ℕ → ℕ → Option Heading → Result Message WireFault → Told → History → Type 0
+IsTold opening site h m asker limit heading (Ok (message.ServiceRequest header q)) t after = (after ≡ h) × IsFoundOf opening site h m asker limit header q t
+IsTold opening site h m asker limit heading (Ok (message.Registration header r)) t after =
     (v : Judgement) × IsVerdict opening site h m asker (message.Registration header r) v × (t ≡ acknowledged (rules opening h) asker header v) × (after ≡ next h v)
-IsTold opening site h m asker limit (Ok (message.ServiceReply header r)) t after = (t ≡ silence) × (after ≡ h)
-IsTold opening site h m asker limit (Ok (message.Acknowledgement header code)) t after = (t ≡ silence) × (after ≡ h)
-IsTold opening site h m asker limit (Err e) t after = (t ≡ silence) × (after ≡ h)
+IsTold opening site h m asker limit heading (Ok (message.ServiceReply header r)) t after = (t ≡ silence) × (after ≡ h)
+IsTold opening site h m asker limit heading (Ok (message.Acknowledgement header code)) t after = (t ≡ silence) × (after ≡ h)
+IsTold opening site h m asker limit heading (Err e) t after = (t ≡ faulted (rules opening h) asker heading e) × (after ≡ h)
 
 -- what bytes may be told that come from an asker at a moment, and the history after them
 abbrev pub IsAnswer : List AnyRule → Place → History → ℕ → ℕ → ℕ → List ℕ → Told → History → Type 0
-IsAnswer opening site h m asker limit bytes t after = IsTold opening site h m asker limit (reading bytes) t after
+IsAnswer opening site h m asker limit bytes t after = IsTold opening site h m asker limit (heading_of bytes) (reading bytes) t after
 
 -- ---- what the code answers
 
@@ -134,13 +171,13 @@ pub record Tells (t : Told) (what : Sent) (reply audit : List ℕ) : Type 0 wher
   pub sent : code_of what ≡ t.code
 
 -- what was answered to what was read, which changes nothing
-pub record RepliesTo (opening : List AnyRule) (site : Place) (h : History) (m asker limit : ℕ) (read : Result Message WireFault) (what : Sent) (reply audit : List ℕ) : Type 0 where
+pub record RepliesTo (opening : List AnyRule) (site : Place) (h : History) (m asker limit : ℕ) (heading : Option Heading) (read : Result Message WireFault) (what : Sent) (reply audit : List ℕ) : Type 0 where
   pub told : Told
-  pub is : IsTold opening site h m asker limit read told h
+  pub is : IsTold opening site h m asker limit heading read told h
   pub tells : Tells told what reply audit
 
 abbrev pub Replies : List AnyRule → Place → History → ℕ → ℕ → ℕ → List ℕ → Sent → List ℕ → List ℕ → Type 0
-Replies opening site h m asker limit bytes what reply audit = RepliesTo opening site h m asker limit (reading bytes) what reply audit
+Replies opening site h m asker limit bytes what reply audit = RepliesTo opening site h m asker limit (heading_of bytes) (reading bytes) what reply audit
 
 -- what is handed out where the history grows: a change that stands for its last event, which is a legal one; and none where it does not
 abbrev pub HandsOut : List AnyRule → Place → History → Option Change → History → Type 0
@@ -148,12 +185,12 @@ HandsOut opening site h change after =
     MatchOption change (after ≡ h) (λ c. (event : Event) × (after ≡ event ∷ h) × StandsFor h (content c) event × IsLegal opening site (event ∷ h))
 
 -- what was answered to what was read, and the change that is handed out
-pub record AcknowledgesTo (opening : List AnyRule) (site : Place) (h : History) (m asker : ℕ) (read : Result Message WireFault) (what : Sent) (change : Option Change) (reply audit : List ℕ) : Type 0 where
+pub record AcknowledgesTo (opening : List AnyRule) (site : Place) (h : History) (m asker : ℕ) (heading : Option Heading) (read : Result Message WireFault) (what : Sent) (change : Option Change) (reply audit : List ℕ) : Type 0 where
   pub told : Told
   pub after : History
-  pub is : (limit : ℕ) → IsTold opening site h m asker limit read told after
+  pub is : (limit : ℕ) → IsTold opening site h m asker limit heading read told after
   pub tells : Tells told what reply audit
   pub changed : HandsOut opening site h change after
 
 abbrev pub Acknowledges : List AnyRule → Place → History → ℕ → ℕ → List ℕ → Sent → Option Change → List ℕ → List ℕ → Type 0
-Acknowledges opening site h m asker bytes what change reply audit = AcknowledgesTo opening site h m asker (reading bytes) what change reply audit
+Acknowledges opening site h m asker bytes what change reply audit = AcknowledgesTo opening site h m asker (heading_of bytes) (reading bytes) what change reply audit

@@ -19,10 +19,9 @@ pub record IsRead (bytes : List ℕ) (m : Message) : Type 0 where
   pub sound : IsMessage m
   pub change : is_change_of bytes ≡ may_change m
 
--- the bytes are no message that is read
-pub record IsUnread (bytes : List ℕ) : Type 0 where
-  pub fault : WireFault
-  pub read : reading bytes ≡ Err fault
+-- the bytes are no message that is read, by this fault
+abbrev pub IsUnread : List ℕ → WireFault → Type 0
+IsUnread bytes e = reading bytes ≡ Err e
 
 -- the service request that a message is, if it is one
 abbrev pub request_of : Message → Option (Header × ServiceRequest)

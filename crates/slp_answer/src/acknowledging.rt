@@ -1,4 +1,5 @@
-ghost use Rattle.std.specs.Prelude.{◌≡◌, [], true, List, IfOk, OnErr};
+ghost use Rattle.std.specs.Prelude.{◌≡◌, [], true, List, Option, IfOk, OnErr};
+ghost use Rattle.slp_wire.specs.Headers.{Heading};
 ghost use Rattle.slp_wire.specs.Messages.{IsMessage, header_of};
 ghost use Rattle.access_rules.specs.declared.rule.Action.TheVariants.{Register};
 ghost use Rattle.access_rules.specs.declared.rule.Rule.{Rule as AnyRule};
@@ -11,6 +12,7 @@ ghost use Rattle.std.specs.Prelude.{Ok as Read};
 
 use crate::answer::{Answer, Sent};
 use crate::audit::Audit;
+use crate::faulting::answer_fault;
 use crate::sending::{reply_header, send};
 use crate::understanding::understood;
 use access_rules::{Action, Addr};
@@ -68,7 +70,7 @@ fn acknowledge_message<R: Registry>(
     requires no_reply { answer.old.bytes.items ≡ [] }
     requires no_line { answer.old.audit.items ≡ [] }
     ensures { (opening : List AnyRule) (h : History) → Fold opening directory.now.site h directory.now → IsLegal opening directory.now.site h
-        → IfOk result (λ r. AcknowledgesTo opening directory.now.site h moment asker (Read message) r.0 r.1 answer.new.bytes.items answer.new.audit.items) }
+        → (heading : Option Heading) → IfOk result (λ r. AcknowledgesTo opening directory.now.site h moment asker heading (Read message) r.0 r.1 answer.new.bytes.items answer.new.audit.items) }
 {
     let judged = directory.judge(alloc, moment, asker, &message)?;
     let header = into_header(message);
@@ -100,8 +102,11 @@ fn acknowledge_bytes<R: Registry>(
         → IfOk result (λ r. Acknowledges opening directory.now.site h moment asker bytes.now r.0 r.1 answer.new.bytes.items answer.new.audit.items) }
 {
     match understood(alloc, bytes)? {
-        Some(message) => acknowledge_message(alloc, directory, moment, asker, message, answer),
-        None => Ok((Sent::Silence, None)),
+        Ok(message) => acknowledge_message(alloc, directory, moment, asker, message, answer),
+        Err(fault) => {
+            let sent = answer_fault(directory.rules(), asker, bytes, fault, answer)?;
+            Ok((sent, None))
+        }
     }
 }
 

@@ -5,6 +5,7 @@ mod acknowledging;
 mod answer;
 mod audit;
 mod cutting;
+mod faulting;
 mod refusing;
 mod replying;
 mod sending;

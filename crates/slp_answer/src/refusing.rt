@@ -100,7 +100,8 @@ fn put_line(line: &mut [u8; 128], action: Action, asker: Addr) -> usize
     put_text(line, at, " type=- scope=-\n")
 }
 
-fn action_in(function: u8) -> Action
+/// What a message of a function asks for.
+pub(crate) fn action_in(function: u8) -> Action
     ensures { result ≡ action_of function }
 {
     match function {
@@ -110,8 +111,8 @@ fn action_in(function: u8) -> Action
     }
 }
 
-// A question that was sent to many gets no error (RFC 2608, section 7).
-fn is_silent(header: &HeaderView<'_>) -> bool
+/// Whether a question that was sent to many, which gets no error (RFC 2608, section 7).
+pub(crate) fn is_silent(header: &HeaderView<'_>) -> bool
     ensures { result ≡ is_unsent (heading header.now) }
 {
     header.flags & MULTICAST != 0 && matches!(header.function, 1 | 6 | 9)

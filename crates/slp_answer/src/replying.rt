@@ -12,6 +12,7 @@ ghost use Rattle.slp_answer.specs.Cutting.{IsCut};
 use crate::answer::{Answer, Sent};
 use crate::audit::Audit;
 use crate::cutting::fitting;
+use crate::faulting::answer_fault;
 use crate::sending::{reply_header, send};
 use crate::understanding::{into_request, understood};
 use access_rules::{Action, Addr};
@@ -172,8 +173,9 @@ fn answer_bytes<R: Registry>(
     ensures { (opening : List AnyRule) (h : History) → Fold opening directory.now.site h directory.now → IsLegal opening directory.now.site h
         → IfOk result (λ what. Replies opening directory.now.site h moment asker limit bytes.now what answer.new.bytes.items answer.new.audit.items) }
 {
-    let Some(message) = understood(alloc, bytes)? else {
-        return Ok(Sent::Silence);
+    let message = match understood(alloc, bytes)? {
+        Ok(message) => message,
+        Err(fault) => return answer_fault(directory.rules(), asker, bytes, fault, answer),
     };
     let Some((header, request)) = into_request(message) else {
         return Ok(Sent::Silence);

@@ -1,18 +1,18 @@
-ghost use Rattle.std.specs.Prelude.{◌≡◌, IfOk, MatchOption};
+ghost use Rattle.std.specs.Prelude.{◌≡◌, IfOk, MatchResult};
 ghost use Rattle.slp_answer.specs.Understanding.{IsRead, IsUnread, request_of};
 
 use slp_text::NoMemory;
 use slp_wire::{Header, Message, ServiceRequest, WireFault, decode};
 use std::alloc::Global;
 
-/// The message that bytes are, if they are one that is read.
-pub fn understood(alloc: Global, bytes: &[u8]) -> Result<Option<Message>, NoMemory>
-    ensures { IfOk result (λ o. MatchOption o (IsUnread bytes.now) (IsRead bytes.now)) }
+/// What bytes are: a message that is read, or the fault for which they are none.
+pub fn understood(alloc: Global, bytes: &[u8]) -> Result<Result<Message, WireFault>, NoMemory>
+    ensures { IfOk result (λ read. MatchResult read (IsRead bytes.now) (IsUnread bytes.now)) }
 {
     match decode(alloc, bytes) {
-        Ok(message) => Ok(Some(message)),
+        Ok(message) => Ok(Ok(message)),
         Err(WireFault::NoMemory) => Err(NoMemory),
-        Err(_) => Ok(None),
+        Err(fault) => Ok(Err(fault)),
     }
 }
 

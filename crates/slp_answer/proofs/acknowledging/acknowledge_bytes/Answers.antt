@@ -1,10 +1,20 @@
-use Rattle.std.proofs.Common.{None, subst}
-use Rattle.std.specs.Prelude.{MatchOption}
+use Rattle.std.proofs.Common.{subst, ◌∙◌}
+use Rattle.std.specs.Prelude.{MatchResult}
+use Rattle.slp_wire.specs.Headers.{heading_of}
 use Rattle.slp_answer.specs.Understanding.{IsRead, IsUnread}
-use Rattle.slp_answer.proofs.Tellings.{unread-acknowledges}
+use Rattle.slp_answer.proofs.Questions.{IfOk-more}
+use Rattle.slp_answer.proofs.Tellings.{unread-acknowledges, read-acknowledges}
 use Rattle.slp_answer.proofs.acknowledging.acknowledge_bytes.Goals as goal
 
-pub returns-in-None : goal.returns-in-None
-returns-in-None g c = λ opening h fold legal.
-    let unread : IsUnread c.args.bytes.now = subst (λ o. MatchOption o (IsUnread c.args.bytes.now) (IsRead c.args.bytes.now)) c.in-None.is c.in_ok-message.ensures in
-    unread-acknowledges opening c.args.directory.now.site h c.args.moment c.args.asker _ unread.fault c.args.answer.now.bytes.items c.args.answer.now.audit.items unread.read c.requires.no_reply c.requires.no_line
+pub returns-in-Ok : goal.returns-in-Ok
+returns-in-Ok g c = λ opening h fold legal.
+    let read : IsRead c.args.bytes.now c.in-Ok.message = subst (λ r. MatchResult r (IsRead c.args.bytes.now) (IsUnread c.args.bytes.now)) c.in-Ok.is c.in_ok-message.ensures in
+    IfOk-more c.acknowledge_message.result _ _
+    (λ r told. read-acknowledges opening c.args.directory.now.site h c.args.moment c.args.asker (heading_of c.args.bytes.now) _ c.in-Ok.message r.0 r.1 c.acknowledge_message.new.answer.bytes.items c.acknowledge_message.new.answer.audit.items read.read told)
+    (c.acknowledge_message.ensures opening h fold legal (heading_of c.args.bytes.now))
+
+pub returns-in_ok-sent-in-Err : goal.returns-in_ok-sent-in-Err
+returns-in_ok-sent-in-Err g c = λ opening h fold legal.
+    let unread : IsUnread c.args.bytes.now c.in-Err.fault = subst (λ r. MatchResult r (IsRead c.args.bytes.now) (IsUnread c.args.bytes.now)) c.in-Err.is c.in_ok-message.ensures in
+    unread-acknowledges opening c.args.directory.now.site h c.args.moment c.args.asker (heading_of c.args.bytes.now) _ c.in-Err.fault c.rules.result.now c.in_ok-sent-in-Err.sent c.answer_fault.new.answer.bytes.items c.answer_fault.new.answer.audit.items
+    unread (c.rules.ensures ∙ fold.ruled) c.in_ok-sent-in-Err.ensures
