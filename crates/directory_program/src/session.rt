@@ -1,4 +1,5 @@
-ghost use Rattle.std.specs.Prelude.{◌≡◌, IfOk};
+ghost use Rattle.std.specs.Prelude.{◌≡◌, IfOk, MatchResult, string_bytes};
+ghost use Rattle.std.specs.Option.{option_map};
 ghost use Rattle.std.specs.FinMap as fin;
 ghost use Rattle.registry_core.specs.Entries.{of_list};
 ghost use Rattle.directory_program.specs.Sites.{opening_place};
@@ -59,6 +60,8 @@ fn opening_registry(alloc: Global) -> Result<ListRegistry, NoMemory>
 
 impl Session {
     ghost use Rattle.directory_program.specs.Opening.{opening_session};
+    ghost use Rattle.directory_program.specs.Holding.{Holds, Takes};
+    ghost use Rattle.directory_program.specs.Running.{World};
 
     /// The setup with which a run begins: the scope `DEFAULT`, room for 16 entries, and rules that
     /// allow everything to everyone.
@@ -82,7 +85,11 @@ impl Session {
         alloc: Global,
         bytes: &[u8],
         answer: &mut Answer,
-    ) -> Result<Option<String>, NoMemory> {
+    ) -> Result<Option<String>, NoMemory>
+        ensures { (w : World) → Holds w self.old → MatchResult result
+            (λ shown. Takes w bytes.now (option_map string_bytes shown) answer.new.audit.items self.new)
+            (λ _. self.new ≡ self.old) }
+    {
         if !is_change(bytes) {
             let sent = reply(
                 alloc,
