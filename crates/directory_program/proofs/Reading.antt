@@ -1,10 +1,12 @@
 -- What a read does to a run.
-use Rattle.std.proofs.Common.{◌≡◌, ℕ, List, [], ◌++◌, take, Option, Some, None, Result, Ok, Err, refl, sym, ap, subst, ◌∙◌, inl, inr, arith}
+use Rattle.std.proofs.Common.{◌≡◌, ℕ, List, [], ◌∷◌, ◌++◌, length, take, Option, Some, None, Result, Ok, Err, refl, sym, ap, subst, ◌∙◌, inl, inr, arith, length-append}
 use Rattle.std.specs.Prelude.{◌⊎◌}
 use Rattle.std.specs.Io.KnownBytes.{Appends, Keeps, Consumes, IsAtEnd}
+use Rattle.std.specs.List.{flat_map}
 use Rattle.std.proofs.lemmas.List.{append-nil}
 use Rattle.directory_state.proofs.Folding.{AreLive-nil}
 use Rattle.directory_program.specs.Holding.{Holds}
+use Rattle.directory_program.specs.Lines.{Line, ended}
 use Rattle.directory_program.specs.Opening.{opening_session}
 use Rattle.directory_program.specs.Running.{RunsUpTo, RunsWhole, beginning}
 use Rattle.directory_program.specs.Feeding.{Stood, Failed, Ends}
@@ -12,7 +14,7 @@ use Rattle.directory_program.specs.Gives.{FaultGives, Gives, KnownFault, KnownGi
 use Rattle.directory_program.specs.declared.place.Place.{Place}
 use Rattle.directory_program.specs.declared.fault.RunFault.{RunFault}
 use Rattle.directory_program.specs.declared.fault.RunFault.TheVariants.{Read, Write, Line as AtLine, NoMemory}
-use Rattle.directory_program.proofs.Known.{Appends-append, Consumes-append}
+use Rattle.directory_program.proofs.Known.{Keeps-same, Appends-none, Appends-append, Consumes-none, Consumes-append}
 
 -- nothing happened in the setup with which a run begins
 pub Holds-opening : Holds beginning opening_session
@@ -32,6 +34,19 @@ Stood-begin p n s = record {
   short = omega arith;
   stands = record { commands = []; reads = refl; world = beginning; prints = (refl, refl); holds = rw s Holds-opening; number = n };
 }
+
+no_lines : (ls : List Line) (line : List ℕ) → [] ≡ flat_map ended ls ++ line → length ls ≡ 0
+no_lines [] line e = refl
+no_lines (l ∷ ls) line e = absurd (omega (arith, simp length-append at (ap length e)))
+
+-- where nothing was read there was no line
+pub Stood-new : (p : Place) → Stood [] [] [] p → p.number ≡ 0
+Stood-new p s = s.stands.number ∙ no_lines s.lines [] s.text
+
+-- a run that never began
+pub Gives-lacks : (r w : Option (List ℕ)) → Gives r r w w (Err NoMemory)
+Gives-lacks r w =
+    ([], [], Consumes-none r r (Keeps-same r), Appends-none w, ([], [], [], refl, refl, (beginning, (refl, refl))))
 
 pub Consumes-keeps : (a b c : Option (List ℕ)) (xs : List ℕ) → Consumes a b xs → Keeps b c → Consumes a c xs
 Consumes-keeps None b c xs h k = tt

@@ -33,4 +33,4 @@ last_fails w v read out line p (AtLine n) s some f =
 pub returns-in_err-turn : goal.returns-in_err-turn
 returns-in_err-turn g c = λ read out s.
     let p = err_from_is_err_and c.from_residual.result c.from_residual.ensures.1 in
-    rw (p.1, p.2) (last_fails _ _ read out c.args.line.now c.args.place.now _ s (is_some c.args.line.now _ c.is_empty.ensures c.if-is_empty.false) c.in_err-turn.ensures)
+    rw (p.1, p.2) (last_fails _ _ read out c.args.line.now c.args.place.now _ s (is_some c.args.line.now _ c.is_empty.ensures (let x = c.if-not-is_empty in ?)) c.in_err-turn.ensures)

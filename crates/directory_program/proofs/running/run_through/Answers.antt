@@ -3,7 +3,7 @@ use Rattle.std.proofs.lemmas.Grind.{common_steps}
 use Rattle.std.proofs.lemmas.Result.{err_from_is_err_and}
 use Rattle.directory_program.specs.Feeding.{Stood}
 use Rattle.directory_program.proofs.Known.{Keeps-same, Appends-none, Appends-append, Appends-keeps, Consumes-none, Consumes-append}
-use Rattle.directory_program.proofs.Reading.{Stood-begin, Consumes-keeps, Consumes-end, Gives-ends, Gives-failed, Gives-read}
+use Rattle.directory_program.proofs.Reading.{Stood-new, Consumes-keeps, Consumes-end, Gives-ends, Gives-failed, Gives-read}
 use Rattle.directory_program.proofs.running.run_through.Goals as goal
 use Rattle.directory_program.proofs.running.run_through.Goals.{in-Ok+in_ok-feed-in-Ok, in-Err+else-ne}
 
@@ -16,8 +16,8 @@ short_piece n buf h = grind (arith, common_steps)
 pub loop-turn-init : goal.loop-turn-init
 loop-turn-init g c = record {
   kept = omega (arith, c.new-line.ensures.len);
-  counted = omega (arith, c.new-place.ensures.number);
-  stood = ([], [], Consumes-none _ _ (Keeps-same _), Appends-none _, rw c.new-line.ensures.items (Stood-begin c.new-place.result c.new-place.ensures.number c.new-place.ensures.block c.new-place.ensures.server));
+  counted = omega (arith, Stood-new c.args.place.now c.requires.begun);
+  stood = ([], [], Consumes-none _ _ (Keeps-same _), Appends-none _, rw c.new-line.ensures.items c.requires.begun);
 }
 
 pub returns-in-Ok-eq0 : goal.returns-in-Ok-eq0

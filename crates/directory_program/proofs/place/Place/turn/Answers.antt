@@ -1,4 +1,4 @@
-use Rattle.std.proofs.Common.{◌≡◌, ℕ, List, [], refl, sym, ap, subst}
+use Rattle.std.proofs.Common.{◌≡◌, ℕ, ◌+◌, List, [], refl, sym, ap, subst}
 use Rattle.directory_program.specs.Commands.{Order, Blank, At, From, Udp}
 use Rattle.directory_program.specs.Holding.{Acts}
 use Rattle.directory_program.specs.Saying.{Says}
