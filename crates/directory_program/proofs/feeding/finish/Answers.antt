@@ -33,4 +33,15 @@ last_fails w v read out line p (AtLine n) s some f =
 pub returns-in_err-turn : goal.returns-in_err-turn
 returns-in_err-turn g c = λ read out s.
     let p = err_from_is_err_and c.from_residual.result c.from_residual.ensures.1 in
-    rw (p.1, p.2) (last_fails _ _ read out c.args.line.now c.args.place.now _ s (is_some c.args.line.now _ c.is_empty.ensures (let x = c.if-not-is_empty in ?)) c.in_err-turn.ensures)
+    rw (p.1, p.2) (last_fails _ _ read out c.args.line.now c.args.place.now _ s (is_some c.args.line.now _ c.is_empty.ensures c.if-not-is_empty.true) c.in_err-turn.ensures)
+
+pub returns-in_ok-turn : goal.returns-in_ok-turn
+returns-in_ok-turn g c = λ read out s.
+    let h = c.in_ok-turn.ensures in
+    (h.0, h.1, Stood-last read out c.args.line.now c.args.place.now h.0 c.turn.new.self s (is_some c.args.line.now _ c.is_empty.ensures c.if-not-is_empty.true) h.2)
+
+pub returns-else-not-is_empty : goal.returns-else-not-is_empty
+returns-else-not-is_empty g c = λ read out s.
+    let none = is_none c.args.line.now _ c.is_empty.ensures c.if-not-is_empty.false in
+    let t : Stood read out [] c.args.place.now = rw none at s in
+    ([], Appends-none _, rw (append-nil out) (Stood-end read out c.args.place.now t))

@@ -20,7 +20,7 @@ returns-in-Wrong g c =
 
 pub returns : goal.returns
 unfolding Says
-returns g c = elim c.match-read_line.branch [
+returns g c = elim c.match-branch-2.branch [
   | in-Blank w ↦
       let says = rw w.in-Blank.is at c.in_ok-read_line.ensures in
       let same = ap (λ (p : Place). p.session) w.self-is in
@@ -41,5 +41,5 @@ returns g c = elim c.match-read_line.branch [
       let same = ap (λ (p : Place). p.session) w.self-is in
       let count = ap (λ (p : Place). p.number + 1) w.self-is in
       let done = w.in_ok-datagram-in-Udp.ensures in
-      (done.0, rw w.writer-is done.1, record { number = count; order = Udp w.in-Udp.bytes.items; says = says; acts = Acts-same c.args.self.now.session (Udp w.in-Udp.bytes.items) done.0 w.datagram.new.session _ (rw (← w.as_slice-in-Udp.ensures.value) done.2) same })
+      (done.0, rw w.writer-is done.1, record { number = count; order = Udp w.in-Udp.bytes.items; says = says; acts = Acts-same c.args.self.now.session (Udp w.in-Udp.bytes.items) done.0 w.datagram.new.session _ (rw (← w.as_slice.ensures.value) done.2) same })
 ]
