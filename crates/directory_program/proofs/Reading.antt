@@ -104,3 +104,6 @@ Gives-known (Some script) n w u (Ok x) h =
     let k = Consumes-known script h.0 n h.2 in
     let all : script ≡ h.0 = k.1 ∙ (ap (λ v. h.0 ++ v) (k.2 h.3) ∙ append-nil h.0) in
     (h.1, h.4, rw all h.5)
+
+pub KnownGives-lacks : (r w : Option (List ℕ)) → KnownGives r w w (Err NoMemory)
+KnownGives-lacks r w = Gives-known r r w w (Err NoMemory) (Gives-lacks r w)
