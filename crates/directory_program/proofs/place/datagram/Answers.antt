@@ -1,4 +1,4 @@
-use Rattle.std.proofs.Common.{◌≡◌, ℕ, List, ◌∷◌, ◌++◌, Option, Some, None, codes, refl, sym, ◌∙◌}
+use Rattle.std.proofs.Common.{◌∷◌, ◌++◌, Some, None, codes, sym, ◌∙◌}
 use Rattle.std.specs.Prelude.{string_bytes}
 use Rattle.std.specs.Io.KnownBytes.{Appends}
 use Rattle.directory_program.specs.Holding.{Holds}
