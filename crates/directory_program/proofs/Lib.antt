@@ -1,3 +1,10 @@
 pub mod OneByOne
 pub mod Unique
 pub mod Addresses
+pub mod Known
+pub mod Standing
+pub mod Stood
+pub mod Pieces
+pub mod Reading
+pub mod Taking
+pub mod Turning

@@ -1,5 +1,5 @@
 -- What a run promises of what it read and wrote.
-use Rattle.std.specs.Prelude.{◌⊎◌, ℕ, List, ◌++◌, Option, Result, MatchResult, ⊤}
+use Rattle.std.specs.Prelude.{◌⊎◌, ℕ, List, ◌++◌, Option, IfSome, Result, MatchResult, ⊤}
 use Rattle.std.specs.Io.KnownBytes.{Appends, Consumes, IsAtEnd}
 use Rattle.directory_program.specs.Running.{Run, RunsUpTo, RunsPart, RunsWhole}
 use Rattle.directory_program.specs.declared.fault.RunFault.{RunFault}
@@ -19,3 +19,13 @@ Whole r r' w w' = (script out : List ℕ) × Consumes r r' script × IsAtEnd r' 
 
 abbrev pub Gives : Option (List ℕ) → Option (List ℕ) → Option (List ℕ) → Option (List ℕ) → Result (Unit {0}) RunFault → Type 0
 Gives r r' w w' result = MatchResult result (λ _. Whole r r' w w') (FaultGives r r' w w')
+
+-- Where it is known what the reader has, that is the script: what a run of it promises.
+abbrev pub KnownFault : List ℕ → Option (List ℕ) → Option (List ℕ) → RunFault → Type 0
+KnownFault script w w' (AtLine n) = (out : List ℕ) × Appends w w' out × RunsUpTo script n out
+KnownFault script w w' Read = ⊤
+KnownFault script w w' Write = ⊤
+KnownFault script w w' NoMemory = ⊤
+
+abbrev pub KnownGives : Option (List ℕ) → Option (List ℕ) → Option (List ℕ) → Result (Unit {0}) RunFault → Type 0
+KnownGives r w w' result = IfSome r (λ script. MatchResult result (λ _. (out : List ℕ) × Appends w w' out × Run script out) (KnownFault script w w'))

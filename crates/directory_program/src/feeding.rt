@@ -1,5 +1,7 @@
-ghost use Rattle.std.specs.Prelude.{◌≡◌, ◌≤◌, ◌<◌, ◌+◌, ◌^◌, ◌++◌, length, vec_len, OnOk};
+ghost use Rattle.std.specs.Prelude.{◌≡◌, ◌≤◌, ◌<◌, ◌+◌, ◌^◌, ◌++◌, ◌⊎◌, ℕ, List, length, vec_len, OnOk, IfErr};
 ghost use Rattle.directory_program.specs.Commands.{longest_line};
+ghost use Rattle.directory_program.specs.Feeding.{Stood, Fed, Ends};
+ghost use Rattle.directory_program.specs.declared.fault.RunFault.TheVariants.{Line as AtLine, NoMemory as Lacking};
 
 use crate::cutting::cut;
 use crate::fault::RunFault;
@@ -14,7 +16,8 @@ fn lengthen(line: &mut Vec<u8>, more: &[u8], number: u64) -> Result<(), RunFault
     requires short { vec_len line.old ≤ longest_line }
     requires room { number + 1 < 2 ^ 64 }
     ensures items { OnOk result (line.new.items ≡ line.old.items ++ more.now) }
-    ensures short { OnOk result (vec_len line.new ≤ longest_line) }
+    ensures short { OnOk result (length (line.old.items ++ more.now) ≤ longest_line) }
+    ensures err { IfErr result (λ e. (e ≡ Lacking) ⊎ ((e ≡ AtLine (number + 1)) × (longest_line < length (line.old.items ++ more.now)))) }
 {
     if more.len() > LONGEST_LINE - line.len() {
         return Err(RunFault::Line(number + 1));
@@ -34,6 +37,8 @@ pub fn feed<W: Write>(
 ) -> Result<(), RunFault>
     requires short { vec_len line.old ≤ longest_line }
     requires room { place.old.number + length piece.now + 1 < 2 ^ 64 }
+    ensures fed { (read out : List ℕ) → Stood read out line.old.items place.old
+        → Fed (W.contents writer.old) (W.contents writer.new) (read ++ piece.now) out result line.new.items place.new }
     ensures number { OnOk result (place.new.number ≤ place.old.number + length piece.now) }
     ensures short { OnOk result (vec_len line.new ≤ longest_line) }
 {
@@ -56,7 +61,9 @@ pub fn finish<W: Write>(
     answer: &mut Answer,
     writer: &mut W,
 ) -> Result<(), RunFault>
-    requires { place.old.number + 1 < 2 ^ 64 }
+    requires short { length line.now ≤ longest_line }
+    requires room { place.old.number + 1 < 2 ^ 64 }
+    ensures { (read out : List ℕ) → Stood read out line.now place.old → Ends (W.contents writer.old) (W.contents writer.new) read out result }
 {
     if !line.is_empty() {
         place.turn(alloc, line, answer, writer)?;

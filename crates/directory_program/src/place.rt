@@ -1,4 +1,9 @@
-ghost use Rattle.std.specs.Prelude.{◌≡◌, ◌<◌, ◌+◌, ◌^◌, OnOk};
+ghost use Rattle.std.specs.Prelude.{◌≡◌, ◌<◌, ◌+◌, ◌^◌, ℕ, List, MatchResult};
+ghost use Rattle.std.specs.Io.KnownBytes.{Appends};
+ghost use Rattle.directory_program.specs.Commands.{Udp as UdpOrder};
+ghost use Rattle.directory_program.specs.Holding.{Acts};
+ghost use Rattle.directory_program.specs.Standing.{TurnsTo, TurnFails};
+ghost use Rattle.directory_program.specs.declared.fault.RunFault.TheVariants.{Write as Unwritten};
 
 use crate::fault::RunFault;
 use crate::printing::{print, print_refusal};
@@ -25,7 +30,11 @@ fn datagram<W: Write>(
     bytes: &[u8],
     answer: &mut Answer,
     writer: &mut W,
-) -> Result<(), RunFault> {
+) -> Result<(), RunFault>
+    ensures { MatchResult result
+        (λ _. (now : List ℕ) × Appends (W.contents writer.old) (W.contents writer.new) now × Acts session.old (UdpOrder bytes.now) now session.new)
+        (λ e. e ≡ Unwritten) }
+{
     let written = match session.take(alloc, bytes, answer) {
         Ok(Some(digits)) => print(Some(digits.as_bytes()), answer.audit.as_slice(), writer),
         Ok(None) => print(None, answer.audit.as_slice(), writer),
@@ -47,7 +56,9 @@ impl Place {
         writer: &mut W,
     ) -> Result<(), RunFault>
         requires { self.old.number + 1 < 2 ^ 64 }
-        ensures { OnOk result (self.new.number ≡ self.old.number + 1) }
+        ensures { MatchResult result
+            (λ _. (now : List ℕ) × Appends (W.contents writer.old) (W.contents writer.new) now × TurnsTo self.old line.now now self.new)
+            (TurnFails self.old line.now (W.contents writer.old) (W.contents writer.new)) }
     {
         match read_line(alloc, line)? {
             Said::Blank => {}

@@ -1,10 +1,17 @@
+ghost use Rattle.std.specs.Prelude.{◌≡◌, ◌++◌, ◌∷◌, codes, OnOk};
+ghost use Rattle.std.specs.Option.{option_map_or};
+ghost use Rattle.std.specs.Io.KnownBytes.{Appends};
+ghost use Rattle.directory_program.specs.Running.{refused};
+
 use access_rules::Addr;
 use slp_answer::refusal;
 use std::io;
 use std::io::Write;
 
 /// Writes what came of a datagram: the digits of the reply or a dash, and the audit line, if any.
-pub fn print<W: Write>(digits: Option<&[u8]>, audit: &[u8], writer: &mut W) -> io::Result<()> {
+pub fn print<W: Write>(digits: Option<&[u8]>, audit: &[u8], writer: &mut W) -> io::Result<()>
+    ensures { OnOk result (Appends (W.contents writer.old) (W.contents writer.new) (codes "> " ++ option_map_or (λ d. d.now) digits.entry (codes "-") ++ 10 ∷ audit.now)) }
+{
     writer.write_all(b"> ")?;
     match digits {
         Some(digits) => writer.write_all(digits)?,
@@ -15,16 +22,15 @@ pub fn print<W: Write>(digits: Option<&[u8]>, audit: &[u8], writer: &mut W) -> i
 }
 
 /// Writes what comes of a datagram that found no memory. Takes none itself.
-pub fn print_refusal<W: Write>(bytes: &[u8], asker: Addr, writer: &mut W) -> io::Result<()> {
+pub fn print_refusal<W: Write>(bytes: &[u8], asker: Addr, writer: &mut W) -> io::Result<()>
+    ensures { OnOk result (Appends (W.contents writer.old) (W.contents writer.new) (refused bytes.now asker)) }
+{
     let mut reply = [0u8; 80];
     let mut line = [0u8; 128];
     let mut digits = [0u8; 160];
     let (sent, told) = refusal(bytes, asker, &mut reply, &mut line);
-    if sent == 0 || sent > 80 || told > 128 {
-        return print(None, &line[..told.min(128)], writer);
-    }
     match hex::encode_to_slice(&reply[..sent], &mut digits[..2 * sent]) {
-        Ok(()) => print(Some(&digits[..2 * sent]), &line[..told], writer),
-        Err(_) => print(None, &line[..told], writer),
+        Ok(()) if sent > 0 => print(Some(&digits[..2 * sent]), &line[..told], writer),
+        _ => print(None, &line[..told], writer),
     }
 }

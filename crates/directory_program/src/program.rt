@@ -1,3 +1,7 @@
+ghost use Rattle.std.specs.Prelude.{◌≡◌, ◌<◌, ◌⊎◌, ◌++◌, ◌∷◌, [], codes, length, IfOk};
+ghost use Rattle.std.specs.Io.KnownBytes.{Appends};
+ghost use Rattle.directory_program.specs.Reporting.{Reports};
+
 use crate::fault::RunFault;
 use crate::running::Replay;
 use std::alloc::Global;
@@ -8,7 +12,9 @@ use std::io::{Read, Write};
 const USAGE: u8 = 64;
 
 // Replays a script, and answers the status.
-fn replay<R: Read, W: Write>(alloc: Global, reader: &mut R, writer: &mut W) -> io::Result<u8> {
+fn replay<R: Read, W: Write>(alloc: Global, reader: &mut R, writer: &mut W) -> io::Result<u8>
+    ensures { IfOk result (Reports (R.remaining reader.old) (R.remaining reader.new) (W.contents writer.old) (W.contents writer.new)) }
+{
     match Replay::new(alloc).run(alloc, reader, writer) {
         Ok(()) => Ok(0),
         Err(RunFault::Read) => Ok(1),
@@ -28,7 +34,10 @@ pub fn replay_run<R: Read, W: Write>(
     words: &[String],
     reader: &mut R,
     writer: &mut W,
-) -> u8 {
+) -> u8
+    ensures usage { 0 < length words.now → (result ≡ 2) ⊎ ((result ≡ 64) × Appends (W.contents writer.old) (W.contents writer.new) (codes "usage: slpreplay" ++ 10 ∷ [])) }
+    ensures runs { length words.now ≡ 0 → Reports (R.remaining reader.old) (R.remaining reader.new) (W.contents writer.old) (W.contents writer.new) result }
+{
     let told = if words.is_empty() {
         replay(alloc, reader, writer)
     } else {

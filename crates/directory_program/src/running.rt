@@ -1,4 +1,6 @@
-ghost use Rattle.std.specs.Prelude.{◌≤◌, ◌<◌, length};
+ghost use Rattle.std.specs.Prelude.{◌≤◌, ◌<◌, [], length};
+ghost use Rattle.directory_program.specs.Feeding.{Stood};
+ghost use Rattle.directory_program.specs.Gives.{Gives};
 
 use crate::fault::RunFault;
 use crate::feeding::{feed, finish};
@@ -30,7 +32,8 @@ fn run_through<R: Read, W: Write>(
 ) -> Result<(), RunFault>
     requires some { 0 < length chunk.old }
     requires small { length chunk.old ≤ 65536 }
-    requires begun { place.old.number ≤ 0 }
+    requires begun { Stood [] [] [] place.old }
+    ensures { Gives (R.remaining reader.old) (R.remaining reader.new) (W.contents writer.old) (W.contents writer.new) result }
 {
     let mut line = Vec::new(alloc);
     for turn in 0..READS {
@@ -51,6 +54,8 @@ fn run_through<R: Read, W: Write>(
 }
 
 impl Replay {
+    ghost use Rattle.directory_program.specs.Gives.{Gives, KnownGives};
+
     /// A replay. Takes no memory.
     pub fn new(alloc: Global) -> Replay {
         Replay {
@@ -66,7 +71,11 @@ impl Replay {
         alloc: Global,
         reader: &mut R,
         writer: &mut W,
-    ) -> Result<(), RunFault> {
+    ) -> Result<(), RunFault>
+        ensures gives { Gives (R.remaining reader.old) (R.remaining reader.new) (W.contents writer.old) (W.contents writer.new) result }
+        // Where it is known what the reader has, that is the script.
+        ensures known { KnownGives (R.remaining reader.old) (W.contents writer.old) (W.contents writer.new) result }
+    {
         let mut chunk = vec![in alloc; 0u8; CHUNK]?;
         let mut place = Place {
             number: 0,

@@ -1,10 +1,13 @@
-ghost use Rattle.std.specs.Prelude.{◌≡◌, IfOk};
+ghost use Rattle.std.specs.Prelude.{◌≡◌, IfOk, MatchResult, string_bytes};
+ghost use Rattle.std.specs.Option.{option_map};
 ghost use Rattle.std.specs.FinMap as fin;
+ghost use Rattle.hex.specs.Hex.{encode_lower};
 ghost use Rattle.registry_core.specs.Entries.{of_list};
+ghost use Rattle.slp_answer.specs.Answering.{code_of};
 ghost use Rattle.directory_program.specs.Sites.{opening_place};
 
 use access_rules::{Addr, Rules};
-use directory_judge::Site;
+use directory_judge::{Change, Site};
 use directory_state::Directory;
 use registry_core::{ListRegistry, RegistryFault};
 use slp_answer::{Answer, Sent, acknowledge, is_change, reply};
@@ -58,7 +61,12 @@ fn opening_registry(alloc: Global) -> Result<ListRegistry, NoMemory>
 }
 
 impl Session {
+    ghost use Rattle.access_rules.specs.Opening.{opening_rules};
+    ghost use Rattle.directory_judge.specs.History.{History};
+    ghost use Rattle.slp_answer.specs.Answering.{Told, Tells, HandsOut, IsAnswer};
     ghost use Rattle.directory_program.specs.Opening.{opening_session};
+    ghost use Rattle.directory_program.specs.Holding.{Holds, Takes};
+    ghost use Rattle.directory_program.specs.Running.{World, longest_reply};
 
     /// The setup with which a run begins: the scope `DEFAULT`, room for 16 entries, and rules that
     /// allow everything to everyone.
@@ -82,38 +90,59 @@ impl Session {
         alloc: Global,
         bytes: &[u8],
         answer: &mut Answer,
-    ) -> Result<Option<String>, NoMemory> {
-        if !is_change(bytes) {
-            let sent = reply(
-                alloc,
-                &self.directory,
-                OWN,
-                self.moment,
-                self.asker,
-                bytes,
-                LONGEST_REPLY,
-                answer,
-            )?;
-            return digits(alloc, sent, answer);
-        }
-        let (sent, change) = acknowledge(
-            alloc,
-            &self.directory,
-            self.moment,
-            self.asker,
-            bytes,
-            answer,
-        )?;
+    ) -> Result<Option<String>, NoMemory>
+        ensures { (w : World) → Holds w self.old → MatchResult result
+            (λ shown. Takes w bytes.now (option_map string_bytes shown) answer.new.audit.items self.new)
+            (λ _. self.new ≡ self.old) }
+    {
+        let (sent, change) = self.respond(alloc, bytes, answer)?;
         let shown = digits(alloc, sent, answer)?;
         if let Some(change) = change {
             self.directory.apply(change);
         }
         Ok(shown)
     }
+
+    // What is answered to a datagram, and the change that it asks for, which is not made yet.
+    fn respond(
+        &self,
+        alloc: Global,
+        bytes: &[u8],
+        answer: &mut Answer,
+    ) -> Result<(Sent, Option<Change>), NoMemory>
+        ensures { (w : World) → Holds w self.now → IfOk result (λ r. (t : Told) × (after : History)
+            × IsAnswer opening_rules opening_place w.history w.moment w.asker longest_reply bytes.now t after
+            × Tells t r.0 answer.new.bytes.items answer.new.audit.items
+            × HandsOut opening_rules opening_place w.history r.1 after) }
+    {
+        if is_change(bytes) {
+            return acknowledge(
+                alloc,
+                &self.directory,
+                self.moment,
+                self.asker,
+                bytes,
+                answer,
+            );
+        }
+        let sent = reply(
+            alloc,
+            &self.directory,
+            OWN,
+            self.moment,
+            self.asker,
+            bytes,
+            LONGEST_REPLY,
+            answer,
+        )?;
+        Ok((sent, None))
+    }
 }
 
 // The hexadecimal digits of what was sent.
-fn digits(alloc: Global, sent: Sent, answer: &Answer) -> Result<Option<String>, NoMemory> {
+fn digits(alloc: Global, sent: Sent, answer: &Answer) -> Result<Option<String>, NoMemory>
+    ensures { IfOk result (λ shown. option_map string_bytes shown ≡ option_map (λ _. encode_lower answer.now.bytes.items) (code_of sent)) }
+{
     match sent {
         Sent::Bytes(_) => Ok(Some(hex::encode(alloc, answer.bytes.as_slice())?)),
         Sent::Silence => Ok(None),

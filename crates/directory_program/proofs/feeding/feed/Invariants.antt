@@ -1,11 +1,14 @@
-use Rattle.std.proofs.Common.{◌+◌, ◌≤◌, length, vec_len}
+use Rattle.std.proofs.Common.{◌≡◌, ◌+◌, ◌≤◌, List, ℕ, ◌++◌, length, vec_len}
 use Rattle.directory_program.specs.Commands.{longest_line}
+use Rattle.directory_program.specs.Feeding.{Stood, Went}
 use Rattle.directory_program.proofs.feeding.feed.Given as goal
 
 abbrev pub invariant-loop-front : goal.invariant-loop-front
 invariant-loop-front g l = record {
-  number : l.place.number + length l.rest ≤ l.fn.place.number + length l.piece;
-  short : vec_len l.line ≤ longest_line;
+  kept : vec_len l.line ≤ longest_line;
+  counted : l.place.number + length l.rest ≤ l.fn.place.number + length l.piece;
+  stood : (read out : List ℕ) → Stood read out l.fn.line.items l.fn.place
+      → (done : List ℕ) × (l.piece ≡ done ++ l.rest) × Went (g.W.Write.contents l.initial.writer) (g.W.Write.contents l.writer) (read ++ done) out l.line.items l.place;
 }
 
 abbrev pub decreases-loop-front : goal.decreases-loop-front

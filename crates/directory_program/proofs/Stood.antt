@@ -1,0 +1,115 @@
+-- What bytes more do to where a run stands.
+use Rattle.std.proofs.Common.{◌≡◌, ◌≢◌, ℕ, ◌+◌, ◌<◌, ◌≤◌, false, List, [], ◌∷◌, ◌++◌, length, None, refl, sym, ap, ◌∙◌, arith, append_assoc, length-append}
+use Rattle.std.specs.Prelude.{◌==◌}
+use Rattle.std.proofs.lemmas.List.{append-nil}
+use Rattle.std.proofs.lemmas.Bool.{ne_eqb}
+use Rattle.std.proofs.lemmas.Grind.{flat_map-append}
+use borrow.Author.Tests.{lt-ltb}
+use Rattle.directory_program.specs.Lines.{Line, onto, lines_of, ended, HasNoLf}
+use Rattle.directory_program.specs.Commands.{order_of, longest_line}
+use Rattle.directory_program.specs.Running.{Run, RunsUpTo, RunsPart}
+use Rattle.directory_program.specs.Standing.{TurnsTo}
+use Rattle.directory_program.specs.Feeding.{Stood}
+use Rattle.directory_program.specs.declared.place.Place.{Place}
+use Rattle.directory_program.proofs.OneByOne.{lines_of-last, lines_of-ended, lines_of-append, All-append}
+use Rattle.directory_program.proofs.Standing.{Stands-turn, Stands-fault}
+
+-- more of the line that is begun
+pub Stood-more : (read out line : List ℕ) (p : Place) (xs : List ℕ) → Stood read out line p → HasNoLf xs → length (line ++ xs) ≤ longest_line → Stood (read ++ xs) out (line ++ xs) p
+Stood-more read out line p xs s free short = record {
+  lines = s.lines;
+  text = rw (s.text, append_assoc) refl;
+  each = s.each;
+  unended = All-append (λ x. x ≢ 10) line xs s.unended free;
+  short = short;
+  stands = s.stands;
+}
+
+-- the line's end
+pub Stood-turn : (read out line : List ℕ) (p : Place) (now : List ℕ) (q : Place) → Stood read out line p → TurnsTo p line now q → Stood (read ++ 10 ∷ []) (out ++ now) [] q
+Stood-turn read out line p now q s t = record {
+  lines = s.lines ++ line ∷ [];
+  text = rw (s.text, flat_map-append ended s.lines (line ∷ []), append_assoc, append-nil, append-nil) refl;
+  each = All-append HasNoLf s.lines (line ∷ []) s.each (s.unended, tt);
+  unended = tt;
+  short = omega arith;
+  stands = Stands-turn s.lines out p line now q s.stands t;
+}
+
+lines_of-read : (read out line : List ℕ) (p : Place) (more : List ℕ) (s : Stood read out line p) → lines_of (read ++ more) ≡ s.lines ++ lines_of (line ++ more)
+lines_of-read read out line p more s = rw (s.text, append_assoc) (lines_of-append s.lines (line ++ more) s.each)
+
+-- the commands so far, whatever else is read
+pub Stood-part : (read out line : List ℕ) (p : Place) (more : List ℕ) → Stood read out line p → RunsPart (read ++ more) out
+Stood-part read out line p more s = (
+  s.stands.commands,
+  s.lines,
+  lines_of (line ++ more),
+  lines_of-read read out line p more s,
+  s.stands.reads,
+  (s.stands.world, s.stands.prints),
+)
+
+-- the line that ends here is at fault
+pub Stood-fault : (read out line : List ℕ) (p : Place) (more : List ℕ) → Stood read out line p → order_of line ≡ None → RunsUpTo (read ++ 10 ∷ more) (p.number + 1) out
+Stood-fault read out line p more s none =
+    let r = Stands-fault s.lines out p line (lines_of more) s.stands none in
+    let e : lines_of (read ++ 10 ∷ more) ≡ s.lines ++ line ∷ lines_of more = lines_of-read read out line p (10 ∷ more) s ∙ ap (λ v. s.lines ++ v) (lines_of-ended line more s.unended) in
+    (r.0, rw e r.1, r.2)
+
+onto-first : (x : ℕ) (ls : List Line) → (tail : List ℕ) × (rest : List Line) × (onto x ls ≡ (x ∷ tail) ∷ rest)
+onto-first x [] = ([], [], refl)
+onto-first x (l ∷ ls) = (l, ls, refl)
+
+lines_of-first : (x : ℕ) (more : List ℕ) → x ≢ 10 → (tail : List ℕ) × (rest : List Line) × (lines_of (x ∷ more) ≡ (x ∷ tail) ∷ rest)
+lines_of-first x more h =
+    let off : (x == 10) ≡ false = ne_eqb x 10 h in
+    rw off (onto-first x (lines_of more))
+
+lines_of-begun : (x : ℕ) (l more : List ℕ) → HasNoLf (x ∷ l) → (tail : List ℕ) × (rest : List Line) × (lines_of (x ∷ (l ++ more)) ≡ (x ∷ (l ++ tail)) ∷ rest)
+lines_of-begun x [] more h = lines_of-first x more h.0
+lines_of-begun x (y ∷ l) more h =
+    let r = lines_of-begun y l more h.1 in
+    let off : (x == 10) ≡ false = ne_eqb x 10 h.0 in
+    (r.0, r.1, rw (off, r.2) refl)
+
+lines_of-within : (a more : List ℕ) → HasNoLf a → 0 < length a → (tail : List ℕ) × (rest : List Line) × (lines_of (a ++ more) ≡ (a ++ tail) ∷ rest)
+lines_of-within [] more h some = absurd (omega arith)
+lines_of-within (x ∷ l) more h some = lines_of-begun x l more h
+
+too_long-order : (l : List ℕ) → longest_line < length l → order_of l ≡ None
+unfolding order_of
+too_long-order l h = rw (lt-ltb _ _ h) refl
+
+-- the line that is begun is too long, whatever else is read
+pub Stood-long : (read out line : List ℕ) (p : Place) (xs more : List ℕ) → Stood read out line p → HasNoLf xs → longest_line < length (line ++ xs) → RunsUpTo ((read ++ xs) ++ more) (p.number + 1) out
+Stood-long read out line p xs more s free long =
+    let first = lines_of-within (line ++ xs) more (All-append (λ x. x ≢ 10) line xs s.unended free) (omega arith) in
+    let whole = line ++ xs ++ first.0 in
+    let size : longest_line < length whole = rw length-append (omega arith) in
+    let r = Stands-fault s.lines out p whole first.1 s.stands (too_long-order whole size) in
+    let e : lines_of ((read ++ xs) ++ more) ≡ s.lines ++ whole ∷ first.1 = rw append_assoc (lines_of-read read out line p (xs ++ more) s ∙ ap (λ v. s.lines ++ v) (ap lines_of (sym (append_assoc line xs more)) ∙ first.2)) in
+    (r.0, rw e r.1, r.2)
+
+ends-empty : (read out : List ℕ) (p : Place) (s : Stood read out [] p) → lines_of read ≡ s.lines
+ends-empty read out p s = ap lines_of (sym (append-nil read)) ∙ (lines_of-read read out [] p [] s ∙ append-nil s.lines)
+
+ends-last : (read out line : List ℕ) (p : Place) (s : Stood read out line p) → 0 < length line → lines_of read ≡ s.lines ++ line ∷ []
+ends-last read out [] p s some = absurd (omega arith)
+ends-last read out (x ∷ l) p s some =
+    ap lines_of (sym (append-nil read)) ∙ (lines_of-read read out (x ∷ l) p [] s ∙ ap (λ v. s.lines ++ v) (ap lines_of (append-nil (x ∷ l)) ∙ lines_of-last (x ∷ l) s.unended))
+
+-- all is read, and its last line was ended by LF
+pub Stood-end : (read out : List ℕ) (p : Place) → Stood read out [] p → Run read out
+Stood-end read out p s = (s.stands.commands, rw (ends-empty read out p s) s.stands.reads, (s.stands.world, s.stands.prints))
+
+-- all is read, and the last line was taken without its LF
+pub Stood-last : (read out line : List ℕ) (p : Place) (now : List ℕ) (q : Place) → Stood read out line p → 0 < length line → TurnsTo p line now q → Run read (out ++ now)
+Stood-last read out line p now q s some t =
+    let r = Stands-turn s.lines out p line now q s.stands t in
+    (r.commands, rw (ends-last read out line p s some) r.reads, (r.world, r.prints))
+
+pub Stood-fault_last : (read out line : List ℕ) (p : Place) → Stood read out line p → 0 < length line → order_of line ≡ None → RunsUpTo read (p.number + 1) out
+Stood-fault_last read out line p s some none =
+    let r = Stands-fault s.lines out p line [] s.stands none in
+    (r.0, rw (ends-last read out line p s some) r.1, r.2)

@@ -1,0 +1,44 @@
+-- Where a run stands between two reads.
+use Rattle.std.specs.Prelude.{◌≡◌, ℕ, ◌≤◌, List, ◌++◌, length, Option, Result, MatchResult, ⊤}
+use Rattle.std.specs.List.{AllByRecursion, flat_map}
+use Rattle.std.specs.Io.KnownBytes.{Appends}
+use Rattle.directory_program.specs.Commands.{longest_line}
+use Rattle.directory_program.specs.Lines.{Line, ended, HasNoLf}
+use Rattle.directory_program.specs.Running.{Run, RunsUpTo, RunsPart}
+use Rattle.directory_program.specs.Standing.{Stands}
+use Rattle.directory_program.specs.declared.place.Place.{Place}
+use Rattle.directory_program.specs.declared.fault.RunFault.{RunFault}
+use Rattle.directory_program.specs.declared.fault.RunFault.TheVariants.{Read, Write, Line as AtLine, NoMemory}
+
+-- the bytes that were read brought the run here, with a line begun, and this was written
+pub record Stood (read out line : List ℕ) (p : Place) : Type 0 where
+  pub lines : List Line
+  pub text : read ≡ flat_map ended lines ++ line
+  pub each : AllByRecursion HasNoLf lines
+  pub unended : HasNoLf line
+  pub short : length line ≤ longest_line
+  pub stands : Stands lines out p
+
+-- what was written behind `out` when the run failed, where these bytes had been read
+abbrev pub Failed : Option (List ℕ) → Option (List ℕ) → List ℕ → List ℕ → RunFault → Type 0
+Failed old new read out (AtLine n) = (now : List ℕ) × Appends old new now × ((more : List ℕ) → RunsUpTo (read ++ more) n (out ++ now))
+Failed old new read out NoMemory = (now : List ℕ) × Appends old new now × RunsPart read (out ++ now)
+Failed old new read out Write = ⊤
+Failed old new read out Read = ⊥
+
+-- what was written behind `out`, and where the run stands, when these bytes had been read
+abbrev pub Went : Option (List ℕ) → Option (List ℕ) → List ℕ → List ℕ → List ℕ → Place → Type 0
+Went old new read out line p = (now : List ℕ) × Appends old new now × Stood read (out ++ now) line p
+
+abbrev pub Fed : Option (List ℕ) → Option (List ℕ) → List ℕ → List ℕ → Result (Unit {0}) RunFault → List ℕ → Place → Type 0
+Fed old new read out r line p = MatchResult r (λ _. Went old new read out line p) (Failed old new read out)
+
+-- what the end of all that was read gives
+abbrev pub EndFails : Option (List ℕ) → Option (List ℕ) → List ℕ → List ℕ → RunFault → Type 0
+EndFails w w' read out (AtLine n) = (now : List ℕ) × Appends w w' now × RunsUpTo read n (out ++ now)
+EndFails w w' read out NoMemory = (now : List ℕ) × Appends w w' now × RunsPart read (out ++ now)
+EndFails w w' read out Write = ⊤
+EndFails w w' read out Read = ⊥
+
+abbrev pub Ends : Option (List ℕ) → Option (List ℕ) → List ℕ → List ℕ → Result (Unit {0}) RunFault → Type 0
+Ends w w' read out result = MatchResult result (λ _. (now : List ℕ) × Appends w w' now × Run read (out ++ now)) (EndFails w w' read out)
