@@ -106,10 +106,9 @@ fn what_is_not_answered_yet_is_silent(rt: HostRuntime) -> Result<(), Fail> {
     for message in [
         // no readable header
         "",
-        // another version, a security parameter index, an extension
-        "0301000030000000000000010002656e0000000f736572766963653a7072696e746572000744454641554c5400000000",
-        "0201000031000000000000010002656e0000000f736572766963653a7072696e746572000744454641554c540000000178",
-        "0201000035000000003000010002656e0000000f736572766963653a7072696e746572000744454641554c54000000004001000000",
+        // a function that there is not, of another version too
+        "020c000030000000000000010002656e0000000f736572766963653a7072696e746572000744454641554c5400000000",
+        "030c000030000000000000010002656e0000000f736572766963653a7072696e746572000744454641554c5400000000",
         // a reply, an acknowledgement, a withdrawal
         "0202000014000000000000010002656e00000000",
         "0205000012000000000000020002656e0000",
@@ -130,6 +129,48 @@ fn what_is_not_answered_yet_is_silent(rt: HostRuntime) -> Result<(), Fail> {
             want.as_bytes(),
             "{message}"
         );
+    }
+    Ok(())
+}
+
+#[test]
+fn what_is_no_message_gets_the_code_of_its_fault(rt: HostRuntime) -> Result<(), Fail> {
+    let alloc = rt.alloc();
+    for (message, printed) in [
+        // another version
+        (
+            "0301000030000000000000010002656e0000000f736572766963653a7072696e746572000744454641554c5400000000",
+            "> 0202000012000000000000010002656e0009\n# deny code=9 by=version action=see asker=10.0.0.1 type=- scope=-\n",
+        ),
+        // a security parameter index
+        (
+            "0201000031000000000000010002656e0000000f736572766963653a7072696e746572000744454641554c540000000178",
+            "> 0202000012000000000000010002656e0005\n# deny code=5 by=auth action=see asker=10.0.0.1 type=- scope=-\n",
+        ),
+        // the same, sent to many
+        (
+            "0201000031200000000000010002656e0000000f736572766963653a7072696e746572000744454641554c540000000178",
+            "> -\n# deny code=5 by=auth action=see asker=10.0.0.1 type=- scope=-\n",
+        ),
+    ] {
+        let script = format!(in alloc; "udp {message}\n")?;
+        assert_eq!(rt;
+            output(alloc, script.as_str())?.as_slice(),
+            printed.as_bytes(),
+            "{message}"
+        );
+    }
+    Ok(())
+}
+
+#[test]
+fn a_message_that_is_cut_anywhere_is_refused(rt: HostRuntime) -> Result<(), Fail> {
+    let alloc = rt.alloc();
+    let refused = "> 0205000012000000000000020002656e0002\n# deny code=2 by=parse action=register asker=10.0.0.1 type=- scope=-\n";
+    for cut in 0..REGISTRATION.len() / 2 {
+        let script = format!(in alloc; "udp {}\n", &REGISTRATION[..2 * cut])?;
+        let want = if cut < 16 { "> -\n" } else { refused };
+        assert_eq!(rt; output(alloc, script.as_str())?.as_slice(), want.as_bytes(), "{cut}");
     }
     Ok(())
 }
