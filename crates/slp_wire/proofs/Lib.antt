@@ -6,9 +6,6 @@ pub mod Steps
 pub mod Numbers
 pub mod Parts
 pub mod Listings
-pub mod ServiceMessages
-pub mod Registrations
-pub mod Bodies
 pub mod Framing
 pub mod Plain
 pub mod Whole

@@ -3,7 +3,7 @@ use Rattle.std.proofs.Common.{◌≡◌, ℕ, suc, ◌/◌, ◌%◌, ◌^◌, �
 use Rattle.std.proofs.lemmas.Bool.{ne_eqb, le-ltb}
 use Rattle.byteorder.specs.Endian.{big_bytes, big_number}
 use Rattle.byteorder.specs.Numbers.{big_number-reads_back, big_from-lt}
-use Rattle.slp_wire.specs.Reading.{byte_at, number_at}
+use Rattle.slp_wire.specs.Strings.{byte_at, number_at}
 use Rattle.slp_wire.specs.declared.fault.WireFault.{WireFault}
 use Rattle.slp_wire.proofs.Steps.{IsBytes, Takes, from_ok}
 

@@ -2,7 +2,7 @@
 use Rattle.std.proofs.Common.{◌≡◌, ℕ, ◌+◌, ◌<◌, ◌⊎◌, Bool, true, false, cond, List, ◌++◌, get_or, take, drop, Result, Ok, Err, refl, sym, ap, subst, ◌∙◌, append_assoc, arith, inl, inr}
 use Rattle.std.proofs.lemmas.Bool.{cases_lt}
 use Rattle.std.proofs.lemmas.List.{get_or-drop, get_or-take, get_or_past, length-take}
-use Rattle.slp_wire.specs.Reading.{◌>>=◌}
+use Rattle.slp_wire.specs.Steps.{◌>>=◌}
 use Rattle.slp_wire.specs.declared.fault.WireFault.{WireFault}
 
 abbrev pub IsBytes : List ℕ → Type 0

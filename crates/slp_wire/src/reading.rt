@@ -1,86 +1,34 @@
 ghost use Rattle.std.specs.Prelude.{◌≡◌, ◌<◌, IfOk, Ok};
 ghost use Rattle.slp_wire.specs.Headers.{flags_of, heading};
-ghost use Rattle.slp_wire.specs.Reading.{Gives, is_known, kept_header, service_request_at, behind_code, service_reply_at, registration_at, body_at, ended, reading_behind, reading, marked};
+ghost use Rattle.slp_wire.specs.Reading.{is_known, kept_header, ended, reading_behind, reading, marked};
 ghost use Rattle.slp_wire.specs.Spelling.{Spells};
 ghost use Rattle.slp_wire.specs.declared.message.Message.{Message as AnyMessage};
-
-use crate::fault::WireFault;
-use crate::fields::{behind_no_block, behind_no_index, entry_of, listing_of, number_of, text_of};
-use crate::header::{Flags, Header, HeaderView, Tag};
+use crate::header::{Flags, HeaderView, Tag};
 use crate::heading::read_header;
-use crate::message::{ErrorCode, Message, Registration, ServiceReply, ServiceRequest};
+ghost use Rattle.slp_wire.specs.Reading.{body_at};
+ghost use Rattle.slp_wire.specs.Steps.{Gives};
+
+use crate::adverts::{directory_advert_of, service_agent_of};
+use crate::attributes::{attribute_reply_of, attribute_request_of};
+use crate::fault::WireFault;
+use crate::fields::number_of;
+use crate::header::Header;
+use crate::message::Message;
+use crate::registrations::{registration_of, withdrawal_of};
+use crate::services::{service_reply_of, service_request_of};
+use crate::types::{type_reply_of, type_request_of};
 use std::alloc::Global;
 
-#[tactic(auto, unfolding(crate::specs::Reading::service_request_at))]
-fn service_request_of(alloc: Global, bytes: &[u8]) -> Result<(ServiceRequest, &[u8]), WireFault>
-    ensures { Gives (λ x. (x.0, x.1.now)) result (service_request_at bytes.now) }
-{
-    let (responders, rest) = text_of(alloc, bytes)?;
-    let (kind, rest) = text_of(alloc, rest)?;
-    let (scopes, rest) = text_of(alloc, rest)?;
-    let (predicate, rest) = text_of(alloc, rest)?;
-    let rest = behind_no_index(rest)?;
-    let request = ServiceRequest {
-        responders,
-        kind,
-        scopes,
-        predicate,
-    };
-    Ok((request, rest))
-}
-
-// What stands behind an error code is read for its faults alone.
-#[tactic(auto, unfolding(crate::specs::Reading::behind_code))]
-fn refusal_of(alloc: Global, code: u16, bytes: &[u8]) -> Result<(ServiceReply, &[u8]), WireFault>
-    requires { 0 < code }
-    ensures { Gives (λ x. (x.0, x.1.now)) result (behind_code code bytes.now) }
-{
-    let code = ErrorCode::new(code);
-    if bytes.is_empty() {
-        return Ok((ServiceReply::Refused(code), bytes));
-    }
-    let (_, rest) = listing_of(alloc, bytes)?;
-    Ok((ServiceReply::Refused(code), rest))
-}
-
-#[tactic(auto, unfolding(crate::specs::Reading::service_reply_at))]
-fn service_reply_of(alloc: Global, bytes: &[u8]) -> Result<(ServiceReply, &[u8]), WireFault>
-    ensures { Gives (λ x. (x.0, x.1.now)) result (service_reply_at bytes.now) }
-{
-    let (code, rest) = number_of(bytes)?;
-    if code != 0 {
-        return refusal_of(alloc, code, rest);
-    }
-    let (entries, rest) = listing_of(alloc, rest)?;
-    Ok((ServiceReply::Found(entries), rest))
-}
-
-#[tactic(auto, unfolding(crate::specs::Reading::registration_at))]
-fn registration_of(alloc: Global, bytes: &[u8]) -> Result<(Registration, &[u8]), WireFault>
-    ensures { Gives (λ x. (x.0, x.1.now)) result (registration_at bytes.now) }
-{
-    let (entry, rest) = entry_of(alloc, bytes)?;
-    let (kind, rest) = text_of(alloc, rest)?;
-    let (scopes, rest) = text_of(alloc, rest)?;
-    let (attributes, rest) = text_of(alloc, rest)?;
-    let rest = behind_no_block(rest)?;
-    let registration = Registration {
-        entry,
-        kind,
-        scopes,
-        attributes,
-    };
-    Ok((registration, rest))
-}
-
+// The body of a message of this function. So many bytes at the end are no part of it.
 #[tactic(auto, unfolding(crate::specs::Reading::body_at))]
 fn body_of(
     alloc: Global,
     function: u8,
+    tail: usize,
     header: Header,
     bytes: &[u8],
 ) -> Result<(Message, &[u8]), WireFault>
-    ensures { Gives (λ x. (x.0, x.1.now)) result (body_at function header bytes.now) }
+    ensures { Gives (λ x. (x.0, x.1.now)) result (body_at function tail header bytes.now) }
 {
     match function {
         1 => {
@@ -88,20 +36,50 @@ fn body_of(
             Ok((Message::ServiceRequest(header, request), rest))
         }
         2 => {
-            let (reply, rest) = service_reply_of(alloc, bytes)?;
+            let (reply, rest) = service_reply_of(alloc, tail, bytes)?;
             Ok((Message::ServiceReply(header, reply), rest))
         }
         3 => {
             let (registration, rest) = registration_of(alloc, bytes)?;
             Ok((Message::Registration(header, registration), rest))
         }
+        4 => {
+            let (withdrawal, rest) = withdrawal_of(alloc, bytes)?;
+            Ok((Message::Withdrawal(header, withdrawal), rest))
+        }
         5 => {
             let (code, rest) = number_of(bytes)?;
             Ok((Message::Acknowledgement(header, code), rest))
         }
+        6 => {
+            let (request, rest) = attribute_request_of(alloc, bytes)?;
+            Ok((Message::AttributeRequest(header, request), rest))
+        }
+        7 => {
+            let (reply, rest) = attribute_reply_of(alloc, tail, bytes)?;
+            Ok((Message::AttributeReply(header, reply), rest))
+        }
+        8 => {
+            let (advert, rest) = directory_advert_of(alloc, tail, bytes)?;
+            Ok((Message::DirectoryAdvert(header, advert), rest))
+        }
+        9 => {
+            let (request, rest) = type_request_of(alloc, bytes)?;
+            Ok((Message::TypeRequest(header, request), rest))
+        }
+        10 => {
+            let (reply, rest) = type_reply_of(alloc, tail, bytes)?;
+            Ok((Message::TypeReply(header, reply), rest))
+        }
+        11 => {
+            let (agent, rest) = service_agent_of(alloc, bytes)?;
+            Ok((Message::ServiceAdvert(header, agent), rest))
+        }
         _ => Err(WireFault::Unknown),
     }
 }
+
+// ---- whole messages
 
 fn is_read(function: u8) -> bool
     ensures { result ≡ is_known function }
