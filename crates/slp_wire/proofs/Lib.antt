@@ -6,6 +6,14 @@ pub mod Steps
 pub mod Numbers
 pub mod Parts
 pub mod Listings
+pub mod OfCodes
+pub mod OfServices
+pub mod OfRegistrations
+pub mod OfAttributes
+pub mod OfAdverts
+pub mod OfTypes
+pub mod Bodies
+pub mod Spelled
 pub mod Framing
 pub mod Plain
 pub mod Whole

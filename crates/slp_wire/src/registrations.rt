@@ -92,10 +92,7 @@ pub(crate) fn with_withdrawal(total: usize, withdrawal: &Withdrawal) -> usize
 }
 
 /// Appends a withdrawal.
-pub(crate) fn put_withdrawal(
-    bytes: &mut Vec<u8>,
-    withdrawal: &Withdrawal,
-) -> Result<(), AllocError>
+pub(crate) fn put_withdrawal(bytes: &mut Vec<u8>, withdrawal: &Withdrawal) -> Result<(), AllocError>
     ensures ok { OnOk result (bytes.new.items ≡ bytes.old.items ++ (string withdrawal.now.scopes ++ entry_bytes 0 withdrawal.now.entry ++ string withdrawal.now.tags)) }
     ensures kept { take (length bytes.old.items) bytes.new.items ≡ bytes.old.items }
 {

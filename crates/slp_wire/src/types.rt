@@ -80,10 +80,7 @@ fn put_authority(bytes: &mut Vec<u8>, authority: &Authority) -> Result<(), Alloc
 }
 
 /// Appends a request.
-pub(crate) fn put_type_request(
-    bytes: &mut Vec<u8>,
-    request: &TypeRequest,
-) -> Result<(), AllocError>
+pub(crate) fn put_type_request(bytes: &mut Vec<u8>, request: &TypeRequest) -> Result<(), AllocError>
     ensures ok { OnOk result (bytes.new.items ≡ bytes.old.items ++ type_request_bytes request.now) }
     ensures kept { take (length bytes.old.items) bytes.new.items ≡ bytes.old.items }
 {

@@ -4,9 +4,13 @@ ghost use Rattle.slp_wire.specs.Messages.{IsMessage, IsBody, header_of, function
 ghost use Rattle.slp_wire.specs.Spelling.{plain, body_of, longest};
 ghost use Rattle.slp_wire.specs.declared.fault.WireFault.TheVariants.{NoMemory as Lacking, TooLong as Long};
 
-use crate::adverts::{put_directory_agent, put_service_agent, with_directory_agent, with_service_agent};
+use crate::adverts::{
+    put_directory_agent, put_service_agent, with_directory_agent, with_service_agent,
+};
 use crate::appending::{LONGEST, grown, put_code, with_refusal};
-use crate::attributes::{put_attribute_request, put_attributes, with_attribute_request, with_attributes};
+use crate::attributes::{
+    put_attribute_request, put_attributes, with_attribute_request, with_attributes,
+};
 use crate::fault::WireFault;
 use crate::header::{Flags, Header};
 use crate::heading::opening;
