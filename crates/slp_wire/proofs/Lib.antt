@@ -15,5 +15,7 @@ pub mod OfTypes
 pub mod Bodies
 pub mod Spelled
 pub mod Framing
+pub mod Chains
+pub mod Skipping
 pub mod Plain
 pub mod Whole

@@ -1,8 +1,9 @@
 -- What is written is a spelling.
-use Rattle.std.proofs.Common.{◌≡◌, ◌^◌, ◌<◌, ◌≤◌, true, false, length, refl, arith, lit<}
-use Rattle.slp_wire.specs.Headers.{flags_of, word_of}
-use Rattle.slp_wire.specs.Messages.{header_of, IsMessage}
-use Rattle.slp_wire.specs.Spelling.{body_of, plain, longest, Spells}
+use Rattle.std.proofs.Common.{◌≡◌, ℕ, ◌+◌, ◌^◌, ◌<◌, ◌≤◌, true, false, List, [], ◌++◌, length, refl, sym, ap, ◌∙◌, arith, lit<}
+use Rattle.std.proofs.lemmas.List.{append-nil}
+use Rattle.slp_wire.specs.Headers.{Heading, heading_bytes, flags_of, word_of}
+use Rattle.slp_wire.specs.Messages.{header_of, function_of, IsMessage}
+use Rattle.slp_wire.specs.Spelling.{body_of, body_end, heading_for, plain, longest, Spells}
 use Rattle.slp_wire.specs.declared.message.Message.{Message}
 use Rattle.slp_wire.proofs.Spelled.{body_is_spelled}
 
@@ -26,6 +27,13 @@ word_is_short false true false = lit< tt
 word_is_short false false true = lit< tt
 word_is_short false false false = lit< tt
 
+-- the header of a message without extensions
+heading_alone : (m : Message) (word : ℕ) (body : List ℕ)
+    → heading_for m word body [] ≡ record { version = 2; function = function_of m; length = body_end m body; flags = word; extension = 0; xid = (header_of m).xid; language = (header_of m).language }
+heading_alone m word body =
+    let whole : body_end m body + 0 ≡ body_end m body = omega arith in
+    ap (λ (l : ℕ). record { version = 2; function = function_of m; length = l; flags = word; extension = 0; xid = (header_of m).xid; language = (header_of m).language }) whole
+
 pub is_spelled : (m : Message) → IsMessage m → length (plain m) ≤ longest → Spells (plain m) m
 is_spelled m sound short =
     let f = (header_of m).flags in
@@ -35,7 +43,9 @@ is_spelled m sound short =
       word_fits = word_is_short f.overflow f.fresh f.multicast;
       flags = flags_are_kept f.overflow f.fresh f.multicast;
       body = body_of m;
-      framing = refl;
+      extensions = [];
+      skipped = tt;
+      framing = ap (λ (h : Heading). heading_bytes h ++ body_of m) (sym (heading_alone m (word_of f) (body_of m))) ∙ ap (λ (t : List ℕ). heading_bytes (heading_for m (word_of f) (body_of m) []) ++ t) (sym (append-nil (body_of m)));
       short = omega (arith, short);
       spells = body_is_spelled m;
     }

@@ -55,12 +55,17 @@ body_part h bytes = drop (14 + length h.language) (take h.length bytes)
 abbrev pub tail_of : Heading → ℕ
 tail_of h = if h.extension == 0 then 0 else h.length - h.extension
 
--- the body ends the message, or ends where its extensions begin
+-- Behind a body nothing is left, or extensions, which begin where the header says: the message has so many bytes in all.
+unfoldable pub ends_at : ℕ → ℕ → List ℕ → Result (Unit {0}) WireFault
+ends_at extension total rest =
+    if extension == 0 then (if length rest == 0 then Ok tt else Err Parse)
+    else (if extension + length rest == total then extensions_at (length rest) extension rest else Err Parse)
+
 unfoldable pub ended : Heading → Result (Message × List ℕ) WireFault → Result Message WireFault
 ended h read = do
   m ← read
-  if h.extension == 0 then (if length m.1 == 0 then Ok m.0 else Err Parse)
-      else (if h.extension + length m.1 == h.length then (extensions_at (length m.1) h.extension m.1 >>= λ _. Ok m.0) else Err Parse)
+  _ ← ends_at h.extension h.length m.1
+  Ok m.0
 
 unfoldable pub reading_behind : Heading → List ℕ → Result Message WireFault
 reading_behind h bytes =

@@ -1,10 +1,10 @@
 -- Which bytes spell a message (RFC 2608, sections 8 to 10).
 use Rattle.std.specs.List.{AllByRecursion}
-use Rattle.std.specs.Prelude.{ℕ, ◌^◌, ◌<◌, List, length, ◌≡◌, ◌+◌, ◌==◌, [], ◌∷◌, ◌++◌, if◌then◌else◌}
+use Rattle.std.specs.Prelude.{ℕ, ◌^◌, ◌<◌, List, length, ◌≡◌, ◌+◌, [], ◌∷◌, ◌++◌}
 use Rattle.byteorder.specs.Endian.{big_bytes}
 use Rattle.slp_wire.specs.Adverts.{directory_agent_bytes, SpellsDirectoryAdvert, service_agent_bytes}
 use Rattle.slp_wire.specs.Attributes.{attribute_request_bytes, attributes_bytes, SpellsAttributeReply}
-use Rattle.slp_wire.specs.Extensions.{Extension, IsSkipped, chain_bytes}
+use Rattle.slp_wire.specs.Extensions.{Extension, IsSkipped, begins_at, chain_bytes}
 use Rattle.slp_wire.specs.Headers.{Heading, heading_bytes, flags_of, word_of, string, framed}
 use Rattle.slp_wire.specs.Messages.{header_of, function_of, IsMessage}
 use Rattle.slp_wire.specs.Registrations.{SpellsRegistration, SpellsWithdrawal}
@@ -45,7 +45,7 @@ heading_for m word body extensions = record {
   function = function_of m;
   length = body_end m body + length (chain_bytes (body_end m body) extensions);
   flags = word;
-  extension = if length extensions == 0 then 0 else body_end m body;
+  extension = begins_at (body_end m body) extensions;
   xid = (header_of m).xid;
   language = (header_of m).language;
 }
@@ -60,7 +60,7 @@ pub record Spells (bytes : List ℕ) (m : Message) : Type 0 where
   pub spells : SpellsBody body m
   pub extensions : List Extension
   pub skipped : AllByRecursion IsSkipped extensions
-  pub framing : bytes ≡ heading_bytes (heading_for m word body extensions) ++ body ++ chain_bytes (body_end m body) extensions
+  pub framing : bytes ≡ heading_bytes (heading_for m word body extensions) ++ (body ++ chain_bytes (body_end m body) extensions)
   pub short : length bytes < 2 ^ 24
 
 -- ---- what is written: the one spelling with zeros in the reserved places, nothing behind a nonzero code, and no extension

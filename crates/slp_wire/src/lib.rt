@@ -5,6 +5,7 @@
 mod adverts;
 mod appending;
 mod attributes;
+mod extensions;
 mod fault;
 mod fields;
 mod header;

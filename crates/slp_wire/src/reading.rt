@@ -1,18 +1,17 @@
-ghost use Rattle.std.specs.Prelude.{◌≡◌, ◌<◌, IfOk, Ok};
+ghost use Rattle.std.specs.Prelude.{◌≡◌, ◌<◌, ◌^◌, IfOk, Ok};
 ghost use Rattle.slp_wire.specs.Headers.{flags_of, heading};
-ghost use Rattle.slp_wire.specs.Reading.{is_known, kept_header, ended, reading_behind, reading, marked};
+ghost use Rattle.slp_wire.specs.Reading.{body_at, is_known, kept_header, tail_of, ends_at, ended, reading_behind, reading, marked};
 ghost use Rattle.slp_wire.specs.Spelling.{Spells};
-ghost use Rattle.slp_wire.specs.declared.message.Message.{Message as AnyMessage};
-use crate::header::{Flags, HeaderView, Tag};
-use crate::heading::read_header;
-ghost use Rattle.slp_wire.specs.Reading.{body_at};
 ghost use Rattle.slp_wire.specs.Steps.{Gives};
+ghost use Rattle.slp_wire.specs.declared.message.Message.{Message as AnyMessage};
 
 use crate::adverts::{directory_advert_of, service_agent_of};
 use crate::attributes::{attribute_reply_of, attribute_request_of};
+use crate::extensions::skip_extensions;
 use crate::fault::WireFault;
 use crate::fields::number_of;
-use crate::header::Header;
+use crate::header::{Flags, Header, HeaderView, Tag};
+use crate::heading::read_header;
 use crate::message::Message;
 use crate::registrations::{registration_of, withdrawal_of};
 use crate::services::{service_reply_of, service_request_of};
@@ -84,7 +83,7 @@ fn body_of(
 fn is_read(function: u8) -> bool
     ensures { result ≡ is_known function }
 {
-    matches!(function, 1 | 2 | 3 | 5)
+    (1..=11).contains(&function)
 }
 
 fn flags_in(word: u16) -> Flags
@@ -108,7 +107,36 @@ fn header_in(alloc: Global, view: &HeaderView<'_>) -> Result<Header, WireFault>
     })
 }
 
-// The body is all of these bytes, and no extension follows.
+// How many bytes of the message the header gives to extensions.
+fn tail_in(view: &HeaderView<'_>) -> usize
+    ensures { result ≡ tail_of (heading view.now) }
+{
+    if view.extension == 0 {
+        return 0;
+    }
+    (view.length as usize).saturating_sub(view.extension as usize)
+}
+
+// Whether a body that leaves these bytes ends a message of so many, whose extensions begin there.
+#[tactic(auto, unfolding(crate::specs::Reading::ends_at))]
+fn check_end(extension: usize, total: usize, rest: &[u8]) -> Result<(), WireFault>
+    requires small { extension < 2 ^ 32 }
+    requires within { total < 2 ^ 32 }
+    ensures { Gives (λ x. x) result (ends_at extension total rest.now) }
+{
+    if extension == 0 {
+        if rest.is_empty() {
+            return Ok(());
+        }
+        return Err(WireFault::Parse);
+    }
+    if extension + rest.len() != total {
+        return Err(WireFault::Parse);
+    }
+    skip_extensions(extension, rest)
+}
+
+// These bytes are what the length field marks behind the header.
 #[tactic(auto, unfolding(crate::specs::Reading::ended))]
 fn whole_body(
     alloc: Global,
@@ -116,12 +144,10 @@ fn whole_body(
     header: Header,
     bytes: &[u8],
 ) -> Result<Message, WireFault>
-    ensures { Gives (λ m. m) result (ended (heading view.now) (body_at view.now.function header bytes.now)) }
+    ensures { Gives (λ m. m) result (ended (heading view.now) (body_at view.now.function (tail_of (heading view.now)) header bytes.now)) }
 {
-    let (message, rest) = body_of(alloc, view.function, header, bytes)?;
-    if view.extension != 0 || !rest.is_empty() {
-        return Err(WireFault::Parse);
-    }
+    let (message, rest) = body_of(alloc, view.function, tail_in(view), header, bytes)?;
+    check_end(view.extension as usize, view.length as usize, rest)?;
     Ok(message)
 }
 
@@ -155,7 +181,7 @@ fn message_of(alloc: Global, bytes: &[u8]) -> Result<Message, WireFault>
 }
 
 /// The message in front of the bytes, as far as its length field marks it (RFC 2608, sections 7 to
-/// 9). What stands behind that is not looked at. The bytes are gone through once, and each text is
+/// 10). What stands behind that is not looked at. The bytes are gone through once, and each text is
 /// copied once.
 pub fn decode(alloc: Global, bytes: &[u8]) -> Result<Message, WireFault>
     // What is read is spelled so.
