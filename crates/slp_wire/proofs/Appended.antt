@@ -4,8 +4,9 @@ use Rattle.std.specs.List.{flat_map, AllByRecursion}
 use Rattle.std.proofs.lemmas.List.{take_all, length-append}
 use Rattle.byteorder.specs.Endian.{big_bytes}
 use Rattle.slp_wire.specs.Headers.{word_of}
-use Rattle.slp_wire.specs.Messages.{header_of, function_of, IsEntry, AreEntries}
-use Rattle.slp_wire.specs.Spelling.{body_of, plain, entry_bytes, longest}
+use Rattle.slp_wire.specs.Messages.{header_of, function_of}
+use Rattle.slp_wire.specs.Spelling.{body_of, plain, longest}
+use Rattle.slp_wire.specs.Strings.{IsEntry, AreEntries, entry_bytes}
 use Rattle.slp_wire.specs.declared.message.Message.{Message}
 use Rattle.slp_wire.specs.declared.message.UrlEntry.{UrlEntry}
 

@@ -1,7 +1,8 @@
 -- Reading entries one after the other, as a loop does.
 use Rattle.std.proofs.Common.{◌≡◌, ℕ, suc, ◌-◌, ◌+◌, ◌≤◌, ◌<◌, List, [], ◌∷◌, ◌++◌, Result, Ok, Err, refl, sym, ap, ◌∙◌, append_assoc, arith}
 use Rattle.std.proofs.lemmas.List.{append-nil}
-use Rattle.slp_wire.specs.Reading.{◌>>=◌, Fails, entry_at, entries_at}
+use Rattle.slp_wire.specs.Steps.{◌>>=◌, Fails}
+use Rattle.slp_wire.specs.Strings.{entry_at, entries_at}
 use Rattle.slp_wire.specs.declared.fault.WireFault.{WireFault}
 use Rattle.slp_wire.specs.declared.fault.WireFault.TheVariants.{NoHeader, Version, Parse, Auth, Unknown, NoMemory, TooLong}
 use Rattle.slp_wire.specs.declared.fault.WireFault.TheVariants as fault

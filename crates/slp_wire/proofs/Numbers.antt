@@ -3,7 +3,7 @@ use Rattle.std.proofs.Common.{◌≡◌, ℕ, suc, ◌/◌, ◌%◌, ◌^◌, �
 use Rattle.std.proofs.lemmas.Bool.{ne_eqb, le-ltb}
 use Rattle.byteorder.specs.Endian.{big_bytes, big_number}
 use Rattle.byteorder.specs.Numbers.{big_number-reads_back, big_from-lt}
-use Rattle.slp_wire.specs.Reading.{byte_at, number_at}
+use Rattle.slp_wire.specs.Strings.{byte_at, number_at, long_at}
 use Rattle.slp_wire.specs.declared.fault.WireFault.{WireFault}
 use Rattle.slp_wire.proofs.Steps.{IsBytes, Takes, from_ok}
 
@@ -25,17 +25,33 @@ three_back a b c rest fa fb fc =
     let e0 : n % 256 ≡ c = omega arith in
     ap (λ (x : ℕ). x ∷ n / 256 % 256 ∷ n % 256 ∷ []) e2 ∙ ap (λ (x : ℕ). a ∷ x ∷ n % 256 ∷ []) e1 ∙ ap (λ (x : ℕ). a ∷ b ∷ x ∷ []) e0
 
+pub four_back : (a b c d : ℕ) (rest : List ℕ) → a < 256 → b < 256 → c < 256 → d < 256 → big_bytes 4 (big_number 4 (a ∷ b ∷ c ∷ d ∷ rest)) ≡ a ∷ b ∷ c ∷ d ∷ []
+four_back a b c d rest fa fb fc fd =
+    let n = big_number 4 (a ∷ b ∷ c ∷ d ∷ rest) in
+    let e3 : n / 16777216 % 256 ≡ a = omega arith in
+    let e2 : n / 65536 % 256 ≡ b = omega arith in
+    let e1 : n / 256 % 256 ≡ c = omega arith in
+    let e0 : n % 256 ≡ d = omega arith in
+    ap (λ (x : ℕ). x ∷ n / 65536 % 256 ∷ n / 256 % 256 ∷ n % 256 ∷ []) e3 ∙ ap (λ (x : ℕ). a ∷ x ∷ n / 256 % 256 ∷ n % 256 ∷ []) e2
+    ∙ ap (λ (x : ℕ). a ∷ b ∷ x ∷ n % 256 ∷ []) e1 ∙ ap (λ (x : ℕ). a ∷ b ∷ c ∷ x ∷ []) e0
+
 pub two_again : (n : ℕ) (rest : List ℕ) → n < 2 ^ 16 → big_number 2 (big_bytes 2 n ++ rest) ≡ n
 two_again n rest lt = big_number-reads_back 2 n rest lt
 
 pub three_again : (n : ℕ) (rest : List ℕ) → n < 2 ^ 24 → big_number 3 (big_bytes 3 n ++ rest) ≡ n
 three_again n rest lt = big_number-reads_back 3 n rest lt
 
+four_again : (n : ℕ) (rest : List ℕ) → n < 2 ^ 32 → big_number 4 (big_bytes 4 n ++ rest) ≡ n
+four_again n rest lt = big_number-reads_back 4 n rest lt
+
 pub two_fits : (bytes : List ℕ) → IsBytes bytes → big_number 2 bytes < 2 ^ 16
 two_fits bytes fits = big_from-lt 0 2 bytes fits
 
 pub three_fits : (bytes : List ℕ) → IsBytes bytes → big_number 3 bytes < 2 ^ 24
 three_fits bytes fits = big_from-lt 0 3 bytes fits
+
+four_fits : (bytes : List ℕ) → IsBytes bytes → big_number 4 bytes < 2 ^ 32
+four_fits bytes fits = big_from-lt 0 4 bytes fits
 
 -- ---- as fields
 
@@ -68,3 +84,24 @@ number_takes (a ∷ b ∷ bytes) n rest fits e =
 
 pub number_again : (n : ℕ) (rest : List ℕ) → n < 2 ^ 16 → number_at (big_bytes 2 n ++ rest) ≡ Ok (n, rest)
 number_again n rest lt = number_here (n / 256 % 256) (n % 256) rest ∙ ap (λ (x : ℕ). pair x rest) (two_again n rest lt)
+
+long_here : (a b c d : ℕ) (rest : List ℕ) → long_at (a ∷ b ∷ c ∷ d ∷ rest) ≡ Ok (big_number 4 (a ∷ b ∷ c ∷ d ∷ rest), rest)
+unfolding long_at
+long_here a b c d rest =
+    let long : ltb (length (a ∷ b ∷ c ∷ d ∷ rest)) 4 ≡ false = le-ltb _ _ (omega arith) in
+    rw long refl
+
+pub long_takes : (bytes : List ℕ) (n : ℕ) (rest : List ℕ) → IsBytes bytes → long_at bytes ≡ Ok (n, rest) → Takes bytes (big_bytes 4 n) rest × (n < 2 ^ 32)
+unfolding long_at
+long_takes [] n rest fits e = absurd cc
+long_takes (a ∷ []) n rest fits e = absurd cc
+long_takes (a ∷ b ∷ []) n rest fits e = absurd cc
+long_takes (a ∷ b ∷ c ∷ []) n rest fits e = absurd cc
+long_takes (a ∷ b ∷ c ∷ d ∷ bytes) n rest fits e =
+    let whole = a ∷ b ∷ c ∷ d ∷ bytes in
+    let back = four_back a b c d bytes (fits 0) (fits 1) (fits 2) (fits 3) in
+    let parts : whole ≡ big_bytes 4 (big_number 4 whole) ++ bytes = ap (λ (x : List ℕ). x ++ bytes) (sym back) in
+    from_ok (λ (x : ℕ × List ℕ). Takes whole (big_bytes 4 x.0) x.1 × (x.0 < 2 ^ 32)) (big_number 4 whole, bytes) (n, rest) (sym (long_here a b c d bytes) ∙ e) (record { parts = parts; rest_fits = λ i. fits (suc (suc (suc (suc i)))) }, four_fits whole fits)
+
+pub long_again : (n : ℕ) (rest : List ℕ) → n < 2 ^ 32 → long_at (big_bytes 4 n ++ rest) ≡ Ok (n, rest)
+long_again n rest lt = long_here (n / 16777216 % 256) (n / 65536 % 256) (n / 256 % 256) (n % 256) rest ∙ ap (λ (x : ℕ). pair x rest) (four_again n rest lt)

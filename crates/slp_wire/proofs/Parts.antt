@@ -6,9 +6,8 @@ use Rattle.std.proofs.lemmas.List.{take_at, drop_at, take-append-drop, length-ap
 use Rattle.std.proofs.lemmas.Str.{IsUtf8-from_is_utf8, is_utf8-from_IsUtf8, IsUtf8-nil}
 use Rattle.byteorder.specs.Endian.{big_bytes}
 use Rattle.slp_wire.specs.Headers.{string}
-use Rattle.slp_wire.specs.Messages.{IsString, IsEntry}
-use Rattle.slp_wire.specs.Reading.{◌>>=◌, byte_at, number_at, string_at, no_block_at, no_index_at, entry_at}
-use Rattle.slp_wire.specs.Spelling.{entry_bytes, SpellsEntry}
+use Rattle.slp_wire.specs.Steps.{◌>>=◌}
+use Rattle.slp_wire.specs.Strings.{IsString, IsEntry, byte_at, number_at, string_at, no_block_at, no_index_at, entry_at, entry_bytes, SpellsEntry}
 use Rattle.slp_wire.specs.declared.fault.WireFault.{WireFault}
 use Rattle.slp_wire.specs.declared.fault.WireFault.TheVariants.{Parse, Auth}
 use Rattle.slp_wire.specs.declared.message.UrlEntry.{UrlEntry}

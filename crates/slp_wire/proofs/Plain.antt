@@ -1,15 +1,11 @@
 -- What is written is a spelling.
-use Rattle.std.proofs.Common.{◌≡◌, ◌^◌, ◌<◌, ◌≤◌, true, false, List, [], ◌∷◌, length, refl, sym, arith, inl, lit<}
-use Rattle.std.specs.List.{flat_map}
+use Rattle.std.proofs.Common.{◌≡◌, ℕ, ◌+◌, ◌^◌, ◌<◌, ◌≤◌, true, false, List, [], ◌++◌, length, refl, sym, ap, ◌∙◌, arith, lit<}
 use Rattle.std.proofs.lemmas.List.{append-nil}
-use Rattle.byteorder.specs.Endian.{big_bytes}
-use Rattle.slp_wire.specs.Headers.{flags_of, word_of}
-use Rattle.slp_wire.specs.Messages.{header_of, IsMessage}
-use Rattle.slp_wire.specs.Spelling.{entry_bytes, listing, body_of, plain, longest, Spells, SpellsBody, SpellsEntries}
+use Rattle.slp_wire.specs.Headers.{Heading, heading_bytes, flags_of, word_of}
+use Rattle.slp_wire.specs.Messages.{header_of, function_of, IsMessage}
+use Rattle.slp_wire.specs.Spelling.{body_of, body_end, heading_for, plain, longest, Spells}
 use Rattle.slp_wire.specs.declared.message.Message.{Message}
-use Rattle.slp_wire.specs.declared.message.Message.TheVariants as message
-use Rattle.slp_wire.specs.declared.message.ServiceReply.TheVariants.{Found, Refused}
-use Rattle.slp_wire.specs.declared.message.UrlEntry.{UrlEntry}
+use Rattle.slp_wire.proofs.Spelled.{body_is_spelled}
 
 flags_are_kept : (o f m : _) → flags_of (word_of (record { overflow = o; fresh = f; multicast = m })) ≡ record { overflow = o; fresh = f; multicast = m }
 flags_are_kept true true true = refl
@@ -31,16 +27,12 @@ word_is_short false true false = lit< tt
 word_is_short false false true = lit< tt
 word_is_short false false false = lit< tt
 
-entries_are_spelled : (es : List UrlEntry) → SpellsEntries (flat_map (entry_bytes 0) es) es
-entries_are_spelled [] = refl
-entries_are_spelled (e ∷ es) = (entry_bytes 0 e, flat_map (entry_bytes 0) es, refl, (0, lit< tt, refl), entries_are_spelled es)
-
-body_is_spelled : (m : Message) → SpellsBody (body_of m) m
-body_is_spelled (message.ServiceRequest h q) = refl
-body_is_spelled (message.ServiceReply h (Found es)) = (listing es, refl, (flat_map (entry_bytes 0) es, refl, entries_are_spelled es))
-body_is_spelled (message.ServiceReply h (Refused code)) = ([], sym (append-nil (big_bytes 2 code)), inl refl)
-body_is_spelled (message.Registration h r) = (entry_bytes 0 r.entry, (0, lit< tt, refl), refl)
-body_is_spelled (message.Acknowledgement h code) = refl
+-- the header of a message without extensions
+heading_alone : (m : Message) (word : ℕ) (body : List ℕ)
+    → heading_for m word body [] ≡ record { version = 2; function = function_of m; length = body_end m body; flags = word; extension = 0; xid = (header_of m).xid; language = (header_of m).language }
+heading_alone m word body =
+    let whole : body_end m body + 0 ≡ body_end m body = omega arith in
+    ap (λ (l : ℕ). record { version = 2; function = function_of m; length = l; flags = word; extension = 0; xid = (header_of m).xid; language = (header_of m).language }) whole
 
 pub is_spelled : (m : Message) → IsMessage m → length (plain m) ≤ longest → Spells (plain m) m
 is_spelled m sound short =
@@ -51,7 +43,9 @@ is_spelled m sound short =
       word_fits = word_is_short f.overflow f.fresh f.multicast;
       flags = flags_are_kept f.overflow f.fresh f.multicast;
       body = body_of m;
-      framing = refl;
+      extensions = [];
+      skipped = tt;
+      framing = ap (λ (h : Heading). heading_bytes h ++ body_of m) (sym (heading_alone m (word_of f) (body_of m))) ∙ ap (λ (t : List ℕ). heading_bytes (heading_for m (word_of f) (body_of m) []) ++ t) (sym (append-nil (body_of m)));
       short = omega (arith, short);
       spells = body_is_spelled m;
     }

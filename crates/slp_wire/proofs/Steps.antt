@@ -2,7 +2,7 @@
 use Rattle.std.proofs.Common.{◌≡◌, ℕ, ◌+◌, ◌<◌, ◌⊎◌, Bool, true, false, cond, List, ◌++◌, get_or, take, drop, Result, Ok, Err, refl, sym, ap, subst, ◌∙◌, append_assoc, arith, inl, inr}
 use Rattle.std.proofs.lemmas.Bool.{cases_lt}
 use Rattle.std.proofs.lemmas.List.{get_or-drop, get_or-take, get_or_past, length-take}
-use Rattle.slp_wire.specs.Reading.{◌>>=◌}
+use Rattle.slp_wire.specs.Steps.{◌>>=◌}
 use Rattle.slp_wire.specs.declared.fault.WireFault.{WireFault}
 
 abbrev pub IsBytes : List ℕ → Type 0
@@ -55,13 +55,22 @@ pub record Takes (bytes text rest : List ℕ) : Type 0 where
 pub Takes-then : (a x b y c : List ℕ) → Takes a x b → Takes b y c → Takes a (x ++ y) c
 Takes-then a x b y c p q = record { parts = p.parts ∙ ap (λ (t : List ℕ). x ++ t) q.parts ∙ sym (append_assoc x y c); rest_fits = q.rest_fits }
 
--- a text that is written in another way
-pub Takes-as : (bytes text other rest : List ℕ) → text ≡ other → Takes bytes text rest → Takes bytes other rest
-Takes-as bytes text other rest e p = record { parts = p.parts ∙ ap (λ (t : List ℕ). t ++ rest) e; rest_fits = p.rest_fits }
+-- two texts, one behind the other
+pub joined : {a x b y c : List ℕ} → Takes a x b → Takes b y c → Takes a (x ++ y) c
+joined {a = a} {x = x} {b = b} {y = y} {c = c} p q = Takes-then a x b y c p q
 
--- five parts, one behind the other, and what follows them
-pub five : (a b c d e : List ℕ) → a ++ (b ++ (c ++ (d ++ e))) ≡ a ++ b ++ c ++ d ++ e
-five a b c d e = sym (simp append_assoc)
+-- parts, one behind the other, and what follows them
+pub regrouped_two : (a b rest : List ℕ) → (a ++ b) ++ rest ≡ a ++ (b ++ rest)
+regrouped_two a b rest = append_assoc a b rest
+
+pub regrouped_three : (a b c rest : List ℕ) → (a ++ b ++ c) ++ rest ≡ a ++ (b ++ (c ++ rest))
+regrouped_three a b c rest = simp append_assoc
+
+pub regrouped_four : (a b c d rest : List ℕ) → (a ++ b ++ c ++ d) ++ rest ≡ a ++ (b ++ (c ++ (d ++ rest)))
+regrouped_four a b c d rest = simp append_assoc
 
 pub regrouped_five : (a b c d e rest : List ℕ) → (a ++ b ++ c ++ d ++ e) ++ rest ≡ a ++ (b ++ (c ++ (d ++ (e ++ rest))))
 regrouped_five a b c d e rest = simp append_assoc
+
+pub regrouped_six : (a b c d e f rest : List ℕ) → (a ++ b ++ c ++ d ++ e ++ f) ++ rest ≡ a ++ (b ++ (c ++ (d ++ (e ++ (f ++ rest)))))
+regrouped_six a b c d e f rest = simp append_assoc

@@ -1,5 +1,14 @@
+pub mod Adverts
+pub mod Attributes
+pub mod Codes
+pub mod Extensions
 pub mod Headers
 pub mod Messages
 pub mod Reading
+pub mod Registrations
+pub mod Services
 pub mod Spelling
+pub mod Steps
+pub mod Strings
 pub mod Tags
+pub mod Types

@@ -1,67 +1,86 @@
--- Which bytes spell a message (RFC 2608, sections 8 and 9).
-use Rattle.std.specs.Prelude.{◌≡◌, ◌⊎◌, ℕ, ◌<◌, ◌^◌, List, [], ◌∷◌, ◌++◌, length}
-use Rattle.std.specs.List.{flat_map}
+-- Which bytes spell a message (RFC 2608, sections 8 to 10).
+use Rattle.std.specs.List.{AllByRecursion}
+use Rattle.std.specs.Prelude.{ℕ, ◌^◌, ◌<◌, List, length, ◌≡◌, ◌+◌, [], ◌∷◌, ◌++◌}
 use Rattle.byteorder.specs.Endian.{big_bytes}
-use Rattle.slp_wire.specs.Headers.{flags_of, word_of, string, framed}
-use Rattle.slp_wire.specs.Messages.{header_of, function_of, IsMessage, AreEntries}
-use Rattle.slp_wire.specs.declared.message.Message.{Message}
+use Rattle.slp_wire.specs.Adverts.{directory_agent_bytes, SpellsDirectoryAdvert, service_agent_bytes}
+use Rattle.slp_wire.specs.Attributes.{attribute_request_bytes, attributes_bytes, SpellsAttributeReply}
+use Rattle.slp_wire.specs.Extensions.{Extension, IsSkipped, begins_at, chain_bytes}
+use Rattle.slp_wire.specs.Headers.{Heading, heading_bytes, flags_of, word_of, string, framed}
+use Rattle.slp_wire.specs.Messages.{header_of, function_of, IsMessage}
+use Rattle.slp_wire.specs.Registrations.{SpellsRegistration, SpellsWithdrawal}
+use Rattle.slp_wire.specs.Services.{request_bytes, SpellsServiceReply}
+pub use Rattle.slp_wire.specs.Strings.{entry_bytes}
+use Rattle.slp_wire.specs.Strings.{listing}
+use Rattle.slp_wire.specs.Types.{type_request_bytes, SpellsTypeReply}
+use Rattle.slp_wire.specs.declared.message.AttributeReply.TheVariants as attribute_reply
+use Rattle.slp_wire.specs.declared.message.DirectoryAdvert.TheVariants as directory_advert
 use Rattle.slp_wire.specs.declared.message.Message.TheVariants as message
-use Rattle.slp_wire.specs.declared.message.ServiceReply.{ServiceReply}
+use Rattle.slp_wire.specs.declared.message.Message.{Message}
 use Rattle.slp_wire.specs.declared.message.ServiceReply.TheVariants.{Found, Refused}
-use Rattle.slp_wire.specs.declared.message.UrlEntry.{UrlEntry}
-
--- ---- what may be read
-
--- a URL entry, whose reserved byte is this: no authentication block stands in it
-abbrev pub entry_bytes : ℕ → UrlEntry → List ℕ
-entry_bytes reserved e = reserved ∷ big_bytes 2 e.lifetime ++ string e.url ++ 0 ∷ []
-
-abbrev pub SpellsEntry : List ℕ → UrlEntry → Type 0
-SpellsEntry bytes e = (reserved : ℕ) × (reserved < 2 ^ 8) × (bytes ≡ entry_bytes reserved e)
-
--- these entries, one after the other
-abbrev pub SpellsEntries : List ℕ → List UrlEntry → Type 0
-SpellsEntries bytes [] = bytes ≡ []
-SpellsEntries bytes (e ∷ es) = (front rest : List ℕ) × (bytes ≡ front ++ rest) × SpellsEntry front e × SpellsEntries rest es
-
--- a count, and that many entries
-abbrev pub SpellsListing : List ℕ → List UrlEntry → Type 0
-SpellsListing bytes es = (entries : List ℕ) × (bytes ≡ big_bytes 2 (length es) ++ entries) × SpellsEntries entries es
-
--- behind a nonzero code nothing need stand: what does is a lawful rest, and means nothing
-abbrev pub SpellsServiceReply : List ℕ → ServiceReply → Type 0
-SpellsServiceReply body (Found es) = (rest : List ℕ) × (body ≡ big_bytes 2 0 ++ rest) × SpellsListing rest es
-SpellsServiceReply body (Refused code) = (rest : List ℕ) × (body ≡ big_bytes 2 code ++ rest)
-    × ((rest ≡ []) ⊎ ((es : List UrlEntry) × AreEntries es × SpellsListing rest es))
+use Rattle.slp_wire.specs.declared.message.TypeReply.TheVariants as type_reply
 
 abbrev pub SpellsBody : List ℕ → Message → Type 0
-SpellsBody body (message.ServiceRequest h q) = body ≡ string q.responders ++ string q.kind ++ string q.scopes ++ string q.predicate ++ string []
+SpellsBody body (message.ServiceRequest h q) = body ≡ request_bytes q
 SpellsBody body (message.ServiceReply h r) = SpellsServiceReply body r
-SpellsBody body (message.Registration h r) = (entry : List ℕ) × SpellsEntry entry r.entry × (body ≡ entry ++ string r.kind ++ string r.scopes ++ string r.attributes ++ 0 ∷ [])
+SpellsBody body (message.Registration h r) = SpellsRegistration body r
+SpellsBody body (message.Withdrawal h w) = SpellsWithdrawal body w
 SpellsBody body (message.Acknowledgement h code) = body ≡ big_bytes 2 code
+SpellsBody body (message.AttributeRequest h q) = body ≡ attribute_request_bytes q
+SpellsBody body (message.AttributeReply h r) = SpellsAttributeReply body r
+SpellsBody body (message.DirectoryAdvert h a) = SpellsDirectoryAdvert body a
+SpellsBody body (message.TypeRequest h q) = body ≡ type_request_bytes q
+SpellsBody body (message.TypeReply h r) = SpellsTypeReply body r
+SpellsBody body (message.ServiceAdvert h a) = body ≡ service_agent_bytes a
 
--- all of the bytes spell the message; reserved flags and reserved bytes may be any
+-- ---- whole messages
+
+-- the offset at which the body ends
+abbrev pub body_end : Message → List ℕ → ℕ
+body_end m body = 14 + length (header_of m).language + length body
+
+-- a header in front of this body and these extensions, with a word of flags
+abbrev pub heading_for : Message → ℕ → List ℕ → List Extension → Heading
+heading_for m word body extensions = record {
+  version = 2;
+  function = function_of m;
+  length = body_end m body + length (chain_bytes (body_end m body) extensions);
+  flags = word;
+  extension = begins_at (body_end m body) extensions;
+  xid = (header_of m).xid;
+  language = (header_of m).language;
+}
+
+-- all of the bytes spell the message; reserved flags and reserved bytes may be any, and extensions that are skipped may follow the body
 pub record Spells (bytes : List ℕ) (m : Message) : Type 0 where
   pub sound : IsMessage m
   pub word : ℕ
   pub word_fits : word < 2 ^ 16
   pub flags : flags_of word ≡ (header_of m).flags
   pub body : List ℕ
-  pub framing : bytes ≡ framed (function_of m) word (header_of m).xid (header_of m).language body
-  pub short : length bytes < 2 ^ 24
   pub spells : SpellsBody body m
+  pub extensions : List Extension
+  pub skipped : AllByRecursion IsSkipped extensions
+  pub framing : bytes ≡ heading_bytes (heading_for m word body extensions) ++ (body ++ chain_bytes (body_end m body) extensions)
+  pub short : length bytes < 2 ^ 24
 
--- ---- what is written: the one spelling with zeros in the reserved places and nothing behind a nonzero code
-
-abbrev pub listing : List UrlEntry → List ℕ
-listing es = big_bytes 2 (length es) ++ flat_map (entry_bytes 0) es
+-- ---- what is written: the one spelling with zeros in the reserved places, nothing behind a nonzero code, and no extension
 
 abbrev pub body_of : Message → List ℕ
-body_of (message.ServiceRequest h q) = string q.responders ++ string q.kind ++ string q.scopes ++ string q.predicate ++ string []
+body_of (message.ServiceRequest h q) = request_bytes q
 body_of (message.ServiceReply h (Found es)) = big_bytes 2 0 ++ listing es
 body_of (message.ServiceReply h (Refused code)) = big_bytes 2 code
 body_of (message.Registration h r) = entry_bytes 0 r.entry ++ string r.kind ++ string r.scopes ++ string r.attributes ++ 0 ∷ []
+body_of (message.Withdrawal h w) = string w.scopes ++ entry_bytes 0 w.entry ++ string w.tags
 body_of (message.Acknowledgement h code) = big_bytes 2 code
+body_of (message.AttributeRequest h q) = attribute_request_bytes q
+body_of (message.AttributeReply h (attribute_reply.Found text)) = big_bytes 2 0 ++ attributes_bytes text
+body_of (message.AttributeReply h (attribute_reply.Refused code)) = big_bytes 2 code
+body_of (message.DirectoryAdvert h (directory_advert.Present a)) = big_bytes 2 0 ++ directory_agent_bytes a
+body_of (message.DirectoryAdvert h (directory_advert.Refused code)) = big_bytes 2 code
+body_of (message.TypeRequest h q) = type_request_bytes q
+body_of (message.TypeReply h (type_reply.Found text)) = big_bytes 2 0 ++ string text
+body_of (message.TypeReply h (type_reply.Refused code)) = big_bytes 2 code
+body_of (message.ServiceAdvert h a) = service_agent_bytes a
 
 abbrev pub plain : Message → List ℕ
 plain m = framed (function_of m) (word_of (header_of m).flags) (header_of m).xid (header_of m).language (body_of m)

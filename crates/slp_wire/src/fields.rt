@@ -1,5 +1,6 @@
 //! Reading of single fields: each answers its value and the bytes behind it.
-ghost use Rattle.slp_wire.specs.Reading.{Gives, byte_at, number_at, string_at, no_block_at, no_index_at, entry_at, entries_at, listing_at};
+ghost use Rattle.slp_wire.specs.Steps.{Gives};
+ghost use Rattle.slp_wire.specs.Strings.{byte_at, number_at, long_at, string_at, no_block_at, no_index_at, entry_at, entries_at, listing_at};
 
 use crate::fault::WireFault;
 use crate::message::UrlEntry;
@@ -7,7 +8,7 @@ use byteorder::{BigEndian, ByteOrder};
 use slp_text::{Row, Text};
 use std::alloc::Global;
 
-#[tactic(auto, unfolding(crate::specs::Reading::byte_at))]
+#[tactic(auto, unfolding(crate::specs::Strings::byte_at))]
 fn byte_of(bytes: &[u8]) -> Result<(u8, &[u8]), WireFault>
     ensures { Gives (λ x. (x.0, x.1.now)) result (byte_at bytes.now) }
 {
@@ -18,7 +19,7 @@ fn byte_of(bytes: &[u8]) -> Result<(u8, &[u8]), WireFault>
 }
 
 /// A number of two bytes.
-#[tactic(auto, unfolding(crate::specs::Reading::number_at))]
+#[tactic(auto, unfolding(crate::specs::Strings::number_at))]
 pub(crate) fn number_of(bytes: &[u8]) -> Result<(u16, &[u8]), WireFault>
     ensures { Gives (λ x. (x.0, x.1.now)) result (number_at bytes.now) }
 {
@@ -28,8 +29,20 @@ pub(crate) fn number_of(bytes: &[u8]) -> Result<(u16, &[u8]), WireFault>
     Ok((BigEndian::read_u16(bytes), &bytes[2..]))
 }
 
-#[tactic(auto, using(crate::proofs::Texts::is_utf8_true, crate::proofs::Texts::is_utf8_false), unfolding(crate::specs::Reading::string_at))]
-fn str_of(bytes: &[u8]) -> Result<(&str, &[u8]), WireFault>
+/// A number of four bytes.
+#[tactic(auto, unfolding(crate::specs::Strings::long_at))]
+pub(crate) fn long_of(bytes: &[u8]) -> Result<(u32, &[u8]), WireFault>
+    ensures { Gives (λ x. (x.0, x.1.now)) result (long_at bytes.now) }
+{
+    if bytes.len() < 4 {
+        return Err(WireFault::Parse);
+    }
+    Ok((BigEndian::read_u32(bytes), &bytes[4..]))
+}
+
+/// A string, whose length stands in front of it, without a copy.
+#[tactic(auto, using(crate::proofs::Texts::is_utf8_true, crate::proofs::Texts::is_utf8_false), unfolding(crate::specs::Strings::string_at))]
+pub(crate) fn str_of(bytes: &[u8]) -> Result<(&str, &[u8]), WireFault>
     ensures { Gives (λ x. (x.0.now, x.1.now)) result (string_at bytes.now) }
 {
     let (length, rest) = number_of(bytes)?;
@@ -44,7 +57,7 @@ fn str_of(bytes: &[u8]) -> Result<(&str, &[u8]), WireFault>
     }
 }
 
-/// A string, whose length stands in front of it.
+/// A string, which is copied.
 pub(crate) fn text_of(alloc: Global, bytes: &[u8]) -> Result<(Text, &[u8]), WireFault>
     ensures { Gives (λ x. (x.0, x.1.now)) result (string_at bytes.now) }
 {
@@ -53,7 +66,7 @@ pub(crate) fn text_of(alloc: Global, bytes: &[u8]) -> Result<(Text, &[u8]), Wire
 }
 
 /// The bytes behind a count of authentication blocks that is 0.
-#[tactic(auto, unfolding(crate::specs::Reading::no_block_at))]
+#[tactic(auto, unfolding(crate::specs::Strings::no_block_at))]
 pub(crate) fn behind_no_block(bytes: &[u8]) -> Result<&[u8], WireFault>
     ensures { Gives (λ x. x.now) result (no_block_at bytes.now) }
 {
@@ -65,7 +78,7 @@ pub(crate) fn behind_no_block(bytes: &[u8]) -> Result<&[u8], WireFault>
 }
 
 /// The bytes behind a security parameter index whose name is empty.
-#[tactic(auto, unfolding(crate::specs::Reading::no_index_at))]
+#[tactic(auto, unfolding(crate::specs::Strings::no_index_at))]
 pub(crate) fn behind_no_index(bytes: &[u8]) -> Result<&[u8], WireFault>
     ensures { Gives (λ x. x.now) result (no_index_at bytes.now) }
 {
@@ -77,7 +90,7 @@ pub(crate) fn behind_no_index(bytes: &[u8]) -> Result<&[u8], WireFault>
 }
 
 /// A URL entry (RFC 2608, section 4.3) without authentication blocks.
-#[tactic(auto, unfolding(crate::specs::Reading::entry_at))]
+#[tactic(auto, unfolding(crate::specs::Strings::entry_at))]
 pub(crate) fn entry_of(alloc: Global, bytes: &[u8]) -> Result<(UrlEntry, &[u8]), WireFault>
     ensures { Gives (λ x. (x.0, x.1.now)) result (entry_at bytes.now) }
 {
@@ -103,7 +116,7 @@ fn entries_of(alloc: Global, count: u16, bytes: &[u8]) -> Result<(Vec<UrlEntry>,
 }
 
 /// A count, and so many URL entries.
-#[tactic(auto, unfolding(crate::specs::Reading::listing_at))]
+#[tactic(auto, unfolding(crate::specs::Strings::listing_at))]
 pub(crate) fn listing_of(alloc: Global, bytes: &[u8]) -> Result<(Row<UrlEntry>, &[u8]), WireFault>
     ensures { Gives (λ x. (x.0, x.1.now)) result (listing_at bytes.now) }
 {

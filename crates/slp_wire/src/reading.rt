@@ -1,86 +1,33 @@
-ghost use Rattle.std.specs.Prelude.{◌≡◌, ◌<◌, IfOk, Ok};
+ghost use Rattle.std.specs.Prelude.{◌≡◌, ◌<◌, ◌^◌, IfOk, Ok};
 ghost use Rattle.slp_wire.specs.Headers.{flags_of, heading};
-ghost use Rattle.slp_wire.specs.Reading.{Gives, is_known, kept_header, service_request_at, behind_code, service_reply_at, registration_at, body_at, ended, reading_behind, reading, marked};
+ghost use Rattle.slp_wire.specs.Reading.{body_at, is_known, kept_header, tail_of, ends_at, ended, reading_behind, reading, marked};
 ghost use Rattle.slp_wire.specs.Spelling.{Spells};
+ghost use Rattle.slp_wire.specs.Steps.{Gives};
 ghost use Rattle.slp_wire.specs.declared.message.Message.{Message as AnyMessage};
 
+use crate::adverts::{directory_advert_of, service_agent_of};
+use crate::attributes::{attribute_reply_of, attribute_request_of};
+use crate::extensions::skip_extensions;
 use crate::fault::WireFault;
-use crate::fields::{behind_no_block, behind_no_index, entry_of, listing_of, number_of, text_of};
+use crate::fields::number_of;
 use crate::header::{Flags, Header, HeaderView, Tag};
 use crate::heading::read_header;
-use crate::message::{ErrorCode, Message, Registration, ServiceReply, ServiceRequest};
+use crate::message::Message;
+use crate::registrations::{registration_of, withdrawal_of};
+use crate::services::{service_reply_of, service_request_of};
+use crate::types::{type_reply_of, type_request_of};
 use std::alloc::Global;
 
-#[tactic(auto, unfolding(crate::specs::Reading::service_request_at))]
-fn service_request_of(alloc: Global, bytes: &[u8]) -> Result<(ServiceRequest, &[u8]), WireFault>
-    ensures { Gives (λ x. (x.0, x.1.now)) result (service_request_at bytes.now) }
-{
-    let (responders, rest) = text_of(alloc, bytes)?;
-    let (kind, rest) = text_of(alloc, rest)?;
-    let (scopes, rest) = text_of(alloc, rest)?;
-    let (predicate, rest) = text_of(alloc, rest)?;
-    let rest = behind_no_index(rest)?;
-    let request = ServiceRequest {
-        responders,
-        kind,
-        scopes,
-        predicate,
-    };
-    Ok((request, rest))
-}
-
-// What stands behind an error code is read for its faults alone.
-#[tactic(auto, unfolding(crate::specs::Reading::behind_code))]
-fn refusal_of(alloc: Global, code: u16, bytes: &[u8]) -> Result<(ServiceReply, &[u8]), WireFault>
-    requires { 0 < code }
-    ensures { Gives (λ x. (x.0, x.1.now)) result (behind_code code bytes.now) }
-{
-    let code = ErrorCode::new(code);
-    if bytes.is_empty() {
-        return Ok((ServiceReply::Refused(code), bytes));
-    }
-    let (_, rest) = listing_of(alloc, bytes)?;
-    Ok((ServiceReply::Refused(code), rest))
-}
-
-#[tactic(auto, unfolding(crate::specs::Reading::service_reply_at))]
-fn service_reply_of(alloc: Global, bytes: &[u8]) -> Result<(ServiceReply, &[u8]), WireFault>
-    ensures { Gives (λ x. (x.0, x.1.now)) result (service_reply_at bytes.now) }
-{
-    let (code, rest) = number_of(bytes)?;
-    if code != 0 {
-        return refusal_of(alloc, code, rest);
-    }
-    let (entries, rest) = listing_of(alloc, rest)?;
-    Ok((ServiceReply::Found(entries), rest))
-}
-
-#[tactic(auto, unfolding(crate::specs::Reading::registration_at))]
-fn registration_of(alloc: Global, bytes: &[u8]) -> Result<(Registration, &[u8]), WireFault>
-    ensures { Gives (λ x. (x.0, x.1.now)) result (registration_at bytes.now) }
-{
-    let (entry, rest) = entry_of(alloc, bytes)?;
-    let (kind, rest) = text_of(alloc, rest)?;
-    let (scopes, rest) = text_of(alloc, rest)?;
-    let (attributes, rest) = text_of(alloc, rest)?;
-    let rest = behind_no_block(rest)?;
-    let registration = Registration {
-        entry,
-        kind,
-        scopes,
-        attributes,
-    };
-    Ok((registration, rest))
-}
-
+// The body of a message of this function. So many bytes at the end are no part of it.
 #[tactic(auto, unfolding(crate::specs::Reading::body_at))]
 fn body_of(
     alloc: Global,
     function: u8,
+    tail: usize,
     header: Header,
     bytes: &[u8],
 ) -> Result<(Message, &[u8]), WireFault>
-    ensures { Gives (λ x. (x.0, x.1.now)) result (body_at function header bytes.now) }
+    ensures { Gives (λ x. (x.0, x.1.now)) result (body_at function tail header bytes.now) }
 {
     match function {
         1 => {
@@ -88,25 +35,55 @@ fn body_of(
             Ok((Message::ServiceRequest(header, request), rest))
         }
         2 => {
-            let (reply, rest) = service_reply_of(alloc, bytes)?;
+            let (reply, rest) = service_reply_of(alloc, tail, bytes)?;
             Ok((Message::ServiceReply(header, reply), rest))
         }
         3 => {
             let (registration, rest) = registration_of(alloc, bytes)?;
             Ok((Message::Registration(header, registration), rest))
         }
+        4 => {
+            let (withdrawal, rest) = withdrawal_of(alloc, bytes)?;
+            Ok((Message::Withdrawal(header, withdrawal), rest))
+        }
         5 => {
             let (code, rest) = number_of(bytes)?;
             Ok((Message::Acknowledgement(header, code), rest))
+        }
+        6 => {
+            let (request, rest) = attribute_request_of(alloc, bytes)?;
+            Ok((Message::AttributeRequest(header, request), rest))
+        }
+        7 => {
+            let (reply, rest) = attribute_reply_of(alloc, tail, bytes)?;
+            Ok((Message::AttributeReply(header, reply), rest))
+        }
+        8 => {
+            let (advert, rest) = directory_advert_of(alloc, tail, bytes)?;
+            Ok((Message::DirectoryAdvert(header, advert), rest))
+        }
+        9 => {
+            let (request, rest) = type_request_of(alloc, bytes)?;
+            Ok((Message::TypeRequest(header, request), rest))
+        }
+        10 => {
+            let (reply, rest) = type_reply_of(alloc, tail, bytes)?;
+            Ok((Message::TypeReply(header, reply), rest))
+        }
+        11 => {
+            let (agent, rest) = service_agent_of(alloc, bytes)?;
+            Ok((Message::ServiceAdvert(header, agent), rest))
         }
         _ => Err(WireFault::Unknown),
     }
 }
 
+// ---- whole messages
+
 fn is_read(function: u8) -> bool
     ensures { result ≡ is_known function }
 {
-    matches!(function, 1 | 2 | 3 | 5)
+    (1..=11).contains(&function)
 }
 
 fn flags_in(word: u16) -> Flags
@@ -130,7 +107,36 @@ fn header_in(alloc: Global, view: &HeaderView<'_>) -> Result<Header, WireFault>
     })
 }
 
-// The body is all of these bytes, and no extension follows.
+// How many bytes of the message the header gives to extensions.
+fn tail_in(view: &HeaderView<'_>) -> usize
+    ensures { result ≡ tail_of (heading view.now) }
+{
+    if view.extension == 0 {
+        return 0;
+    }
+    (view.length as usize).saturating_sub(view.extension as usize)
+}
+
+// Whether a body that leaves these bytes ends a message of so many, whose extensions begin there.
+#[tactic(auto, unfolding(crate::specs::Reading::ends_at))]
+fn check_end(extension: usize, total: usize, rest: &[u8]) -> Result<(), WireFault>
+    requires small { extension < 2 ^ 32 }
+    requires within { total < 2 ^ 32 }
+    ensures { Gives (λ x. x) result (ends_at extension total rest.now) }
+{
+    if extension == 0 {
+        if rest.is_empty() {
+            return Ok(());
+        }
+        return Err(WireFault::Parse);
+    }
+    if extension + rest.len() != total {
+        return Err(WireFault::Parse);
+    }
+    skip_extensions(extension, rest)
+}
+
+// These bytes are what the length field marks behind the header.
 #[tactic(auto, unfolding(crate::specs::Reading::ended))]
 fn whole_body(
     alloc: Global,
@@ -138,12 +144,10 @@ fn whole_body(
     header: Header,
     bytes: &[u8],
 ) -> Result<Message, WireFault>
-    ensures { Gives (λ m. m) result (ended (heading view.now) (body_at view.now.function header bytes.now)) }
+    ensures { Gives (λ m. m) result (ended (heading view.now) (body_at view.now.function (tail_of (heading view.now)) header bytes.now)) }
 {
-    let (message, rest) = body_of(alloc, view.function, header, bytes)?;
-    if view.extension != 0 || !rest.is_empty() {
-        return Err(WireFault::Parse);
-    }
+    let (message, rest) = body_of(alloc, view.function, tail_in(view), header, bytes)?;
+    check_end(view.extension as usize, view.length as usize, rest)?;
     Ok(message)
 }
 
@@ -177,7 +181,7 @@ fn message_of(alloc: Global, bytes: &[u8]) -> Result<Message, WireFault>
 }
 
 /// The message in front of the bytes, as far as its length field marks it (RFC 2608, sections 7 to
-/// 9). What stands behind that is not looked at. The bytes are gone through once, and each text is
+/// 10). What stands behind that is not looked at. The bytes are gone through once, and each text is
 /// copied once.
 pub fn decode(alloc: Global, bytes: &[u8]) -> Result<Message, WireFault>
     // What is read is spelled so.

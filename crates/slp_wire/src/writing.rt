@@ -1,90 +1,24 @@
-ghost use Rattle.std.specs.Prelude.{◌≡◌, ◌≤◌, ◌<◌, ◌+◌, ◌↔◌, ◌⊎◌, ◌++◌, ◌∷◌, [], length, take, min, OnOk, OnErr, IfErr, IsErrOf};
-ghost use Rattle.byteorder.specs.Endian.{big_bytes};
-ghost use Rattle.slp_wire.specs.Headers.{string, word_of};
-ghost use Rattle.slp_wire.specs.Messages.{IsMessage, IsBody, IsString, IsEntry, AreEntries, IsServiceRequest, IsRefusal, IsRegistration, header_of, function_of};
-ghost use Rattle.slp_wire.specs.Spelling.{plain, body_of, entry_bytes, listing, longest};
+ghost use Rattle.std.specs.Prelude.{◌≡◌, ◌≤◌, ◌<◌, ◌+◌, ◌↔◌, ◌⊎◌, ◌++◌, length, take, min, OnOk, OnErr, IfErr, IsErrOf};
+ghost use Rattle.slp_wire.specs.Headers.{word_of};
+ghost use Rattle.slp_wire.specs.Messages.{IsMessage, IsBody, header_of, function_of};
+ghost use Rattle.slp_wire.specs.Spelling.{plain, body_of, longest};
 ghost use Rattle.slp_wire.specs.declared.fault.WireFault.TheVariants.{NoMemory as Lacking, TooLong as Long};
 
+use crate::adverts::{
+    put_directory_agent, put_service_agent, with_directory_agent, with_service_agent,
+};
+use crate::appending::{LONGEST, grown, put_code, with_refusal};
+use crate::attributes::{
+    put_attribute_request, put_attributes, with_attribute_request, with_attributes,
+};
 use crate::fault::WireFault;
 use crate::header::{Flags, Header};
-use crate::heading::{opening, two_bytes};
-use crate::message::{ErrorCode, Message, Registration, ServiceReply, ServiceRequest, UrlEntry};
-use slp_text::Text;
+use crate::heading::opening;
+use crate::message::{AttributeReply, DirectoryAdvert, Message, ServiceReply, TypeReply};
+use crate::registrations::{put_registration, put_withdrawal, with_registration, with_withdrawal};
+use crate::services::{put_found, put_service_request, with_found, with_service_request};
+use crate::types::{put_type_request, put_types, with_type_request, with_types};
 use std::alloc::AllocError;
-
-const LONGEST: usize = 65535;
-
-// ---- lengths, which stop growing one above the longest
-
-fn grown(total: usize, more: usize) -> usize
-    ensures { result ≡ min (total + more) 65536 }
-{
-    total.saturating_add(more).min(LONGEST + 1)
-}
-
-fn with_text(total: usize, text: &Text) -> usize
-    ensures length { result ≡ min (total + length (string text.now)) 65536 }
-    ensures sound { result ≤ longest → IsString text.now }
-{
-    let bytes = text.as_str().as_bytes();
-    grown(grown(total, 2), bytes.len())
-}
-
-fn with_entry(total: usize, entry: &UrlEntry) -> usize
-    ensures length { result ≡ min (total + length (entry_bytes 0 entry.now)) 65536 }
-    ensures sound { result ≤ longest → IsEntry entry.now }
-{
-    let _lifetime = entry.lifetime;
-    with_text(grown(total, 4), &entry.url)
-}
-
-fn with_entries(total: usize, entries: &[UrlEntry]) -> usize
-    ensures length { result ≡ min (total + length (listing entries.now)) 65536 }
-    ensures sound { result ≤ longest → AreEntries entries.now }
-{
-    let mut total = grown(total, 2);
-    for entry in entries {
-        total = with_entry(total, entry);
-    }
-    total
-}
-
-fn with_service_request(total: usize, request: &ServiceRequest) -> usize
-    ensures length { result ≡ min (total + length (string request.now.responders ++ string request.now.kind ++ string request.now.scopes ++ string request.now.predicate ++ string [])) 65536 }
-    ensures sound { result ≤ longest → IsServiceRequest request.now }
-{
-    let total = with_text(total, &request.responders);
-    let total = with_text(total, &request.kind);
-    let total = with_text(total, &request.scopes);
-    let total = with_text(total, &request.predicate);
-    grown(total, 2)
-}
-
-fn with_found(total: usize, entries: &[UrlEntry]) -> usize
-    ensures length { result ≡ min (total + length (big_bytes 2 0 ++ listing entries.now)) 65536 }
-    ensures sound { result ≤ longest → AreEntries entries.now }
-{
-    with_entries(grown(total, 2), entries)
-}
-
-fn with_refusal(total: usize, code: &ErrorCode) -> usize
-    ensures length { result ≡ min (total + 2) 65536 }
-    ensures sound { IsRefusal code.now }
-{
-    let _code = code.get();
-    grown(total, 2)
-}
-
-fn with_registration(total: usize, registration: &Registration) -> usize
-    ensures length { result ≡ min (total + length (entry_bytes 0 registration.now.entry ++ string registration.now.kind ++ string registration.now.scopes ++ string registration.now.attributes ++ 0 ∷ [])) 65536 }
-    ensures sound { result ≤ longest → IsRegistration registration.now }
-{
-    let total = with_entry(total, &registration.entry);
-    let total = with_text(total, &registration.kind);
-    let total = with_text(total, &registration.scopes);
-    let total = with_text(total, &registration.attributes);
-    grown(total, 1)
-}
 
 fn with_body(total: usize, message: &Message) -> usize
     ensures length { result ≡ min (total + length (body_of message.now)) 65536 }
@@ -95,12 +29,26 @@ fn with_body(total: usize, message: &Message) -> usize
         Message::ServiceReply(_, ServiceReply::Found(entries)) => {
             with_found(total, entries.as_slice())
         }
-        Message::ServiceReply(_, ServiceReply::Refused(code)) => with_refusal(total, code),
+        Message::AttributeReply(_, AttributeReply::Found(attributes)) => {
+            with_attributes(total, attributes)
+        }
+        Message::DirectoryAdvert(_, DirectoryAdvert::Present(agent)) => {
+            with_directory_agent(total, agent)
+        }
+        Message::TypeReply(_, TypeReply::Found(types)) => with_types(total, types),
+        Message::ServiceReply(_, ServiceReply::Refused(code))
+        | Message::AttributeReply(_, AttributeReply::Refused(code))
+        | Message::DirectoryAdvert(_, DirectoryAdvert::Refused(code))
+        | Message::TypeReply(_, TypeReply::Refused(code)) => with_refusal(total, code),
         Message::Registration(_, registration) => with_registration(total, registration),
+        Message::Withdrawal(_, withdrawal) => with_withdrawal(total, withdrawal),
         Message::Acknowledgement(_, code) => {
             let _code = *code;
             grown(total, 2)
         }
+        Message::AttributeRequest(_, request) => with_attribute_request(total, request),
+        Message::TypeRequest(_, request) => with_type_request(total, request),
+        Message::ServiceAdvert(_, agent) => with_service_agent(total, agent),
     }
 }
 
@@ -111,7 +59,14 @@ fn header_in(message: &Message) -> &Header
         Message::ServiceRequest(header, _)
         | Message::ServiceReply(header, _)
         | Message::Registration(header, _)
-        | Message::Acknowledgement(header, _) => header,
+        | Message::Withdrawal(header, _)
+        | Message::Acknowledgement(header, _)
+        | Message::AttributeRequest(header, _)
+        | Message::AttributeReply(header, _)
+        | Message::DirectoryAdvert(header, _)
+        | Message::TypeRequest(header, _)
+        | Message::TypeReply(header, _)
+        | Message::ServiceAdvert(header, _) => header,
     }
 }
 
@@ -127,73 +82,6 @@ fn message_length(message: &Message) -> usize
 
 // ---- bytes: each function appends, and where memory runs out the old bytes are still the front
 
-fn put_text(bytes: &mut Vec<u8>, text: &Text) -> Result<(), AllocError>
-    ensures ok { OnOk result (bytes.new.items ≡ bytes.old.items ++ string text.now) }
-    ensures kept { take (length bytes.old.items) bytes.new.items ≡ bytes.old.items }
-{
-    let text = text.as_str().as_bytes();
-    bytes.extend_from_slice(&two_bytes(text.len()))?;
-    bytes.extend_from_slice(text)
-}
-
-fn put_entry(bytes: &mut Vec<u8>, entry: &UrlEntry) -> Result<(), AllocError>
-    ensures ok { OnOk result (bytes.new.items ≡ bytes.old.items ++ entry_bytes 0 entry.now) }
-    ensures kept { take (length bytes.old.items) bytes.new.items ≡ bytes.old.items }
-{
-    let [high, low] = entry.lifetime.to_be_bytes();
-    bytes.extend_from_slice(&[0, high, low])?;
-    put_text(bytes, &entry.url)?;
-    bytes.extend_from_slice(&[0])
-}
-
-fn put_entries(bytes: &mut Vec<u8>, entries: &[UrlEntry]) -> Result<(), AllocError>
-    ensures ok { OnOk result (bytes.new.items ≡ bytes.old.items ++ listing entries.now) }
-    ensures kept { take (length bytes.old.items) bytes.new.items ≡ bytes.old.items }
-{
-    bytes.extend_from_slice(&two_bytes(entries.len()))?;
-    for entry in entries {
-        put_entry(bytes, entry)?;
-    }
-    Ok(())
-}
-
-fn put_service_request(bytes: &mut Vec<u8>, request: &ServiceRequest) -> Result<(), AllocError>
-    ensures ok { OnOk result (bytes.new.items ≡ bytes.old.items ++ (string request.now.responders ++ string request.now.kind ++ string request.now.scopes ++ string request.now.predicate ++ string [])) }
-    ensures kept { take (length bytes.old.items) bytes.new.items ≡ bytes.old.items }
-{
-    put_text(bytes, &request.responders)?;
-    put_text(bytes, &request.kind)?;
-    put_text(bytes, &request.scopes)?;
-    put_text(bytes, &request.predicate)?;
-    bytes.extend_from_slice(&[0, 0])
-}
-
-fn put_found(bytes: &mut Vec<u8>, entries: &[UrlEntry]) -> Result<(), AllocError>
-    ensures ok { OnOk result (bytes.new.items ≡ bytes.old.items ++ (big_bytes 2 0 ++ listing entries.now)) }
-    ensures kept { take (length bytes.old.items) bytes.new.items ≡ bytes.old.items }
-{
-    bytes.extend_from_slice(&[0, 0])?;
-    put_entries(bytes, entries)
-}
-
-fn put_code(bytes: &mut Vec<u8>, code: u16) -> Result<(), AllocError>
-    ensures ok { OnOk result (bytes.new.items ≡ bytes.old.items ++ big_bytes 2 code) }
-    ensures kept { take (length bytes.old.items) bytes.new.items ≡ bytes.old.items }
-{
-    bytes.extend_from_slice(&code.to_be_bytes())
-}
-
-fn put_registration(bytes: &mut Vec<u8>, registration: &Registration) -> Result<(), AllocError>
-    ensures ok { OnOk result (bytes.new.items ≡ bytes.old.items ++ (entry_bytes 0 registration.now.entry ++ string registration.now.kind ++ string registration.now.scopes ++ string registration.now.attributes ++ 0 ∷ [])) }
-    ensures kept { take (length bytes.old.items) bytes.new.items ≡ bytes.old.items }
-{
-    put_entry(bytes, &registration.entry)?;
-    put_text(bytes, &registration.kind)?;
-    put_text(bytes, &registration.scopes)?;
-    put_text(bytes, &registration.attributes)?;
-    bytes.extend_from_slice(&[0])
-}
-
 fn put_body(bytes: &mut Vec<u8>, message: &Message) -> Result<(), AllocError>
     ensures ok { OnOk result (bytes.new.items ≡ bytes.old.items ++ body_of message.now) }
     ensures kept { take (length bytes.old.items) bytes.new.items ≡ bytes.old.items }
@@ -203,9 +91,23 @@ fn put_body(bytes: &mut Vec<u8>, message: &Message) -> Result<(), AllocError>
         Message::ServiceReply(_, ServiceReply::Found(entries)) => {
             put_found(bytes, entries.as_slice())
         }
-        Message::ServiceReply(_, ServiceReply::Refused(code)) => put_code(bytes, code.get()),
+        Message::AttributeReply(_, AttributeReply::Found(attributes)) => {
+            put_attributes(bytes, attributes)
+        }
+        Message::DirectoryAdvert(_, DirectoryAdvert::Present(agent)) => {
+            put_directory_agent(bytes, agent)
+        }
+        Message::TypeReply(_, TypeReply::Found(types)) => put_types(bytes, types),
+        Message::ServiceReply(_, ServiceReply::Refused(code))
+        | Message::AttributeReply(_, AttributeReply::Refused(code))
+        | Message::DirectoryAdvert(_, DirectoryAdvert::Refused(code))
+        | Message::TypeReply(_, TypeReply::Refused(code)) => put_code(bytes, code.get()),
         Message::Registration(_, registration) => put_registration(bytes, registration),
+        Message::Withdrawal(_, withdrawal) => put_withdrawal(bytes, withdrawal),
         Message::Acknowledgement(_, code) => put_code(bytes, *code),
+        Message::AttributeRequest(_, request) => put_attribute_request(bytes, request),
+        Message::TypeRequest(_, request) => put_type_request(bytes, request),
+        Message::ServiceAdvert(_, agent) => put_service_agent(bytes, agent),
     }
 }
 
@@ -216,7 +118,14 @@ fn function_in(message: &Message) -> u8
         Message::ServiceRequest(_, _) => 1,
         Message::ServiceReply(_, _) => 2,
         Message::Registration(_, _) => 3,
+        Message::Withdrawal(_, _) => 4,
         Message::Acknowledgement(_, _) => 5,
+        Message::AttributeRequest(_, _) => 6,
+        Message::AttributeReply(_, _) => 7,
+        Message::DirectoryAdvert(_, _) => 8,
+        Message::TypeRequest(_, _) => 9,
+        Message::TypeReply(_, _) => 10,
+        Message::ServiceAdvert(_, _) => 11,
     }
 }
 

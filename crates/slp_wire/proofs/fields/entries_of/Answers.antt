@@ -1,5 +1,5 @@
 use Rattle.std.proofs.lemmas.Result.{err_from_is_err_and}
-use Rattle.slp_wire.specs.Reading.{entries_at}
+use Rattle.slp_wire.specs.Strings.{entries_at}
 use Rattle.slp_wire.proofs.Loop.{goes_on, ends, is_done}
 use Rattle.slp_wire.proofs.fields.entries_of.Goals as goal
 

@@ -1,5 +1,5 @@
 use Rattle.std.proofs.Common.{◌≡◌, ◌-◌}
-use Rattle.slp_wire.specs.Reading.{entries_at}
+use Rattle.slp_wire.specs.Strings.{entries_at}
 use Rattle.slp_wire.proofs.Loop.{with_front}
 use Rattle.slp_wire.proofs.fields.entries_of.Given as goal
 

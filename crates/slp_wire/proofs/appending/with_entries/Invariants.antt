@@ -1,8 +1,7 @@
 use Rattle.std.proofs.Common.{◌≡◌, ◌+◌, ◌≤◌, length, take, min}
 use Rattle.std.specs.List.{flat_map, AllByRecursion}
-use Rattle.slp_wire.specs.Messages.{IsEntry}
-use Rattle.slp_wire.specs.Spelling.{entry_bytes}
-use Rattle.slp_wire.proofs.writing.with_entries.Given as goal
+use Rattle.slp_wire.specs.Strings.{IsEntry, entry_bytes}
+use Rattle.slp_wire.proofs.appending.with_entries.Given as goal
 
 abbrev pub invariant-loop-entry : goal.invariant-loop-entry
 invariant-loop-entry l = record {

@@ -1,9 +1,9 @@
 use Rattle.std.proofs.Common.{◌++◌, length, take}
 use Rattle.std.specs.List.{flat_map}
 use Rattle.byteorder.specs.Endian.{big_bytes}
-use Rattle.slp_wire.specs.Spelling.{entry_bytes}
+use Rattle.slp_wire.specs.Strings.{entry_bytes}
 use Rattle.slp_wire.proofs.Fronts.{kept_mid}
-use Rattle.slp_wire.proofs.writing.put_entries.Goals as goal
+use Rattle.slp_wire.proofs.appending.put_entries.Goals as goal
 
 pub returns-in_err-put_entry-clause-kept : goal.returns-in_err-put_entry-clause-kept
 returns-in_err-put_entry-clause-kept c =
