@@ -148,15 +148,30 @@ judgement_of g h r = option_map_or (judged_taken g h r) (taken h r) Ignores
 
 abbrev pub IsChange : Message → Type 0
 IsChange (message.Registration h r) = Unit {0}
+IsChange (message.Withdrawal h w) = Unit {0}
 IsChange (message.ServiceRequest h q) = ⊥
 IsChange (message.ServiceReply h r) = ⊥
 IsChange (message.Acknowledgement h code) = ⊥
+IsChange (message.AttributeRequest h q) = ⊥
+IsChange (message.AttributeReply h r) = ⊥
+IsChange (message.DirectoryAdvert h a) = ⊥
+IsChange (message.TypeRequest h q) = ⊥
+IsChange (message.TypeReply h r) = ⊥
+IsChange (message.ServiceAdvert h a) = ⊥
 
+-- of a withdrawal nothing comes yet
 abbrev pub judgement : Grounds → Message → Judgement
 judgement g (message.Registration h r) = judgement_of g h r
 judgement g (message.ServiceRequest h q) = Ignores
 judgement g (message.ServiceReply h r) = Ignores
 judgement g (message.Acknowledgement h code) = Ignores
+judgement g (message.Withdrawal h w) = Ignores
+judgement g (message.AttributeRequest h q) = Ignores
+judgement g (message.AttributeReply h r) = Ignores
+judgement g (message.DirectoryAdvert h a) = Ignores
+judgement g (message.TypeRequest h q) = Ignores
+judgement g (message.TypeReply h r) = Ignores
+judgement g (message.ServiceAdvert h a) = Ignores
 
 -- a registry is one of the site: it has the site's capacity, and each entry stands in a scope of the site
 pub record IsRegistryOf (site : Place) (entries : Entries) (limit : ℕ) : Type 0 where

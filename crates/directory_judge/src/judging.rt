@@ -250,6 +250,7 @@ pub fn judge_on<R: Registry>(
             header,
             registration,
         ),
+        Message::Withdrawal(_, _) => Ok(Judged::Nothing),
         _ => unreachable!(),
     }
 }

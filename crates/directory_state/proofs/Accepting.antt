@@ -102,6 +102,13 @@ registered g (message.Registration h r) c because is = of_taken g h r (taken h r
 registered g (message.ServiceRequest h q) c because is = absurd (ignores_accepts c because is)
 registered g (message.ServiceReply h r) c because is = absurd (ignores_accepts c because is)
 registered g (message.Acknowledgement h code) c because is = absurd (ignores_accepts c because is)
+registered g (message.Withdrawal h w) c because is = absurd (ignores_accepts c because is)
+registered g (message.AttributeRequest h q) c because is = absurd (ignores_accepts c because is)
+registered g (message.AttributeReply h r) c because is = absurd (ignores_accepts c because is)
+registered g (message.DirectoryAdvert h a) c because is = absurd (ignores_accepts c because is)
+registered g (message.TypeRequest h q) c because is = absurd (ignores_accepts c because is)
+registered g (message.TypeReply h r) c because is = absurd (ignores_accepts c because is)
+registered g (message.ServiceAdvert h a) c because is = absurd (ignores_accepts c because is)
 
 -- ---- what that gives
 

@@ -33,6 +33,13 @@ may-change (message.Registration h r) is = tt
 may-change (message.ServiceRequest h q) is = absurd cc
 may-change (message.ServiceReply h r) is = absurd cc
 may-change (message.Acknowledgement h code) is = absurd cc
+may-change (message.Withdrawal h w) is = tt
+may-change (message.AttributeRequest h q) is = absurd cc
+may-change (message.AttributeReply h r) is = absurd cc
+may-change (message.DirectoryAdvert h a) is = absurd cc
+may-change (message.TypeRequest h q) is = absurd cc
+may-change (message.TypeReply h r) is = absurd cc
+may-change (message.ServiceAdvert h a) is = absurd cc
 
 module _ (opening : List AnyRule) (site : Place) (h : History) (m asker limit : ℕ) (heading : Option Heading) where
   unread-told : (e : WireFault) → IsTold opening site h m asker limit heading (Err e) (faulted (rules opening h) asker heading e) h
@@ -50,6 +57,13 @@ module _ (opening : List AnyRule) (site : Place) (h : History) (m asker limit : 
   other-told (message.Registration header r) none still = absurd cc
   other-told (message.ServiceReply header r) none still = (refl, refl)
   other-told (message.Acknowledgement header code) none still = (refl, refl)
+  other-told (message.Withdrawal header w) none still = absurd cc
+  other-told (message.AttributeRequest header q) none still = (refl, refl)
+  other-told (message.AttributeReply header r) none still = (refl, refl)
+  other-told (message.DirectoryAdvert header a) none still = (refl, refl)
+  other-told (message.TypeRequest header q) none still = (refl, refl)
+  other-told (message.TypeReply header r) none still = (refl, refl)
+  other-told (message.ServiceAdvert header a) none still = (refl, refl)
 
   change-told : (x : Message) (v : Judgement) → IsChange x → IsVerdict opening site h m asker x v → IsTold opening site h m asker limit heading (Ok x) (acknowledged (rules opening h) asker (header_of x) v) (next h v)
   unfolding IsTold
@@ -57,6 +71,13 @@ module _ (opening : List AnyRule) (site : Place) (h : History) (m asker limit : 
   change-told (message.ServiceRequest header q) v is verdict = absurd is
   change-told (message.ServiceReply header r) v is verdict = absurd is
   change-told (message.Acknowledgement header code) v is verdict = absurd is
+  change-told (message.Withdrawal header w) v is verdict = (v, verdict, refl, refl)
+  change-told (message.AttributeRequest header q) v is verdict = absurd is
+  change-told (message.AttributeReply header r) v is verdict = absurd is
+  change-told (message.DirectoryAdvert header a) v is verdict = absurd is
+  change-told (message.TypeRequest header q) v is verdict = absurd is
+  change-told (message.TypeReply header r) v is verdict = absurd is
+  change-told (message.ServiceAdvert header a) v is verdict = absurd is
 
   -- ---- questions
 
@@ -81,6 +102,13 @@ module _ (opening : List AnyRule) (site : Place) (h : History) (m asker limit : 
   request-is (message.Registration g r) header q is = absurd (none-some _ is)
   request-is (message.ServiceReply g r) header q is = absurd (none-some _ is)
   request-is (message.Acknowledgement g code) header q is = absurd (none-some _ is)
+  request-is (message.Withdrawal g w) header q is = absurd (none-some _ is)
+  request-is (message.AttributeRequest g p) header q is = absurd (none-some _ is)
+  request-is (message.AttributeReply g r) header q is = absurd (none-some _ is)
+  request-is (message.DirectoryAdvert g a) header q is = absurd (none-some _ is)
+  request-is (message.TypeRequest g p) header q is = absurd (none-some _ is)
+  request-is (message.TypeReply g r) header q is = absurd (none-some _ is)
+  request-is (message.ServiceAdvert g a) header q is = absurd (none-some _ is)
 
   pub request-replies : (read : Result Message WireFault) (x : Message) (header : Header) (q : ServiceRequest) (what : Sent) (reply audit : List ℕ) → read ≡ Ok x → request_of x ≡ Some (header, q)
       → (t : Told) × IsFoundOf opening site h m asker limit header q t × Tells t what reply audit → RepliesTo opening site h m asker limit heading read what reply audit

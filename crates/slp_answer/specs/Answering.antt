@@ -149,7 +149,15 @@ unfoldable pub IsTold : List AnyRule → Place → History → ℕ → ℕ → �
 IsTold opening site h m asker limit heading (Ok (message.ServiceRequest header q)) t after = (after ≡ h) × IsFoundOf opening site h m asker limit header q t
 IsTold opening site h m asker limit heading (Ok (message.Registration header r)) t after =
     (v : Judgement) × IsVerdict opening site h m asker (message.Registration header r) v × (t ≡ acknowledged (rules opening h) asker header v) × (after ≡ next h v)
+IsTold opening site h m asker limit heading (Ok (message.Withdrawal header w)) t after =
+    (v : Judgement) × IsVerdict opening site h m asker (message.Withdrawal header w) v × (t ≡ acknowledged (rules opening h) asker header v) × (after ≡ next h v)
 IsTold opening site h m asker limit heading (Ok (message.ServiceReply header r)) t after = (t ≡ silence) × (after ≡ h)
+IsTold opening site h m asker limit heading (Ok (message.AttributeRequest header q)) t after = (t ≡ silence) × (after ≡ h)
+IsTold opening site h m asker limit heading (Ok (message.AttributeReply header r)) t after = (t ≡ silence) × (after ≡ h)
+IsTold opening site h m asker limit heading (Ok (message.DirectoryAdvert header a)) t after = (t ≡ silence) × (after ≡ h)
+IsTold opening site h m asker limit heading (Ok (message.TypeRequest header q)) t after = (t ≡ silence) × (after ≡ h)
+IsTold opening site h m asker limit heading (Ok (message.TypeReply header r)) t after = (t ≡ silence) × (after ≡ h)
+IsTold opening site h m asker limit heading (Ok (message.ServiceAdvert header a)) t after = (t ≡ silence) × (after ≡ h)
 IsTold opening site h m asker limit heading (Ok (message.Acknowledgement header code)) t after = (t ≡ silence) × (after ≡ h)
 IsTold opening site h m asker limit heading (Err e) t after = (t ≡ faulted (rules opening h) asker heading e) × (after ≡ h)
 

@@ -54,6 +54,13 @@ fn into_header(message: Message) -> Header
         Message::ServiceReply(header, _) => header,
         Message::Registration(header, _) => header,
         Message::Acknowledgement(header, _) => header,
+        Message::Withdrawal(header, _) => header,
+        Message::AttributeRequest(header, _) => header,
+        Message::AttributeReply(header, _) => header,
+        Message::DirectoryAdvert(header, _) => header,
+        Message::TypeRequest(header, _) => header,
+        Message::TypeReply(header, _) => header,
+        Message::ServiceAdvert(header, _) => header,
     }
 }
 

@@ -25,5 +25,12 @@ pub fn into_request(message: Message) -> Option<(Header, ServiceRequest)>
         Message::ServiceReply(_, _) => None,
         Message::Registration(_, _) => None,
         Message::Acknowledgement(_, _) => None,
+        Message::Withdrawal(_, _) => None,
+        Message::AttributeRequest(_, _) => None,
+        Message::AttributeReply(_, _) => None,
+        Message::DirectoryAdvert(_, _) => None,
+        Message::TypeRequest(_, _) => None,
+        Message::TypeReply(_, _) => None,
+        Message::ServiceAdvert(_, _) => None,
     }
 }
