@@ -5,6 +5,7 @@ ghost use Rattle.slp_wire.specs.Spelling.{Spells};
 ghost use Rattle.slp_wire.specs.declared.message.Message.{Message as AnyMessage};
 use crate::header::{Flags, HeaderView, Tag};
 use crate::heading::read_header;
+ghost use Rattle.std.specs.Prelude.{◌<◌};
 ghost use Rattle.slp_wire.specs.Reading.{body_at};
 ghost use Rattle.slp_wire.specs.Steps.{Gives};
 
@@ -12,7 +13,8 @@ use crate::adverts::{directory_advert_of, service_agent_of};
 use crate::attributes::{attribute_reply_of, attribute_request_of};
 use crate::fault::WireFault;
 use crate::fields::number_of;
-use crate::header::Header;
+use crate::header::{Flags, Header, HeaderView, Tag};
+use crate::heading::read_header;
 use crate::message::Message;
 use crate::registrations::{registration_of, withdrawal_of};
 use crate::services::{service_reply_of, service_request_of};
@@ -30,6 +32,9 @@ fn body_of(
 ) -> Result<(Message, &[u8]), WireFault>
     ensures { Gives (λ x. (x.0, x.1.now)) result (body_at function tail header bytes.now) }
 {
+    if function > 5 {
+        return later_body_of(alloc, function, tail, header, bytes);
+    }
     match function {
         1 => {
             let (request, rest) = service_request_of(alloc, bytes)?;
@@ -51,6 +56,23 @@ fn body_of(
             let (code, rest) = number_of(bytes)?;
             Ok((Message::Acknowledgement(header, code), rest))
         }
+        _ => Err(WireFault::Unknown),
+    }
+}
+
+// The body of a message of a later function.
+#[tactic(auto, unfolding(crate::specs::Reading::body_at))]
+fn later_body_of(
+    alloc: Global,
+    function: u8,
+    tail: usize,
+    header: Header,
+    bytes: &[u8],
+) -> Result<(Message, &[u8]), WireFault>
+    requires { 5 < function }
+    ensures { Gives (λ x. (x.0, x.1.now)) result (body_at function tail header bytes.now) }
+{
+    match function {
         6 => {
             let (request, rest) = attribute_request_of(alloc, bytes)?;
             Ok((Message::AttributeRequest(header, request), rest))
