@@ -121,23 +121,23 @@ pub(crate) fn service_agent_of(
 }
 
 /// An advert of this agent more.
-pub(crate) fn with_service_agent(total: usize, agent: &ServiceAgent) -> usize
-    ensures length { result ≡ min (total + length (service_agent_bytes agent.now)) 65536 }
-    ensures sound { result ≤ longest → IsServiceAgent agent.now }
+pub(crate) fn with_service_agent(total: usize, service: &ServiceAgent) -> usize
+    ensures length { result ≡ min (total + length (service_agent_bytes service.now)) 65536 }
+    ensures sound { result ≤ longest → IsServiceAgent service.now }
 {
-    let total = with_text(total, &agent.url);
-    let total = with_text(total, &agent.scopes);
-    let total = with_text(total, &agent.attributes);
+    let total = with_text(total, &service.url);
+    let total = with_text(total, &service.scopes);
+    let total = with_text(total, &service.attributes);
     grown(total, 1)
 }
 
 /// Appends an advert of this agent.
-pub(crate) fn put_service_agent(bytes: &mut Vec<u8>, agent: &ServiceAgent) -> Result<(), AllocError>
-    ensures ok { OnOk result (bytes.new.items ≡ bytes.old.items ++ service_agent_bytes agent.now) }
+pub(crate) fn put_service_agent(bytes: &mut Vec<u8>, service: &ServiceAgent) -> Result<(), AllocError>
+    ensures ok { OnOk result (bytes.new.items ≡ bytes.old.items ++ service_agent_bytes service.now) }
     ensures kept { take (length bytes.old.items) bytes.new.items ≡ bytes.old.items }
 {
-    put_text(bytes, &agent.url)?;
-    put_text(bytes, &agent.scopes)?;
-    put_text(bytes, &agent.attributes)?;
+    put_text(bytes, &service.url)?;
+    put_text(bytes, &service.scopes)?;
+    put_text(bytes, &service.attributes)?;
     bytes.extend_from_slice(&[0])
 }

@@ -29,6 +29,9 @@ fn body_of(
 ) -> Result<(Message, &[u8]), WireFault>
     ensures { Gives (λ x. (x.0, x.1.now)) result (body_at function tail header bytes.now) }
 {
+    if function > 5 {
+        return later_body_of(alloc, function, tail, header, bytes);
+    }
     match function {
         1 => {
             let (request, rest) = service_request_of(alloc, bytes)?;
@@ -50,6 +53,23 @@ fn body_of(
             let (code, rest) = number_of(bytes)?;
             Ok((Message::Acknowledgement(header, code), rest))
         }
+        _ => Err(WireFault::Unknown),
+    }
+}
+
+// The body of a message of a later function.
+#[tactic(auto, unfolding(crate::specs::Reading::body_at))]
+fn later_body_of(
+    alloc: Global,
+    function: u8,
+    tail: usize,
+    header: Header,
+    bytes: &[u8],
+) -> Result<(Message, &[u8]), WireFault>
+    requires { 5 < function }
+    ensures { Gives (λ x. (x.0, x.1.now)) result (body_at function tail header bytes.now) }
+{
+    match function {
         6 => {
             let (request, rest) = attribute_request_of(alloc, bytes)?;
             Ok((Message::AttributeRequest(header, request), rest))

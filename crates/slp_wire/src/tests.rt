@@ -5,6 +5,9 @@ use slp_text::{Row, Text};
 use std::alloc::Global;
 use std::test::Fail;
 
+mod bodies;
+mod extensions;
+
 const REQUEST: [u8; 48] = [
     0x02, 0x01, 0x00, 0x00, 0x30, 0x00, 0x00, 0x00, 0x00, 0x00, 0x00, 0x01, 0x00, 0x02, 0x65, 0x6e,
     0x00, 0x00, 0x00, 0x0f, 0x73, 0x65, 0x72, 0x76, 0x69, 0x63, 0x65, 0x3a, 0x70, 0x72, 0x69, 0x6e,
@@ -87,7 +90,7 @@ fn changed(place: usize, to: u8) -> [u8; 48]
 fn each_fault_is_named(rt: HostRuntime) -> Result<(), Fail> {
     let alloc = rt.alloc();
     assert_eq!(rt; fault_of(alloc, &changed(0, 3)), Some(WireFault::Version));
-    assert_eq!(rt; fault_of(alloc, &changed(1, 7)), Some(WireFault::Unknown));
+    assert_eq!(rt; fault_of(alloc, &changed(1, 12)), Some(WireFault::Unknown));
     assert_eq!(rt; fault_of(alloc, &changed(9, 1)), Some(WireFault::Parse));
     assert_eq!(rt;
         fault_of(alloc, &changed(14, 0x20)),
