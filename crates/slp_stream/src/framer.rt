@@ -10,12 +10,13 @@ use byteorder::{BigEndian, ByteOrder};
 use std::alloc::Global;
 use std::marker::Model;
 
-/// The bytes of a stream that came and were not given out yet. What is held is at most one message that
-/// is begun, beside what was fed since the last message was asked for.
+/// The bytes of a stream that were fed and are not given yet. Those that were given are dropped with the
+/// next piece, so where messages are taken until none is whole, it holds at most one that is begun and
+/// one piece.
 #[derive(Debug, Drop)]
 pub struct Framer {
     limit: usize,
-    // What was fed. The bytes before `start` were given out.
+    // The bytes before `start` were given.
     bytes: Vec<u8>,
     start: usize,
     refused: Option<FrameFault>,
@@ -32,7 +33,8 @@ impl Model for Framer {
     ghost invariant = { λ f. f.start ≤ length f.bytes.items };
 }
 
-// The length of the message in front, once it is whole.
+// The length of the message in front, once it is whole: the bytes 2, 3 and 4 of its header (RFC 2608,
+// section 8), which has at least 14.
 fn whole_length(bytes: &[u8], limit: usize) -> Result<Option<usize>, FrameFault>
     ensures { front_of limit bytes.now ≡ front_found result }
 {
@@ -52,7 +54,6 @@ fn whole_length(bytes: &[u8], limit: usize) -> Result<Option<usize>, FrameFault>
     Ok(Some(length))
 }
 
-// No byte moves where none is dropped.
 fn drop_front(bytes: &mut Vec<u8>, count: usize)
     requires { count ≤ length bytes.old.items }
     ensures { bytes.new.items ≡ drop count bytes.old.items }
@@ -66,7 +67,7 @@ fn drop_front(bytes: &mut Vec<u8>, count: usize)
 }
 
 impl Framer {
-    /// A framer of messages of at most `limit` bytes. Takes no memory.
+    /// A framer of messages of at most `limit` bytes, to which nothing was fed. Takes no memory.
     pub fn new(alloc: Global, limit: usize) -> Framer
         ensures { result ≡ record { limit = limit; waiting = []; refused = None } }
     {
@@ -78,8 +79,8 @@ impl Framer {
         }
     }
 
-    /// Feeds the next bytes of the stream. A refusal leaves the framer as it was. What `next` refused
-    /// is refused here too.
+    /// Feeds the next bytes of the stream. An `Err` leaves the framer as it was: `NoMemory`, or what
+    /// `next` refused before.
     pub fn feed(&mut self, piece: &[u8]) -> Result<(), FrameFault>
         ensures fed { OnOk result (self.new ≡ record self.old { waiting = self.old.waiting ++ piece.now }) }
         ensures err { OnErr result (self.new ≡ self.old) }
@@ -94,9 +95,11 @@ impl Framer {
         Ok(())
     }
 
-    /// The next message, or the refusal of its length, as soon as its first five bytes are there.
-    /// `None` where more bytes are wanted. Takes no memory.
+    /// The next message, header and all, or `None` where more bytes are wanted. A length field (RFC 2608,
+    /// section 8) below 14 bytes is `TooShort`, one over the limit `TooLong`, as soon as it is there, and
+    /// so is every later call. Takes no memory.
     pub fn next(&mut self) -> Option<Result<&[u8], FrameFault>>
+        // What is left is known once the message is no longer borrowed.
         ensures answer { (after : Frames) × Gives self.old (shown result) after }
         ensures* state { sem 𝓛 (Rests the_row self.entry (Gives self.old (shown result))) }
     {
