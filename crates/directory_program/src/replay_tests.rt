@@ -147,7 +147,21 @@ fn what_is_no_message_gets_the_code_of_its_fault(rt: HostRuntime) -> Result<(), 
             "0201000031000000000000010002656e0000000f736572766963653a7072696e746572000744454641554c540000000178",
             "> 0202000012000000000000010002656e0005\n# deny code=5 by=auth action=see asker=10.0.0.1 type=- scope=-\n",
         ),
-        // the same, sent to many
+        // an extension that has to be understood, and one that says a wrong offset
+        (
+            "020100003b000000003000010002656e0000000f736572766963653a7072696e746572000744454641554c54000000009799000036aa4001000000",
+            "> 0202000012000000000000010002656e000c\n# deny code=12 by=option action=see asker=10.0.0.1 type=- scope=-\n",
+        ),
+        (
+            "020100003b000000003000010002656e0000000f736572766963653a7072696e746572000744454641554c54000000009799000037aa8001000000",
+            "> 0202000012000000000000010002656e0002\n# deny code=2 by=parse action=see asker=10.0.0.1 type=- scope=-\n",
+        ),
+        // a withdrawal of another version
+        (
+            "0304000038000000000000030002656e000744454641554c540000000017736572766963653a7072696e7465723a6c70723a2f2f61000000",
+            "> 0205000012000000000000030002656e0009\n# deny code=9 by=version action=withdraw asker=10.0.0.1 type=- scope=-\n",
+        ),
+        // the security parameter index again, sent to many
         (
             "0201000031200000000000010002656e0000000f736572766963653a7072696e746572000744454641554c540000000178",
             "> -\n# deny code=5 by=auth action=see asker=10.0.0.1 type=- scope=-\n",
@@ -160,6 +174,15 @@ fn what_is_no_message_gets_the_code_of_its_fault(rt: HostRuntime) -> Result<(), 
             "{message}"
         );
     }
+    Ok(())
+}
+
+#[test]
+fn extensions_are_skipped(rt: HostRuntime) -> Result<(), Fail> {
+    let alloc = rt.alloc();
+    let message = "020100003b000000003000010002656e0000000f736572766963653a7072696e746572000744454641554c54000000009799000036aa8001000000";
+    let script = format!(in alloc; "udp {message}\n")?;
+    assert_eq!(rt; output(alloc, script.as_str())?.as_slice(), NOTHING_FOUND.as_bytes());
     Ok(())
 }
 
