@@ -132,7 +132,10 @@ pub(crate) fn with_service_agent(total: usize, service: &ServiceAgent) -> usize
 }
 
 /// Appends an advert of this agent.
-pub(crate) fn put_service_agent(bytes: &mut Vec<u8>, service: &ServiceAgent) -> Result<(), AllocError>
+pub(crate) fn put_service_agent(
+    bytes: &mut Vec<u8>,
+    service: &ServiceAgent,
+) -> Result<(), AllocError>
     ensures ok { OnOk result (bytes.new.items ≡ bytes.old.items ++ service_agent_bytes service.now) }
     ensures kept { take (length bytes.old.items) bytes.new.items ≡ bytes.old.items }
 {

@@ -29,13 +29,33 @@ fn extensions_are_skipped_or_refused(rt: HostRuntime) -> Result<(), Fail> {
         (48, &[0x97, 0x99, 0, 0, 0].as_slice(), None),
         (48, &[0x97, 0x99, 0, 0, 0, 1, 2].as_slice(), None),
         // two
-        (48, &[0x97, 0x99, 0, 0, 0x36, 0xaa, 0x80, 1, 0, 0, 0].as_slice(), None),
+        (
+            48,
+            &[0x97, 0x99, 0, 0, 0x36, 0xaa, 0x80, 1, 0, 0, 0].as_slice(),
+            None,
+        ),
         // the second past the end, and within the first
-        (48, &[0x97, 0x99, 0, 0, 0x37, 0xaa, 0x80, 1, 0, 0, 0].as_slice(), Some(WireFault::Parse)),
-        (48, &[0x97, 0x99, 0, 0, 0x34, 0xaa, 0x80, 1, 0, 0, 0].as_slice(), Some(WireFault::Parse)),
+        (
+            48,
+            &[0x97, 0x99, 0, 0, 0x37, 0xaa, 0x80, 1, 0, 0, 0].as_slice(),
+            Some(WireFault::Parse),
+        ),
+        (
+            48,
+            &[0x97, 0x99, 0, 0, 0x34, 0xaa, 0x80, 1, 0, 0, 0].as_slice(),
+            Some(WireFault::Parse),
+        ),
         // one that has to be understood, as the second and as the first, whatever follows it
-        (48, &[0x97, 0x99, 0, 0, 0x36, 0xaa, 0x40, 1, 0, 0, 0].as_slice(), Some(WireFault::Option)),
-        (48, &[0x7f, 0xff, 0, 0, 0x10].as_slice(), Some(WireFault::Option)),
+        (
+            48,
+            &[0x97, 0x99, 0, 0, 0x36, 0xaa, 0x40, 1, 0, 0, 0].as_slice(),
+            Some(WireFault::Option),
+        ),
+        (
+            48,
+            &[0x7f, 0xff, 0, 0, 0x10].as_slice(),
+            Some(WireFault::Option),
+        ),
         // its neighbours
         (48, &[0x3f, 0xff, 0, 0, 0].as_slice(), None),
         (48, &[0x80, 0, 0, 0, 0].as_slice(), None),
@@ -44,8 +64,16 @@ fn extensions_are_skipped_or_refused(rt: HostRuntime) -> Result<(), Fail> {
         (48, &[].as_slice(), Some(WireFault::Parse)),
         // bytes that no extension covers, and an offset within the body
         (0, &[0x97, 0x99, 0, 0, 0].as_slice(), Some(WireFault::Parse)),
-        (47, &[0x97, 0x99, 0, 0, 0].as_slice(), Some(WireFault::Parse)),
-        (49, &[0x97, 0x99, 0, 0, 0].as_slice(), Some(WireFault::Parse)),
+        (
+            47,
+            &[0x97, 0x99, 0, 0, 0].as_slice(),
+            Some(WireFault::Parse),
+        ),
+        (
+            49,
+            &[0x97, 0x99, 0, 0, 0].as_slice(),
+            Some(WireFault::Parse),
+        ),
     ] {
         let bytes = followed_by(alloc, offset, extensions)?;
         assert_eq!(rt; fault_of(alloc, &bytes), fault);
