@@ -34,12 +34,17 @@ const ACKNOWLEDGEMENT: [u8; 18] = [
     0x00, 0x00,
 ];
 
+// What the message is written as, behind other bytes.
+fn written(alloc: Global, message: &Message) -> Result<Vec<u8>, WireFault> {
+    let mut written = Vec::from_slice(alloc, b"before")?;
+    encode(message, &mut written)?;
+    Ok(written)
+}
+
 // What the message in front of the bytes is written as, behind other bytes.
 fn written_again(alloc: Global, bytes: &[u8]) -> Result<Vec<u8>, WireFault> {
     let message = decode(alloc, bytes)?;
-    let mut written = Vec::from_slice(alloc, b"before")?;
-    encode(&message, &mut written)?;
-    Ok(written)
+    written(alloc, &message)
 }
 
 fn keeps_its_bytes(alloc: Global, bytes: &[u8]) -> Result<bool, WireFault> {
@@ -116,11 +121,25 @@ fn what_follows_is_not_looked_at(rt: HostRuntime) -> Result<(), Fail> {
     Ok(())
 }
 
-fn some_header(alloc: Global) -> Result<Header, WireFault> {
-    match decode(alloc, &REQUEST)? {
-        Message::ServiceRequest(header, _) => Ok(header),
+fn copied(alloc: Global, header: &Header) -> Result<Header, WireFault> {
+    let language = header.language.copy(alloc)?;
+    Ok(Header {
+        flags: header.flags,
+        xid: header.xid,
+        language,
+    })
+}
+
+fn header_of(alloc: Global, message: &Message) -> Result<Header, WireFault> {
+    match message {
+        Message::ServiceRequest(header, _) => copied(alloc, header),
         _ => Err(WireFault::Unknown),
     }
+}
+
+fn some_header(alloc: Global) -> Result<Header, WireFault> {
+    let message = decode(alloc, &REQUEST)?;
+    header_of(alloc, &message)
 }
 
 #[test]

@@ -128,15 +128,46 @@ fn list_in(message: &Message) -> &str {
     }
 }
 
+fn reads_withdrawal(alloc: Global) -> Result<bool, WireFault> {
+    let message = decode(alloc, &WITHDRAWAL)?;
+    Ok(is_withdrawal(&message))
+}
+
+fn reads_attribute_request(alloc: Global) -> Result<bool, WireFault> {
+    let message = decode(alloc, &ATTRIBUTE_REQUEST)?;
+    Ok(is_attribute_request(&message))
+}
+
+fn reads_directory_advert(alloc: Global) -> Result<bool, WireFault> {
+    let message = decode(alloc, &DIRECTORY_ADVERT)?;
+    Ok(is_directory_advert(&message))
+}
+
+fn reads_service_advert(alloc: Global) -> Result<bool, WireFault> {
+    let message = decode(alloc, &SERVICE_ADVERT)?;
+    Ok(is_service_advert(&message))
+}
+
+fn reads_list(alloc: Global, bytes: &[u8], list: &str) -> Result<bool, WireFault> {
+    let message = decode(alloc, bytes)?;
+    Ok(list_in(&message) == list)
+}
+
 #[test]
 fn fields_are_read(rt: HostRuntime) -> Result<(), Fail> {
     let alloc = rt.alloc();
-    assert!(rt; is_withdrawal(&decode(alloc, &WITHDRAWAL)?));
-    assert!(rt; is_attribute_request(&decode(alloc, &ATTRIBUTE_REQUEST)?));
-    assert!(rt; is_directory_advert(&decode(alloc, &DIRECTORY_ADVERT)?));
-    assert!(rt; is_service_advert(&decode(alloc, &SERVICE_ADVERT)?));
-    assert_eq!(rt; list_in(&decode(alloc, &ATTRIBUTE_REPLY)?), "(x=1)");
-    assert_eq!(rt; list_in(&decode(alloc, &TYPE_REPLY)?), "service:printer");
+    assert!(rt; reads_withdrawal(alloc)?);
+    assert!(rt; reads_attribute_request(alloc)?);
+    assert!(rt; reads_list(alloc, &ATTRIBUTE_REPLY, "(x=1)")?);
+    Ok(())
+}
+
+#[test]
+fn fields_of_adverts_are_read(rt: HostRuntime) -> Result<(), Fail> {
+    let alloc = rt.alloc();
+    assert!(rt; reads_directory_advert(alloc)?);
+    assert!(rt; reads_service_advert(alloc)?);
+    assert!(rt; reads_list(alloc, &TYPE_REPLY, "service:printer")?);
     Ok(())
 }
 
@@ -183,8 +214,14 @@ fn loses_its_rest(alloc: Global, function: u8, rest: &[u8]) -> Result<bool, Wire
 fn refusals_are_read(rt: HostRuntime) -> Result<(), Fail> {
     let alloc = rt.alloc();
     for function in [2, 7, 8, 10] {
-        assert!(rt; keeps_its_bytes(alloc, &refusal(alloc, function, &[])?)?);
+        assert!(rt; loses_its_rest(alloc, function, &[])?);
     }
+    Ok(())
+}
+
+#[test]
+fn refusals_lose_their_rest(rt: HostRuntime) -> Result<(), Fail> {
+    let alloc = rt.alloc();
     assert!(rt; loses_its_rest(alloc, 2, &[0, 1, 9, 0, 1, 0, 1, b'u', 0])?);
     assert!(rt; loses_its_rest(alloc, 7, &[0, 1, b'x', 0])?);
     assert!(rt; loses_its_rest(alloc, 8, &[0, 0, 0, 1, 0, 1, b'u', 0, 0, 0, 0, 0, 0, 0])?);
@@ -192,19 +229,36 @@ fn refusals_are_read(rt: HostRuntime) -> Result<(), Fail> {
     Ok(())
 }
 
+fn fault_behind(alloc: Global, function: u8, rest: &[u8]) -> Result<Option<WireFault>, WireFault>
+    requires { length rest.now ≤ 100 }
+{
+    let bytes = refusal(alloc, function, rest)?;
+    Ok(fault_of(alloc, &bytes))
+}
+
 #[test]
 fn faults_behind_a_code_are_named(rt: HostRuntime) -> Result<(), Fail> {
     let alloc = rt.alloc();
     for function in [2, 7, 8, 10] {
-        let cut = refusal(alloc, function, &[0])?;
-        assert_eq!(rt; fault_of(alloc, &cut), Some(WireFault::Parse));
-        let longer = refusal(alloc, function, &[0; 16])?;
-        assert_eq!(rt; fault_of(alloc, &longer), Some(WireFault::Parse));
+        assert_eq!(rt;
+            fault_behind(alloc, function, &[0])?,
+            Some(WireFault::Parse)
+        );
+        assert_eq!(rt;
+            fault_behind(alloc, function, &[0; 16])?,
+            Some(WireFault::Parse)
+        );
     }
-    let blocks = refusal(alloc, 7, &[0, 1, b'x', 1])?;
-    assert_eq!(rt; fault_of(alloc, &blocks), Some(WireFault::Auth));
-    let blocks = refusal(alloc, 8, &[0, 0, 0, 1, 0, 0, 0, 0, 0, 0, 0, 0, 1])?;
-    assert_eq!(rt; fault_of(alloc, &blocks), Some(WireFault::Auth));
+    Ok(())
+}
+
+#[test]
+fn blocks_behind_a_code_are_faults(rt: HostRuntime) -> Result<(), Fail> {
+    let alloc = rt.alloc();
+    let attributes = fault_behind(alloc, 7, &[0, 1, b'x', 1])?;
+    assert_eq!(rt; attributes, Some(WireFault::Auth));
+    let agent = fault_behind(alloc, 8, &[0, 0, 0, 1, 0, 0, 0, 0, 0, 0, 0, 0, 1])?;
+    assert_eq!(rt; agent, Some(WireFault::Auth));
     Ok(())
 }
 
@@ -250,13 +304,17 @@ fn authority_in(message: &Message) -> &str {
     }
 }
 
+fn names(alloc: Global, bytes: &[u8], name: &str) -> Result<bool, WireFault> {
+    let message = decode(alloc, bytes)?;
+    Ok(authority_in(&message) == name)
+}
+
 // Whether a request for the types of this authority is read as one, and keeps its bytes.
 fn asks_for(alloc: Global, authority: &[u8], name: &str) -> Result<bool, WireFault>
     requires { length authority.now ≤ 100 }
 {
     let bytes = asked(alloc, authority)?;
-    let message = decode(alloc, &bytes)?;
-    Ok(authority_in(&message) == name && keeps_its_bytes(alloc, &bytes)?)
+    Ok(names(alloc, &bytes, name)? && keeps_its_bytes(alloc, &bytes)?)
 }
 
 #[test]
@@ -265,6 +323,12 @@ fn authorities_keep_their_bytes(rt: HostRuntime) -> Result<(), Fail> {
     assert!(rt; asks_for(alloc, &[0xff, 0xff], "*")?);
     assert!(rt; asks_for(alloc, &[0, 0], "")?);
     assert!(rt; asks_for(alloc, &[0, 4, b'a', b'c', b'm', b'e'], "acme")?);
+    Ok(())
+}
+
+#[test]
+fn other_authorities_are_faults(rt: HostRuntime) -> Result<(), Fail> {
+    let alloc = rt.alloc();
     let longer = asked(alloc, &[0xff, 0xff, b'x'])?;
     assert_eq!(rt; fault_of(alloc, &longer), Some(WireFault::Parse));
     let cut = asked(alloc, &[0xff, 0xfe, b'x'])?;
