@@ -8,7 +8,7 @@ use Rattle.directory_state.specs.Folding.{Fold}
 use Rattle.directory_state.specs.Verdicts.{IsLegal}
 use Rattle.slp_answer.specs.Answering.{Told, IsAnswer}
 use Rattle.directory_program.specs.Commands.{Order, Single}
-use Rattle.directory_program.specs.Running.{World, Does, longest_reply}
+use Rattle.directory_program.specs.Running.{World, Does}
 use Rattle.directory_program.specs.Sites.{opening_place}
 use Rattle.directory_program.specs.declared.session.Session.{Session}
 
@@ -18,12 +18,13 @@ pub record Holds (w : World) (s : Session) : Type 0 where
   pub fold : Fold opening_rules opening_place w.history s.directory
   pub moment : s.moment ≡ w.moment
   pub asker : s.asker ≡ w.asker
+  pub stream : s.stream ≡ w.stream
 
--- what came of a datagram: the digits of the reply, if one is sent, the audit line, and the session after it
-pub record Takes (w : World) (bytes : List ℕ) (digits : Option (List ℕ)) (audit : List ℕ) (s : Session) : Type 0 where
+-- what came of a message, answered in at most so many bytes: the digits of the reply, if one is sent, the audit line, and the session after it
+pub record Takes (limit : ℕ) (w : World) (bytes : List ℕ) (digits : Option (List ℕ)) (audit : List ℕ) (s : Session) : Type 0 where
   pub told : Told
   pub after : History
-  pub is : IsAnswer opening_rules opening_place w.history w.moment w.asker longest_reply bytes told after
+  pub is : IsAnswer opening_rules opening_place w.history w.moment w.asker limit bytes told after
   pub shown : digits ≡ option_map (λ _. encode_lower told.reply) told.code
   pub audited : audit ≡ told.audit
   pub holds : Holds (record w { history = after }) s
