@@ -166,11 +166,16 @@ fn what_is_no_message_gets_the_code_of_its_fault(rt: HostRuntime) -> Result<(), 
 #[test]
 fn a_message_that_is_cut_anywhere_is_refused(rt: HostRuntime) -> Result<(), Fail> {
     let alloc = rt.alloc();
-    let refused = "> 0205000012000000000000020002656e0002\n# deny code=2 by=parse action=register asker=10.0.0.1 type=- scope=-\n";
+    let refused =
+        "> 0205000012000000000000020002656e0002\n# deny code=2 by=parse action=register asker=10.0.0.1 type=- scope=-\n";
     for cut in 0..REGISTRATION.len() / 2 {
         let script = format!(in alloc; "udp {}\n", &REGISTRATION[..2 * cut])?;
         let want = if cut < 16 { "> -\n" } else { refused };
-        assert_eq!(rt; output(alloc, script.as_str())?.as_slice(), want.as_bytes(), "{cut}");
+        assert_eq!(rt;
+            output(alloc, script.as_str())?.as_slice(),
+            want.as_bytes(),
+            "{cut}"
+        );
     }
     Ok(())
 }

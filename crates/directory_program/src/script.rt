@@ -20,10 +20,14 @@ pub enum Said {
     Blank,
     /// It is this moment.
     At(u32),
-    /// Datagrams come from this address.
+    /// Messages come from this address.
     From(u32),
     /// This datagram came.
     Udp(Vec<u8>),
+    /// A stream begins.
+    Open,
+    /// These bytes came on the stream.
+    Tcp(Vec<u8>),
     /// The line is no order.
     Wrong,
 }
@@ -107,6 +111,16 @@ pub fn read_line(alloc: Global, line: &[u8]) -> Result<Said, NoMemory>
             Ok(bytes) if bytes.len() <= LONGEST_DATAGRAM => Ok(Said::Udp(bytes)),
             Err(FromHexError::OutOfMemory) => Err(NoMemory),
             _ => Ok(Said::Wrong),
+        };
+    }
+    if line == b"open".as_slice() {
+        return Ok(Said::Open);
+    }
+    if let Some(text) = line.strip_prefix(b"tcp ") {
+        return match hex::decode(alloc, text) {
+            Ok(bytes) => Ok(Said::Tcp(bytes)),
+            Err(FromHexError::OutOfMemory) => Err(NoMemory),
+            Err(_) => Ok(Said::Wrong),
         };
     }
     Ok(Said::Wrong)
