@@ -1,12 +1,12 @@
 -- What comes of a stream, message by message.
-use Rattle.std.proofs.Common.{◌≡◌, ℕ, List, [], ◌∷◌, ◌++◌, Option, Some, None, Result, Ok, Err, refl, sym, ap, ◌∙◌, subst, append_assoc, inl, inr}
+use Rattle.std.proofs.Common.{◌≡◌, ℕ, List, [], ◌∷◌, ◌++◌, Option, Some, None, Ok, Err, refl, sym, ap, ◌∙◌, subst, append_assoc, inl, inr}
 use Rattle.std.specs.Prelude.{MatchOption}
 use Rattle.std.specs.Option.{option_map_or}
 use Rattle.std.proofs.lemmas.List.{append-nil}
 use Rattle.slp_stream.specs.Cutting.{Front, Wanting, Whole, Bad, front_of, IsEnd, IsCut}
 use Rattle.slp_stream.specs.Framing.{Frames, answer_at, answered, left_at, left_after}
 use Rattle.slp_stream.specs.declared.fault.FrameFault.{FrameFault}
-use Rattle.slp_stream.proofs.Given.{Leads, IsTaken, gave_message, gave_none, leads_on, leads_to_end}
+use Rattle.slp_stream.proofs.Given.{Leads, gave_message, gave_none, leads_on, leads_to_end}
 use Rattle.directory_program.specs.Commands.{Tcp}
 use Rattle.directory_program.specs.Holding.{Holds, Acts, Meets, Drains}
 use Rattle.directory_program.specs.Running.{World, Answers, AnswersAll, Pieces, bad_length, closed, end_told, end_refused, longest_on_stream, new_stream}

@@ -1,4 +1,4 @@
-use Rattle.std.proofs.Common.{◌≡◌, ◌∷◌, ◌++◌, [], List, ℕ, Some, None, Ok, Err, refl, sym, ap, ◌∙◌}
+use Rattle.std.proofs.Common.{◌≡◌, ◌∷◌, ◌++◌, [], List, ℕ, Some, None, Ok, Err, sym, ap, ◌∙◌}
 use Rattle.slp_stream.specs.Framing.{Frames, answered, shown}
 use Rattle.directory_program.specs.Running.{bad_length}
 use Rattle.directory_program.proofs.Known.{Appends-none, Appends-append}

@@ -1,5 +1,5 @@
 use Rattle.std.proofs.Common.{◌≡◌, Option, None, Some, Result, Ok, Err, inl, refl, ◌∙◌}
-use Rattle.std.specs.Prelude.{◌⊎◌, MatchOption, MatchResult}
+use Rattle.std.specs.Prelude.{◌⊎◌, MatchResult}
 use Rattle.slp_stream.specs.Framing.{Frames, Refuses}
 use Rattle.slp_stream.specs.declared.fault.FrameFault.{FrameFault}
 use Rattle.directory_program.specs.declared.fault.RunFault.{RunFault}
