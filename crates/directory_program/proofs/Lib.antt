@@ -8,3 +8,4 @@ pub mod Pieces
 pub mod Reading
 pub mod Taking
 pub mod Turning
+pub mod Streams

@@ -23,6 +23,8 @@ Holds-opening = record {
   fold = record { entries = AreLive-nil; ruled = refl; placed = refl; clocks = refl };
   moment = refl;
   asker = refl;
+  stream = refl;
+  limit = refl;
 }
 
 pub Stood-begin : (p : Place) → p.number ≡ 0 → p.session ≡ opening_session → Stood [] [] [] p

@@ -24,6 +24,10 @@ pub data Order : Type 0 where
   From : ℕ → Order
   -- this datagram came
   Udp : List ℕ → Order
+  -- a stream begins
+  Open : Order
+  -- these bytes came on the stream
+  Tcp : List ℕ → Order
 
 pub data Command : Type 0 where
   Single : Order → Command
@@ -66,6 +70,21 @@ abbrev pub within_datagram : Result (List ℕ) FromHexError → Option Order
 within_datagram (Ok bytes) = if nat_le (length bytes) longest_datagram then Some (Udp bytes) else None
 within_datagram (Err e) = None
 
+-- a piece of a stream is as long as its line lets it be
+abbrev pub as_piece : Result (List ℕ) FromHexError → Option Order
+as_piece (Ok bytes) = Some (Tcp bytes)
+as_piece (Err e) = None
+
+abbrev pub open_line : List ℕ
+open_line = codes "open"
+
+abbrev pub tcp_word : List ℕ
+tcp_word = codes "tcp "
+
+-- the line that is this word alone
+abbrev pub alone : List ℕ → Order → Line → Option Order
+alone word order l = if pointwise ◌==◌ l word then Some order else None
+
 abbrev pub at_word : List ℕ
 at_word = codes "at "
 
@@ -84,7 +103,11 @@ order_of l =
     (option_and_then (λ digits. option_map At (number_of digits)) (behind at_word l))
     (option_or
     (option_and_then (λ text. option_map From (address_of text)) (behind from_word l))
-    (option_and_then (λ text. within_datagram (decode_of text)) (behind udp_word l)))
+    (option_or
+    (option_and_then (λ text. within_datagram (decode_of text)) (behind udp_word l))
+    (option_or
+    (alone open_line Open l)
+    (option_and_then (λ text. as_piece (decode_of text)) (behind tcp_word l)))))
 
 -- these lines are this command
 abbrev pub Spells : List Line → Command → Type 0

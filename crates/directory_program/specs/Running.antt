@@ -1,5 +1,5 @@
 -- What a script may make the program write.
-use Rattle.std.specs.Prelude.{◌≡◌, ◌⊎◌, ℕ, ◌==◌, List, [], ◌∷◌, ◌++◌, length, codes, if◌then◌else◌}
+use Rattle.std.specs.Prelude.{◌≡◌, ◌⊎◌, ℕ, ◌==◌, List, [], ◌∷◌, ◌++◌, length, codes, Option, Some, None, MatchOption, if◌then◌else◌}
 use Rattle.std.specs.List.{flat_map}
 use Rattle.std.specs.Option.{option_map_or}
 use Rattle.hex.specs.Hex.{encode_lower}
@@ -7,23 +7,36 @@ use Rattle.access_rules.specs.Opening.{opening_rules}
 use Rattle.directory_judge.specs.History.{History}
 use Rattle.slp_answer.specs.Answering.{Told, IsAnswer}
 use Rattle.slp_answer.specs.Refusing.{refused_reply, refused_line}
-use Rattle.directory_program.specs.Commands.{Blank, At, From, Udp, Command, Single, Reads, StopsAt}
+use Rattle.slp_stream.specs.Cutting.{Front, Wanting, Whole, Bad, front_of, IsCut}
+use Rattle.slp_stream.specs.Framing.{Frames}
+use Rattle.slp_stream.specs.declared.fault.FrameFault.{FrameFault}
+use Rattle.slp_stream.specs.declared.fault.FrameFault.TheVariants.{TooLong, TooShort, NoMemory}
+use Rattle.directory_program.specs.Commands.{Blank, At, From, Udp, Open, Tcp, Command, Single, Reads, StopsAt}
 use Rattle.directory_program.specs.Lines.{Line, lines_of, ended, HasNoLf}
 use Rattle.directory_program.specs.Sites.{opening_place}
-
--- what happened so far, the moment that was set, and from where datagrams come
-pub record World : Type 0 where
-  pub history : History
-  pub moment : ℕ
-  pub asker : ℕ
-
--- nothing happened, it is moment 0, and datagrams come from 10.0.0.1
-abbrev pub beginning : World
-beginning = record { history = []; moment = 0; asker = 167772161 }
 
 -- the bytes of a reply that is sent as a datagram
 abbrev pub longest_reply : ℕ
 longest_reply = 1400
+
+-- the bytes of a message that comes on a stream, and of a reply that is sent on it
+abbrev pub longest_on_stream : ℕ
+longest_on_stream = 65535
+
+-- a stream of which nothing came yet
+abbrev pub new_stream : Frames
+new_stream = record { limit = longest_on_stream; waiting = []; refused = None }
+
+-- what happened so far, the moment that was set, from where messages come, and what came of the stream and is no whole message
+pub record World : Type 0 where
+  pub history : History
+  pub moment : ℕ
+  pub asker : ℕ
+  pub stream : Frames
+
+-- nothing happened, it is moment 0, messages come from 10.0.0.1, and a stream is open
+abbrev pub beginning : World
+beginning = record { history = []; moment = 0; asker = 167772161; stream = new_stream }
 
 -- what is written for a datagram: the digits of the reply or a dash, and then the audit line, if any
 abbrev pub answered : Told → List ℕ
@@ -34,14 +47,53 @@ abbrev pub refused : List ℕ → ℕ → List ℕ
 refused bytes asker =
     codes "> " ++ (if length (refused_reply bytes) == 0 then codes "-" else encode_lower (refused_reply bytes)) ++ 10 ∷ refused_line bytes asker
 
+-- what a message may be answered with, in at most so many bytes, and what it leaves
+abbrev pub Answers : ℕ → World → List ℕ → List ℕ → World → Type 0
+Answers limit w bytes out v =
+    ((t : Told) × (after : History) × IsAnswer opening_rules opening_place w.history w.moment w.asker limit bytes t after × (out ≡ answered t) × (v ≡ record w { history = after }))
+    ⊎ ((out ≡ refused bytes w.asker) × (v ≡ w))
+
+-- messages that came on a stream, one after the other
+abbrev pub AnswersAll : World → List (List ℕ) → List ℕ → World → Type 0
+AnswersAll w [] out v = (out ≡ []) × (v ≡ w)
+AnswersAll w (m ∷ ms) out v = (mid : World) × (first rest : List ℕ) × (out ≡ first ++ rest) × Answers longest_on_stream w m first mid × AnswersAll mid ms rest v
+
+-- what is written where a stream is cut no further
+abbrev pub bad_length : FrameFault → List ℕ
+bad_length TooLong = codes "! too-long" ++ 10 ∷ []
+bad_length TooShort = codes "! too-short" ++ 10 ∷ []
+bad_length NoMemory = []
+
+abbrev pub closed : List ℕ
+closed = codes "! closed" ++ 10 ∷ []
+
+-- what is written of the rest of a stream, and what is left of it: a bad length is told once
+abbrev pub end_told : Front → List ℕ
+end_told Wanting = []
+end_told (Whole n) = []
+end_told (Bad e) = bad_length e
+
+abbrev pub end_refused : Front → Option FrameFault
+end_refused Wanting = None
+end_refused (Whole n) = None
+end_refused (Bad e) = Some e
+
+-- what a piece of a stream that is not refused may write, and what it leaves: its whole messages are answered
+abbrev pub Pieces : World → List ℕ → List ℕ → World → Type 0
+Pieces w bytes out v =
+    (ms : List (List ℕ)) × (rest : List ℕ) × IsCut longest_on_stream (w.stream.waiting ++ bytes) ms rest
+    × (u : World) × (said : List ℕ) × AnswersAll w ms said u
+    × (out ≡ said ++ end_told (front_of longest_on_stream rest))
+    × (v ≡ record u { stream = record { limit = longest_on_stream; waiting = rest; refused = end_refused (front_of longest_on_stream rest) } })
+
 -- what a command may write, and what it leaves
 abbrev pub Does : World → Command → List ℕ → World → Type 0
 Does w (Single Blank) out v = (out ≡ []) × (v ≡ w)
 Does w (Single (At m)) out v = (out ≡ []) × (v ≡ record w { moment = m })
 Does w (Single (From a)) out v = (out ≡ []) × (v ≡ record w { asker = a })
-Does w (Single (Udp bytes)) out v =
-    ((t : Told) × (after : History) × IsAnswer opening_rules opening_place w.history w.moment w.asker longest_reply bytes t after × (out ≡ answered t) × (v ≡ record w { history = after }))
-    ⊎ ((out ≡ refused bytes w.asker) × (v ≡ w))
+Does w (Single (Udp bytes)) out v = Answers longest_reply w bytes out v
+Does w (Single Open) out v = (out ≡ []) × (v ≡ record w { stream = new_stream })
+Does w (Single (Tcp bytes)) out v = MatchOption w.stream.refused (Pieces w bytes out v) (λ _. (out ≡ closed) × (v ≡ w))
 
 -- what these commands may write one after the other, and what they leave
 abbrev pub Prints : World → List Command → List ℕ → World → Type 0

@@ -4,7 +4,7 @@ use Rattle.directory_program.specs.Lines.{Line}
 use Rattle.directory_program.specs.Commands.{order_of}
 use Rattle.directory_program.specs.Commands as script
 use Rattle.directory_program.specs.declared.script.Said.{Said}
-use Rattle.directory_program.specs.declared.script.Said.TheVariants.{Blank, At, From, Udp, Wrong}
+use Rattle.directory_program.specs.declared.script.Said.TheVariants.{Blank, At, From, Udp, Open, Tcp, Wrong}
 
 -- this is what the line says
 unfoldable pub Says : Line → Said → Type 0
@@ -12,4 +12,6 @@ Says l Blank = order_of l ≡ Some script.Blank
 Says l (At m) = order_of l ≡ Some (script.At m)
 Says l (From a) = order_of l ≡ Some (script.From a)
 Says l (Udp v) = order_of l ≡ Some (script.Udp v.items)
+Says l Open = order_of l ≡ Some script.Open
+Says l (Tcp v) = order_of l ≡ Some (script.Tcp v.items)
 Says l Wrong = order_of l ≡ None

@@ -1,10 +1,11 @@
-//! The directory programs: so far the replay of a script of datagrams.
+//! The directory programs: so far the replay of a script of messages.
 #![tactic(auto)]
 
 mod cutting;
 mod fault;
 mod feeding;
 pub mod laws;
+mod meeting;
 mod place;
 mod printing;
 mod program;
@@ -13,6 +14,7 @@ mod replay_tests;
 mod running;
 mod script;
 mod session;
+mod streaming;
 #[cfg(test)]
 mod tests;
 

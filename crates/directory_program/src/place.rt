@@ -1,17 +1,15 @@
 ghost use Rattle.std.specs.Prelude.{◌≡◌, ◌<◌, ◌+◌, ◌^◌, ℕ, List, MatchResult};
 ghost use Rattle.std.specs.Io.KnownBytes.{Appends};
-ghost use Rattle.directory_program.specs.Commands.{Udp as UdpOrder};
-ghost use Rattle.directory_program.specs.Holding.{Acts};
 ghost use Rattle.directory_program.specs.Standing.{TurnsTo, TurnFails};
-ghost use Rattle.directory_program.specs.declared.fault.RunFault.TheVariants.{Write as Unwritten};
 
 use crate::fault::RunFault;
-use crate::printing::{print, print_refusal};
+use crate::meeting::meet;
 use crate::script::{Said, read_line};
-use crate::session::Session;
+use crate::session::{LONGEST_ON_STREAM, LONGEST_REPLY, Session};
+use crate::streaming::take_piece;
 use access_rules::Addr;
 use slp_answer::Answer;
-use slp_text::NoMemory;
+use slp_stream::Framer;
 use std::alloc::Global;
 use std::io::Write;
 
@@ -21,29 +19,6 @@ pub struct Place {
     /// The lines so far.
     pub number: u64,
     pub session: Session,
-}
-
-// Answers a datagram, and writes what came of it.
-fn datagram<W: Write>(
-    session: &mut Session,
-    alloc: Global,
-    bytes: &[u8],
-    answer: &mut Answer,
-    writer: &mut W,
-) -> Result<(), RunFault>
-    ensures { MatchResult result
-        (λ _. (now : List ℕ) × Appends (W.contents writer.old) (W.contents writer.new) now × Acts session.old (UdpOrder bytes.now) now session.new)
-        (λ e. e ≡ Unwritten) }
-{
-    let written = match session.take(alloc, bytes, answer) {
-        Ok(Some(digits)) => print(Some(digits.as_bytes()), answer.audit.as_slice(), writer),
-        Ok(None) => print(None, answer.audit.as_slice(), writer),
-        Err(NoMemory) => print_refusal(bytes, session.asker, writer),
-    };
-    match written {
-        Ok(()) => Ok(()),
-        Err(_) => Err(RunFault::Write),
-    }
 }
 
 impl Place {
@@ -64,8 +39,17 @@ impl Place {
             Said::Blank => {}
             Said::At(moment) => self.session.moment = moment,
             Said::From(asker) => self.session.asker = Addr(asker),
-            Said::Udp(bytes) => {
-                datagram(&mut self.session, alloc, bytes.as_slice(), answer, writer)?
+            Said::Udp(bytes) => meet(
+                &mut self.session,
+                alloc,
+                bytes.as_slice(),
+                LONGEST_REPLY,
+                answer,
+                writer,
+            )?,
+            Said::Open => self.session.stream = Framer::new(alloc, LONGEST_ON_STREAM),
+            Said::Tcp(bytes) => {
+                take_piece(&mut self.session, alloc, bytes.as_slice(), answer, writer)?
             }
             Said::Wrong => return Err(RunFault::Line(self.number + 1)),
         }

@@ -8,7 +8,7 @@ use slp_answer::refusal;
 use std::io;
 use std::io::Write;
 
-/// Writes what came of a datagram: the digits of the reply or a dash, and the audit line, if any.
+/// Writes what came of a message: the digits of the reply or a dash, and the audit line, if any.
 pub fn print<W: Write>(digits: Option<&[u8]>, audit: &[u8], writer: &mut W) -> io::Result<()>
     ensures { OnOk result (Appends (W.contents writer.old) (W.contents writer.new) (codes "> " ++ option_map_or (λ d. d.now) digits.entry (codes "-") ++ 10 ∷ audit.now)) }
 {
@@ -21,7 +21,7 @@ pub fn print<W: Write>(digits: Option<&[u8]>, audit: &[u8], writer: &mut W) -> i
     writer.write_all(audit)
 }
 
-/// Writes what comes of a datagram that found no memory. Takes none itself.
+/// Writes what comes of a message that found no memory. Takes none itself.
 pub fn print_refusal<W: Write>(bytes: &[u8], asker: Addr, writer: &mut W) -> io::Result<()>
     ensures { OnOk result (Appends (W.contents writer.old) (W.contents writer.new) (refused bytes.now asker)) }
 {

@@ -1,5 +1,5 @@
-ghost use Rattle.std.specs.Prelude.{◌≡◌, ◌<◌, [], ◌∷◌, IfOk, IfSome};
-ghost use Rattle.directory_program.specs.Commands.{number_of, octet_of, address_in, address_of};
+ghost use Rattle.std.specs.Prelude.{◌≡◌, ◌≤◌, ◌<◌, [], ◌∷◌, None, length, IfOk, IfSome};
+ghost use Rattle.directory_program.specs.Commands.{number_of, octet_of, address_in, address_of, behind, at_word, from_word, longest_line};
 ghost use Rattle.directory_program.specs.Saying.{Says};
 
 use crate::cutting::cut;
@@ -20,10 +20,14 @@ pub enum Said {
     Blank,
     /// It is this moment.
     At(u32),
-    /// Datagrams come from this address.
+    /// Messages come from this address.
     From(u32),
     /// This datagram came.
     Udp(Vec<u8>),
+    /// A stream begins.
+    Open,
+    /// These bytes came on the stream.
+    Tcp(Vec<u8>),
     /// The line is no order.
     Wrong,
 }
@@ -79,6 +83,35 @@ fn address(text: &[u8]) -> Option<u32>
     joined(a, b, c, d)
 }
 
+// What a line says that begins with neither `at` nor `from`.
+#[tactic(auto, unfolding(crate::specs::Saying::Says, crate::specs::Commands::order_of))]
+fn read_message(alloc: Global, line: &[u8]) -> Result<Said, NoMemory>
+    requires some { 0 < length line.now }
+    requires short { length line.now ≤ longest_line }
+    requires no_moment { behind at_word line.now ≡ None }
+    requires no_address { behind from_word line.now ≡ None }
+    ensures { IfOk result (Says line.now) }
+{
+    if let Some(text) = line.strip_prefix(b"udp ") {
+        return match hex::decode(alloc, text) {
+            Ok(bytes) if bytes.len() <= LONGEST_DATAGRAM => Ok(Said::Udp(bytes)),
+            Err(FromHexError::OutOfMemory) => Err(NoMemory),
+            _ => Ok(Said::Wrong),
+        };
+    }
+    if line == b"open".as_slice() {
+        return Ok(Said::Open);
+    }
+    if let Some(text) = line.strip_prefix(b"tcp ") {
+        return match hex::decode(alloc, text) {
+            Ok(bytes) => Ok(Said::Tcp(bytes)),
+            Err(FromHexError::OutOfMemory) => Err(NoMemory),
+            Err(_) => Ok(Said::Wrong),
+        };
+    }
+    Ok(Said::Wrong)
+}
+
 /// What a line says, which stands here without its LF.
 #[tactic(auto, unfolding(crate::specs::Saying::Says, crate::specs::Commands::order_of))]
 pub fn read_line(alloc: Global, line: &[u8]) -> Result<Said, NoMemory>
@@ -102,12 +135,5 @@ pub fn read_line(alloc: Global, line: &[u8]) -> Result<Said, NoMemory>
             None => Said::Wrong,
         });
     }
-    if let Some(text) = line.strip_prefix(b"udp ") {
-        return match hex::decode(alloc, text) {
-            Ok(bytes) if bytes.len() <= LONGEST_DATAGRAM => Ok(Said::Udp(bytes)),
-            Err(FromHexError::OutOfMemory) => Err(NoMemory),
-            _ => Ok(Said::Wrong),
-        };
-    }
-    Ok(Said::Wrong)
+    read_message(alloc, line)
 }

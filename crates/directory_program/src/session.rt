@@ -1,4 +1,4 @@
-ghost use Rattle.std.specs.Prelude.{◌≡◌, IfOk, MatchResult, string_bytes};
+ghost use Rattle.std.specs.Prelude.{◌≡◌, ◌≤◌, IfOk, MatchResult, string_bytes};
 ghost use Rattle.std.specs.Option.{option_map};
 ghost use Rattle.std.specs.FinMap as fin;
 ghost use Rattle.hex.specs.Hex.{encode_lower};
@@ -11,6 +11,7 @@ use directory_judge::{Change, Site};
 use directory_state::Directory;
 use registry_core::{ListRegistry, RegistryFault};
 use slp_answer::{Answer, Sent, acknowledge, is_change, reply};
+use slp_stream::Framer;
 use slp_text::{NoMemory, ScopeList};
 use std::alloc::Global;
 use std::sync::Arc;
@@ -21,22 +22,26 @@ const CAPACITY: usize = 16;
 /// The boot stamp of the opening site.
 const BOOT: u32 = 1;
 
-/// 10.0.0.1, from which datagrams come at first.
+/// 10.0.0.1, from which messages come at first.
 const FIRST_ASKER: Addr = Addr(0x0a00_0001);
 
 /// 127.0.0.1, at which they arrive.
 const OWN: Addr = Addr(0x7f00_0001);
 
 /// The bytes of a reply that is sent as a datagram.
-const LONGEST_REPLY: usize = 1_400;
+pub const LONGEST_REPLY: usize = 1_400;
 
-/// What a run keeps between two lines: the directory, the moment that was set, and from where
-/// datagrams come.
+/// The bytes of a message that comes on a stream, and of a reply that is sent on it.
+pub const LONGEST_ON_STREAM: usize = 65_535;
+
+/// What a run keeps between two lines: the directory, the moment that was set, from where messages
+/// come, and what came of the stream and is no whole message.
 #[derive(Drop)]
 pub struct Session {
     pub directory: Directory<ListRegistry>,
     pub moment: u32,
     pub asker: Addr,
+    pub stream: Framer,
 }
 
 // The site of one scope, `DEFAULT`.
@@ -66,7 +71,7 @@ impl Session {
     ghost use Rattle.slp_answer.specs.Answering.{Told, Tells, HandsOut, IsAnswer};
     ghost use Rattle.directory_program.specs.Opening.{opening_session};
     ghost use Rattle.directory_program.specs.Holding.{Holds, Takes};
-    ghost use Rattle.directory_program.specs.Running.{World, longest_reply};
+    ghost use Rattle.directory_program.specs.Running.{World};
 
     /// The setup with which a run begins: the scope `DEFAULT`, room for 16 entries, and rules that
     /// allow everything to everyone.
@@ -80,22 +85,27 @@ impl Session {
             directory: Directory::open(alloc, registry, &site, rules)?,
             moment: 0,
             asker: FIRST_ASKER,
+            stream: Framer::new(alloc, LONGEST_ON_STREAM),
         })
     }
 
-    /// Answers a datagram, and makes the change that it asks for. What is answered are the digits of
-    /// the reply, if there is one; the audit line is left in `answer`. `NoMemory` changes nothing.
+    /// Answers a message in at most `limit` bytes, and makes the change that it asks for. What is
+    /// answered are the digits of the reply, if there is one; the audit line is left in `answer`.
+    /// `NoMemory` changes nothing.
     pub fn take(
         &mut self,
         alloc: Global,
         bytes: &[u8],
+        limit: usize,
         answer: &mut Answer,
     ) -> Result<Option<String>, NoMemory>
+        requires datagram { 1400 ≤ limit }
+        requires stream { limit ≤ 65535 }
         ensures { (w : World) → Holds w self.old → MatchResult result
-            (λ shown. Takes w bytes.now (option_map string_bytes shown) answer.new.audit.items self.new)
+            (λ shown. Takes limit w bytes.now (option_map string_bytes shown) answer.new.audit.items self.new)
             (λ _. self.new ≡ self.old) }
     {
-        let (sent, change) = self.respond(alloc, bytes, answer)?;
+        let (sent, change) = self.respond(alloc, bytes, limit, answer)?;
         let shown = digits(alloc, sent, answer)?;
         if let Some(change) = change {
             self.directory.apply(change);
@@ -103,15 +113,18 @@ impl Session {
         Ok(shown)
     }
 
-    // What is answered to a datagram, and the change that it asks for, which is not made yet.
+    // What is answered to a message, and the change that it asks for, which is not made yet.
     fn respond(
         &self,
         alloc: Global,
         bytes: &[u8],
+        limit: usize,
         answer: &mut Answer,
     ) -> Result<(Sent, Option<Change>), NoMemory>
+        requires datagram { 1400 ≤ limit }
+        requires stream { limit ≤ 65535 }
         ensures { (w : World) → Holds w self.now → IfOk result (λ r. (t : Told) × (after : History)
-            × IsAnswer opening_rules opening_place w.history w.moment w.asker longest_reply bytes.now t after
+            × IsAnswer opening_rules opening_place w.history w.moment w.asker limit bytes.now t after
             × Tells t r.0 answer.new.bytes.items answer.new.audit.items
             × HandsOut opening_rules opening_place w.history r.1 after) }
     {
@@ -132,7 +145,7 @@ impl Session {
             self.moment,
             self.asker,
             bytes,
-            LONGEST_REPLY,
+            limit,
             answer,
         )?;
         Ok((sent, None))

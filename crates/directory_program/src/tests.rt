@@ -21,6 +21,11 @@ fn orders_are_read(rt: HostRuntime) -> Result<(), Fail> {
     assert!(rt;
         matches!(said(&rt, b"udp aB00")?, Said::Udp(bytes) if bytes.as_slice() == b"\xab\x00".as_slice())
     );
+    assert!(rt; matches!(said(&rt, b"open")?, Said::Open));
+    assert!(rt; matches!(said(&rt, b"tcp ")?, Said::Tcp(bytes) if bytes.is_empty()));
+    assert!(rt;
+        matches!(said(&rt, b"tcp aB00")?, Said::Tcp(bytes) if bytes.as_slice() == b"\xab\x00".as_slice())
+    );
     Ok(())
 }
 
@@ -49,6 +54,13 @@ fn other_lines_are_wrong(rt: HostRuntime) -> Result<(), Fail> {
         " udp 00",
         "udp 00\r",
         "udp  00",
+        "ope",
+        "open ",
+        "Open",
+        "tcp",
+        "tcp 0",
+        "tcp 0g",
+        "tcp  00",
         "\r",
         " ",
         "at 5é",
@@ -78,6 +90,8 @@ fn lines_and_datagrams_have_limits(rt: HostRuntime) -> Result<(), Fail> {
     assert!(rt;
         matches!(said(&rt, largest.as_slice())?, Said::Udp(bytes) if bytes.len() == 65_535)
     );
+    let piece = zeros(alloc, b"tcp ", LONGEST_LINE - 4)?;
+    assert!(rt; matches!(said(&rt, piece.as_slice())?, Said::Tcp(bytes) if bytes.len() == 69_998));
     let larger = zeros(alloc, b"udp ", 2 * LONGEST_DATAGRAM + 2)?;
     assert!(rt; matches!(said(&rt, larger.as_slice())?, Said::Wrong));
     Ok(())

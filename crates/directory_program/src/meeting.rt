@@ -1,0 +1,38 @@
+ghost use Rattle.std.specs.Prelude.{◌≡◌, ◌≤◌, ℕ, List, MatchResult};
+ghost use Rattle.std.specs.Io.KnownBytes.{Appends};
+ghost use Rattle.directory_program.specs.Holding.{Meets};
+ghost use Rattle.directory_program.specs.declared.fault.RunFault.TheVariants.{Write as Unwritten};
+
+use crate::fault::RunFault;
+use crate::printing::{print, print_refusal};
+use crate::session::Session;
+use slp_answer::Answer;
+use slp_text::NoMemory;
+use std::alloc::Global;
+use std::io::Write;
+
+/// Answers a message in at most `limit` bytes, and writes what came of it.
+pub fn meet<W: Write>(
+    session: &mut Session,
+    alloc: Global,
+    bytes: &[u8],
+    limit: usize,
+    answer: &mut Answer,
+    writer: &mut W,
+) -> Result<(), RunFault>
+    requires datagram { 1400 ≤ limit }
+    requires stream { limit ≤ 65535 }
+    ensures { MatchResult result
+        (λ _. (now : List ℕ) × Appends (W.contents writer.old) (W.contents writer.new) now × Meets limit session.old bytes.now now session.new)
+        (λ e. e ≡ Unwritten) }
+{
+    let written = match session.take(alloc, bytes, limit, answer) {
+        Ok(Some(digits)) => print(Some(digits.as_bytes()), answer.audit.as_slice(), writer),
+        Ok(None) => print(None, answer.audit.as_slice(), writer),
+        Err(NoMemory) => print_refusal(bytes, session.asker, writer),
+    };
+    match written {
+        Ok(()) => Ok(()),
+        Err(_) => Err(RunFault::Write),
+    }
+}

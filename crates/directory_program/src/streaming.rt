@@ -1,0 +1,81 @@
+ghost use Rattle.std.specs.Prelude.{◌≡◌, ◌⊎◌, ℕ, List, None, MatchResult, OnOk};
+ghost use Rattle.std.specs.Io.KnownBytes.{Appends, Keeps};
+ghost use Rattle.directory_program.specs.Commands.{Tcp as TcpOrder};
+ghost use Rattle.directory_program.specs.Holding.{Acts, Drains};
+ghost use Rattle.directory_program.specs.Running.{bad_length};
+ghost use Rattle.directory_program.specs.declared.fault.RunFault.TheVariants.{Write as Unwritten, NoMemory as Lacking};
+
+use crate::fault::RunFault;
+use crate::meeting::meet;
+use crate::session::{LONGEST_ON_STREAM, Session};
+use slp_answer::Answer;
+use slp_stream::{FrameFault, Framer};
+use std::alloc::Global;
+use std::io::Write;
+use std::{io, mem};
+
+// Writes that a stream is cut no further.
+fn print_bad_length<W: Write>(fault: FrameFault, writer: &mut W) -> io::Result<()>
+    ensures { OnOk result (Appends (W.contents writer.old) (W.contents writer.new) (bad_length fault)) }
+{
+    match fault {
+        FrameFault::TooLong => writer.write_all(b"! too-long\n"),
+        FrameFault::TooShort => writer.write_all(b"! too-short\n"),
+        FrameFault::NoMemory => Ok(()),
+    }
+}
+
+// Answers the whole messages of a stream one after the other, and tells a bad length behind them.
+fn drain<W: Write>(
+    session: &mut Session,
+    stream: &mut Framer,
+    alloc: Global,
+    answer: &mut Answer,
+    writer: &mut W,
+) -> Result<(), RunFault>
+    requires going { stream.old.refused ≡ None }
+    ensures { MatchResult result
+        (λ _. (now : List ℕ) × Appends (W.contents writer.old) (W.contents writer.new) now × Drains session.old stream.old now session.new stream.new)
+        (λ e. e ≡ Unwritten) }
+{
+    while let Some(next) = stream.next() {
+        match next {
+            Ok(message) => meet(session, alloc, message, LONGEST_ON_STREAM, answer, writer)?,
+            Err(fault) => {
+                return match print_bad_length(fault, writer) {
+                    Ok(()) => Ok(()),
+                    Err(_) => Err(RunFault::Write),
+                };
+            }
+        }
+    }
+    Ok(())
+}
+
+/// Takes the next bytes of the stream: each message that they end is answered, and the rest kept.
+pub fn take_piece<W: Write>(
+    session: &mut Session,
+    alloc: Global,
+    bytes: &[u8],
+    answer: &mut Answer,
+    writer: &mut W,
+) -> Result<(), RunFault>
+    ensures { MatchResult result
+        (λ _. (now : List ℕ) × Appends (W.contents writer.old) (W.contents writer.new) now × Acts session.old (TcpOrder bytes.now) now session.new)
+        (λ e. (e ≡ Unwritten) ⊎ ((e ≡ Lacking) × Keeps (W.contents writer.old) (W.contents writer.new))) }
+{
+    match session.stream.feed(bytes) {
+        Ok(()) => {
+            let fresh = Framer::new(alloc, LONGEST_ON_STREAM);
+            let mut stream = mem::replace(&mut session.stream, fresh);
+            let told = drain(session, &mut stream, alloc, answer, writer);
+            session.stream = stream;
+            told
+        }
+        Err(FrameFault::NoMemory) => Err(RunFault::NoMemory),
+        Err(_) => match writer.write_all(b"! closed\n") {
+            Ok(()) => Ok(()),
+            Err(_) => Err(RunFault::Write),
+        },
+    }
+}
