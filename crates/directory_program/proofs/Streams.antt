@@ -116,9 +116,3 @@ Acts-fed s bytes now n t f g u new none fed drains is = λ w h.
       ),
       rw is (record { legal = d.8.legal; fold = d.8.fold; moment = d.8.moment; asker = d.8.asker; stream = same; limit = ap (λ (x : Frames). x.limit) same }),
     )
-
--- the stream is closed
-pub Acts-closed : (s : Session) (bytes : List ℕ) (e : FrameFault) (t : Session) → s.stream.refused ≡ Some e → t ≡ s → Acts s (Tcp bytes) closed t
-Acts-closed s bytes e t some is = λ w h.
-    let going : w.stream.refused ≡ Some e = ap (λ (x : Frames). x.refused) (sym h.stream) ∙ some in
-    (w, subst (λ (o : Option FrameFault). MatchOption o (Pieces w bytes closed w) (λ _. (closed ≡ closed) × (w ≡ w))) (sym going) (refl, refl), rw is h)

@@ -1,3 +1,5 @@
+ghost use Rattle.std.specs.Prelude.{◌<◌};
+
 use crate::{Replay, RunFault, replay_run};
 use slp_text::Text;
 use slp_wire::{Message, Registration, UrlEntry, decode, encode};
@@ -196,7 +198,8 @@ fn a_message_that_is_cut_anywhere_is_refused(rt: HostRuntime) -> Result<(), Fail
     let refused =
         "> 0205000012000000000000020002656e0002\n# deny code=2 by=parse action=register asker=10.0.0.1 type=- scope=-\n";
     for cut in 0..REGISTRATION.len() / 2 {
-        let script = format!(in alloc; "udp {}\n", &REGISTRATION[..2 * cut])?;
+        let begun = str::from_utf8(&REGISTRATION.as_bytes()[..2 * cut])?;
+        let script = format!(in alloc; "udp {begun}\n")?;
         let want = if cut < 16 { "> -\n" } else { refused };
         assert_eq!(rt;
             output(alloc, script.as_str())?.as_slice(),
@@ -284,19 +287,25 @@ fn a_reply_on_a_stream_is_not_cut(rt: HostRuntime) -> Result<(), Fail> {
     Ok(())
 }
 
+// A script in which a stream comes in pieces of so many digits.
+fn in_pieces(alloc: Global, stream: &str, digits: usize) -> Result<String, Fail>
+    requires { 0 < digits }
+{
+    let mut script = String::from_str(alloc, "tcp \n")?;
+    for piece in stream.as_bytes().chunks(digits) {
+        let piece = str::from_utf8(piece)?;
+        script.push_str(format!(in alloc; "tcp {piece}\nat 0\n")?.as_str())?;
+    }
+    Ok(script)
+}
+
 #[test]
 fn pieces_of_a_stream_may_be_cut_anywhere(rt: HostRuntime) -> Result<(), Fail> {
     let alloc = rt.alloc();
     let stream = format!(in alloc; "{REQUEST}{REGISTRATION}{REQUEST}")?;
     let want = format!(in alloc; "{NOTHING_FOUND}{ACCEPTED}{FOUND}")?;
-    for digits in [2, 50, 2 * 126, stream.len()] {
-        let mut script = String::from_str(alloc, "tcp \n")?;
-        let mut begin = 0;
-        while begin < stream.len() {
-            let end = stream.len().min(begin + digits);
-            script.push_str(format!(in alloc; "tcp {}\nat 0\n", &stream[begin..end])?.as_str())?;
-            begin = end;
-        }
+    for digits in [2, 50, 252, 348] {
+        let script = in_pieces(alloc, stream.as_str(), digits)?;
         assert_eq!(rt;
             output(alloc, script.as_str())?.as_slice(),
             want.as_bytes(),
