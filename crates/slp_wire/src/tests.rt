@@ -142,34 +142,52 @@ fn some_header(alloc: Global) -> Result<Header, WireFault> {
     header_of(alloc, &message)
 }
 
-#[test]
-fn long_strings_are_refused(rt: HostRuntime) -> Result<(), Fail> {
-    let mut long = String::new(rt.alloc());
+// Why a reply is not written behind the bytes, if it is not.
+fn fault_of_reply(header: Header, reply: ServiceReply, bytes: &mut Vec<u8>) -> Option<WireFault> {
+    let message = Message::ServiceReply(header, reply);
+    encode(&message, bytes).err()
+}
+
+fn long_text(alloc: Global) -> Result<Text, WireFault> {
+    let mut long = String::new(alloc);
     for _ in 0..65_536 {
         long.push('x')?;
     }
+    Ok(Text::wrap(long))
+}
+
+fn long_reply(alloc: Global) -> Result<ServiceReply, WireFault> {
     let entry = UrlEntry {
         lifetime: 1,
-        url: Text::wrap(long),
+        url: long_text(alloc)?,
     };
-    let reply = ServiceReply::Found(Row::wrap(vec![in rt.alloc(); entry]?));
-    let message = Message::ServiceReply(some_header(rt.alloc())?, reply);
-    let mut bytes = Vec::from_slice(rt.alloc(), b"before")?;
-    assert_eq!(rt; encode(&message, &mut bytes), Err(WireFault::TooLong));
+    Ok(ServiceReply::Found(Row::wrap(vec![in alloc; entry]?)))
+}
+
+#[test]
+fn long_strings_are_refused(rt: HostRuntime) -> Result<(), Fail> {
+    let alloc = rt.alloc();
+    let mut bytes = Vec::from_slice(alloc, b"before")?;
+    let header = some_header(alloc)?;
+    let fault = fault_of_reply(header, long_reply(alloc)?, &mut bytes);
+    assert_eq!(rt; fault, Some(WireFault::TooLong));
     assert_eq!(rt; bytes.as_slice(), b"before".as_slice());
     Ok(())
 }
 
 #[test]
 fn codes_and_tags(rt: HostRuntime) -> Result<(), Fail> {
+    let alloc = rt.alloc();
     let code = ErrorCode::new(4);
     assert_eq!(rt; code.get(), 4);
-    let header = some_header(rt.alloc())?;
-    assert_eq!(rt; header.language.copy(rt.alloc())?.as_str(), "en");
+    let header = some_header(alloc)?;
+    assert_eq!(rt; header.language.as_str(), "en");
     assert_eq!(rt; header.xid, 1);
-    let message = Message::ServiceReply(header, ServiceReply::Refused(code));
-    let mut bytes = Vec::new(rt.alloc());
-    encode(&message, &mut bytes)?;
+    let mut bytes = Vec::new(alloc);
+    assert_eq!(rt;
+        fault_of_reply(header, ServiceReply::Refused(code), &mut bytes),
+        None
+    );
     let want = [2, 2, 0, 0, 18, 0, 0, 0, 0, 0, 0, 1, 0, 2, b'e', b'n', 0, 4];
     assert_eq!(rt; bytes.as_slice(), want.as_slice());
     Ok(())
