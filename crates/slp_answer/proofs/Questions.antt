@@ -1,6 +1,6 @@
 -- What is told of a question.
 use Rattle.std.proofs.Common.{◌≡◌, ℕ, Bool, true, false, List, [], Option, Some, None, Result, Ok, Err, refl, sym, subst}
-use Rattle.std.specs.Prelude.{MatchOption, IfOk, IsErrOf, IsTrue, ◌↔◌}
+use Rattle.std.specs.Prelude.{MatchOption, IsErrOf, IsTrue, ◌↔◌}
 use Rattle.std.specs.List.{list_any}
 use Rattle.slp_wire.specs.declared.header.Header.{Header}
 use Rattle.slp_wire.specs.declared.message.ServiceRequest.{ServiceRequest}
@@ -49,7 +49,3 @@ module _ (opening : List AnyRule) (site : Place) (h : History) (m asker limit : 
         subst (λ (o : Option ServiceQuery). MatchOption o (t ≡ silence) (λ q. IsFound opening site h m asker limit header q t)) (sym some) found,
         subst (λ (r : List AnyRule). Tells (telling r (found_audit asker query) sent.0) what reply audit) ruled sent.2,
       )
-
-pub IfOk-more : {A E : Type 0} (r : Result A E) (P Q : A → Type 0) → ((x : A) → P x → Q x) → IfOk r P → IfOk r Q
-IfOk-more (Ok x) P Q f h = f x h
-IfOk-more (Err e) P Q f h = h

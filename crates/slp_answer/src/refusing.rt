@@ -111,7 +111,7 @@ pub(crate) fn action_in(function: u8) -> Action
     }
 }
 
-/// Whether a question that was sent to many, which gets no error (RFC 2608, section 7).
+/// Whether it is a question that was sent to many, which gets no error (RFC 2608, section 7).
 pub(crate) fn is_silent(header: &HeaderView<'_>) -> bool
     ensures { result ≡ is_unsent (heading header.now) }
 {

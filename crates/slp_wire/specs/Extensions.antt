@@ -43,7 +43,7 @@ next_at at bytes =
     else (if nat_lt (big_number 3 (drop 2 bytes)) (at + 5) || nat_lt (at + length bytes) (big_number 3 (drop 2 bytes) + 5) then Err Parse
     else Ok (Some (big_number 3 (drop 2 bytes))))))
 
--- extensions, fewer than `most`, from this offset of the message to its end
+-- extensions, at most `most` of them, from this offset of the message to its end
 unfoldable pub extensions_at : ℕ → ℕ → List ℕ → Result (Unit {0}) WireFault
 extensions_at zero at bytes = Err Parse
 extensions_at (suc most) at bytes = do

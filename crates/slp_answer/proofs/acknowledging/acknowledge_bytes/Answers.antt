@@ -2,7 +2,7 @@ use Rattle.std.proofs.Common.{subst, ◌∙◌}
 use Rattle.std.specs.Prelude.{MatchResult}
 use Rattle.slp_wire.specs.Headers.{heading_of}
 use Rattle.slp_answer.specs.Understanding.{IsRead, IsUnread}
-use Rattle.slp_answer.proofs.Questions.{IfOk-more}
+use Rattle.directory_state.proofs.Judged.{IfOk-more}
 use Rattle.slp_answer.proofs.Tellings.{unread-acknowledges, read-acknowledges}
 use Rattle.slp_answer.proofs.acknowledging.acknowledge_bytes.Goals as goal
 

@@ -2,7 +2,7 @@ use Rattle.std.proofs.Common.{subst, sym, ◌∙◌}
 use Rattle.std.specs.Prelude.{MatchResult}
 use Rattle.slp_wire.specs.Headers.{heading_of}
 use Rattle.slp_answer.specs.Understanding.{IsRead, IsUnread}
-use Rattle.slp_answer.proofs.Questions.{IfOk-more}
+use Rattle.directory_state.proofs.Judged.{IfOk-more}
 use Rattle.slp_answer.proofs.Tellings.{unread-replies, other-replies, request-replies}
 use Rattle.slp_answer.proofs.replying.answer_bytes.Goals as goal
 

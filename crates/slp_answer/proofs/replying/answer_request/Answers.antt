@@ -1,5 +1,6 @@
 use Rattle.std.proofs.Common.{sym, ◌∙◌}
-use Rattle.slp_answer.proofs.Questions.{nothing-found, services-found, found-supported, IfOk-more}
+use Rattle.directory_state.proofs.Judged.{IfOk-more}
+use Rattle.slp_answer.proofs.Questions.{nothing-found, services-found, found-supported}
 use Rattle.slp_answer.proofs.replying.answer_request.Goals as goal
 
 pub returns-in_default : goal.returns-in_default
