@@ -1,4 +1,10 @@
+pub mod Escapes
 pub mod Key
+pub mod Named
 pub mod Reading
+pub mod Runs
 pub mod Scopes
+pub mod Sets
+pub mod Steps
+pub mod Tags
 pub mod Words

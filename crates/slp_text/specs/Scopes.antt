@@ -1,18 +1,40 @@
 -- Scope lists (RFC 2608, section 6.4.1).
-use Rattle.std.specs.Prelude.{ℕ, Bool, not, ◌==◌, ◌&&◌, ◌||◌, nat_le, List, [], ◌∷◌, length, Result, Ok, Err, if◌then◌else◌}
-use Rattle.std.specs.List.{list_all}
-use Rattle.slp_text.specs.Key.{key_of}
+use Rattle.std.specs.Prelude.{ℕ, Bool, ◌==◌, nat_lt, List, [], ◌∷◌, ◌++◌, map, filter, chars, encode_utf8_all, length, Result}
+use Rattle.std.specs.List.{list_any, slice_split}
+use Rattle.caseless.specs.Caseless.{default_case_fold}
+use Rattle.slp_text.specs.Escapes.{unescaped_at, escaped}
+use Rattle.slp_text.specs.Key.{squeeze}
+use Rattle.slp_text.specs.Reading.{read_map, read_all}
+use Rattle.slp_text.specs.Sets.{set_of}
+use Rattle.slp_text.specs.Words.{bytes_eq}
+use Rattle.slp_text.specs.declared.escapes.Place.TheVariants.{Scope}
 use Rattle.slp_text.specs.declared.faults.TextFault.{TextFault}
-use Rattle.slp_text.specs.declared.faults.TextFault.TheVariants.{Reserved}
 
--- a letter or a digit of ASCII
-abbrev pub is_plain : ℕ → Bool
-is_plain b = (nat_le 48 b && nat_le b 57) || (nat_le 65 b && nat_le b 90) || (nat_le 97 b && nat_le b 122)
+abbrev pub is_comma : ℕ → Bool
+is_comma c = c == 44
 
--- one name of letters and digits
-abbrev pub is_plain_name : List ℕ → Bool
-is_plain_name text = not (length text == 0) && list_all is_plain text
+-- it is not empty
+abbrev pub is_some_text : {A : Type 0} → List A → Bool
+is_some_text t = nat_lt 0 (length t)
 
--- The scopes that a text names, as keys in their order. Lists of any other form are still to come.
-abbrev pub scopes_of : List ℕ → Result (List (List ℕ)) TextFault
-scopes_of text = if is_plain_name text then Ok (key_of text ∷ []) else Err Reserved
+-- the key of characters
+abbrev pub folded : List ℕ → List ℕ
+folded cs = encode_utf8_all (squeeze (default_case_fold cs))
+
+-- The scopes that a text names: its parts between commas, unescaped and made keys, without the empty ones, as a set.
+unfoldable pub scopes_of : List ℕ → Result (List (List ℕ)) TextFault
+scopes_of text = read_map (λ parts. set_of (filter is_some_text (map folded parts))) (read_all (unescaped_at Scope) (slice_split is_comma (chars text)))
+
+-- texts with a comma between each two
+abbrev pub joined : List (List ℕ) → List ℕ
+joined [] = []
+joined (t ∷ []) = t
+joined (t ∷ u ∷ ts) = t ++ 44 ∷ joined (u ∷ ts)
+
+-- scopes as they are written
+abbrev pub printed : List (List ℕ) → List ℕ
+printed ks = joined (map (λ k. encode_utf8_all (escaped Scope (chars k))) ks)
+
+-- what stands in both sets
+abbrev pub common_of : List (List ℕ) → List (List ℕ) → List (List ℕ)
+common_of ks others = filter (λ k. list_any (λ o. bytes_eq o k) others) ks

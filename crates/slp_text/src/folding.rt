@@ -32,7 +32,8 @@ pub fn key(alloc: Global, text: &str) -> Result<Key, TextFault>
     Ok(Key { text: folded })
 }
 
-fn is_white_space(c: char) -> bool
+/// Whether a character is SPACE, TAB, CR or LF.
+pub fn is_white_space(c: char) -> bool
     ensures { result ≡ is_white c }
 {
     c == ' ' || c == '\t' || c == '\n' || c == '\r'

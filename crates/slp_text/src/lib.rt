@@ -1,18 +1,25 @@
-//! Texts, rows, keys and scope lists, which contracts see as lists.
+//! Texts, rows, keys, scope lists and tag lists, which contracts see as lists.
 #![tactic(auto)]
 
+mod cutting;
+mod escapes;
 mod faults;
 mod folding;
 mod keys;
+pub mod laws;
 mod rows;
 mod scopes;
+mod tags;
 #[cfg(test)]
 mod tests;
 mod texts;
 
+pub use cutting::cut;
+pub use escapes::{Place, escape_into, is_reserved, unescape, unescape_any};
 pub use faults::{NoMemory, TextFault};
 pub use folding::{is_blank, key};
 pub use keys::Key;
 pub use rows::Row;
 pub use scopes::ScopeList;
+pub use tags::TagList;
 pub use texts::Text;

@@ -1,10 +1,19 @@
-ghost use Rattle.std.specs.Prelude.{◌≡◌, ◌↔◌, [], length, slice_get, IfOk, IsTrue};
-ghost use Rattle.std.specs.List.{list_all, list_any};
+ghost use Rattle.std.specs.Prelude.{◌≡◌, ◌↔◌, ◌++◌, [], ◌∷◌, filter, length, slice_get, string_bytes, IfOk, IfErr, OnErr, IsTrue};
+ghost use Rattle.std.specs.List.{list_any};
 ghost use Rattle.std.specs.Option.{option_copied};
-ghost use Rattle.slp_text.specs.Reading.{IsReading};
-ghost use Rattle.slp_text.specs.Scopes.{is_plain, is_plain_name as is_plain_text, scopes_of};
-ghost use Rattle.slp_text.specs.Words.{bytes_eq, IsAscending};
+ghost use Rattle.std.proofs.Common.{rules};
+ghost use Rattle.std.specs.Cmp.Rules.{comparing};
+ghost use Rattle.slp_text.specs.Key.{key_of};
+ghost use Rattle.slp_text.specs.Named.{named_of, scope_end, scope_written};
+ghost use Rattle.slp_text.specs.Reading.{read_map, IsFault, IsReading};
+ghost use Rattle.slp_text.specs.Scopes.{is_some_text, scopes_of, common_of, printed};
+ghost use Rattle.slp_text.specs.Sets.{set_of};
+ghost use Rattle.slp_text.specs.Steps.{BeginsWith};
+ghost use Rattle.slp_text.specs.Words.{bytes_eq, texts_eq, IsAscending};
+ghost use Rattle.slp_text.specs.declared.escapes.Stage.TheVariants.{Plain};
+ghost use Rattle.slp_text.specs.declared.faults.TextFault.TheVariants.{NoMemory as Lacking};
 
+use crate::escapes::{Place, Stage, Step, escape_into, is_refused, read_step};
 use crate::faults::{NoMemory, TextFault};
 use crate::folding::key;
 use crate::keys::Key;
@@ -28,24 +37,6 @@ impl Model for ScopeList {
     ghost invariant = { λ a. IsAscending a.keys.items };
 }
 
-fn is_plain_byte(b: u8) -> bool
-    ensures { result ≡ is_plain b }
-{
-    matches!(b, b'0'..=b'9' | b'A'..=b'Z' | b'a'..=b'z')
-}
-
-fn are_plain(bytes: &[u8]) -> bool
-    ensures { result ≡ list_all is_plain bytes.now }
-{
-    bytes.iter().all(|b| is_plain_byte(*b))
-}
-
-fn is_plain_name(text: &str) -> bool
-    ensures { result ≡ is_plain_text text.now }
-{
-    !text.is_empty() && are_plain(text.as_bytes())
-}
-
 // Equal keys, in the same order.
 fn copies(alloc: Global, keys: &[Key]) -> Result<Vec<Key>, NoMemory>
     ensures { IfOk result (λ copied. copied.items ≡ keys.now) }
@@ -57,18 +48,126 @@ fn copies(alloc: Global, keys: &[Key]) -> Result<Vec<Key>, NoMemory>
     Ok(copied)
 }
 
+// Adds the key of a part at whose end reading stands at a stage, unless the key is empty.
+fn take_part(alloc: Global, stage: Stage, part: &str, keys: &mut Vec<Key>) -> Result<(), TextFault>
+    ensures ok { IfOk result (λ _. (stage ≡ Plain) × (keys.new.items ≡ keys.old.items ++ filter is_some_text (key_of part.now ∷ []))) }
+    ensures err { IfErr result (λ e. IsFault e (scope_end stage)) }
+{
+    if !matches!(stage, Stage::Plain) {
+        return Err(TextFault::BadEscape);
+    }
+    let made = key(alloc, part)?;
+    if !made.as_str().is_empty() {
+        keys.push(made)?;
+    }
+    Ok(())
+}
+
+// The keys of the parts of a text between its commas, in their order, without the empty ones.
+fn named(alloc: Global, text: &str) -> Result<Vec<Key>, TextFault>
+    ensures { IsReading (read_map (λ v. v.items) result) (named_of text.now) }
+{
+    let mut keys = Vec::new(alloc);
+    let mut part = String::new(alloc);
+    let mut stage = Stage::Plain;
+    for c in text.chars() {
+        if c == ',' {
+            take_part(alloc, stage, part.as_str(), &mut keys)?;
+            part.clear();
+            stage = Stage::Plain;
+        } else {
+            match read_step(stage, c, is_refused(Place::Scope, c))? {
+                Step::Within(next) => stage = next,
+                Step::Read(d) => {
+                    part.push(d)?;
+                    stage = Stage::Plain;
+                }
+            }
+        }
+    }
+    take_part(alloc, stage, part.as_str(), &mut keys)?;
+    Ok(keys)
+}
+
+// The keys in key order, each once.
+fn settled(keys: Vec<Key>) -> Result<Vec<Key>, TextFault>
+    ensures value { IfOk result (λ v. v.items ≡ set_of keys.items) }
+    ensures memory { OnErr result (result ≡ Err Lacking) }
+{
+    let mut set = keys;
+    set.sort()?;
+    set.dedup();
+    Ok(set)
+}
+
+// The keys that another list has too.
+fn shared(alloc: Global, keys: &[Key], other: &ScopeList) -> Result<Vec<Key>, NoMemory>
+    ensures { IfOk result (λ v. v.items ≡ common_of keys.now other.now) }
+{
+    let mut found = Vec::new(alloc);
+    for k in keys {
+        if other.has(k) {
+            found.push(k.copy(alloc)?)?;
+        }
+    }
+    Ok(found)
+}
+
+// Appends one key more, behind a comma if others have begun.
+fn append_scope(k: &Key, begun: bool, out: &mut String) -> Result<(), NoMemory>
+    ensures ok { IfOk result (λ _. string_bytes out.new ≡ string_bytes out.old ++ scope_written begun k.now) }
+    ensures start { BeginsWith (string_bytes out.old) (string_bytes out.new) }
+{
+    if begun {
+        out.push(',')?;
+    }
+    escape_into(k.as_str(), Place::Scope, out)
+}
+
+// Appends the keys; where memory runs out some of them may stand behind what was there.
+fn append_printed(keys: &[Key], out: &mut String) -> Result<(), NoMemory>
+    ensures ok { IfOk result (λ _. string_bytes out.new ≡ string_bytes out.old ++ printed keys.now) }
+    ensures start { BeginsWith (string_bytes out.old) (string_bytes out.new) }
+{
+    let mut begun = false;
+    for k in keys {
+        append_scope(k, begun, out)?;
+        begun = true;
+    }
+    Ok(())
+}
+
 impl ScopeList {
-    /// The scopes that a text names (RFC 2608, section 6.4.1). Until lists of every form are read, a
-    /// text that is not one name of letters and digits is `Reserved`.
+    /// The scopes that a text names: what stands between its commas, unescaped and made keys, without
+    /// the empty ones (RFC 2608, section 6.4.1). What is reserved in scopes and stands raw is
+    /// `Reserved`. It sorts what it reads once.
     pub fn parse(alloc: Global, text: &str) -> Result<ScopeList, TextFault>
         ensures { IsReading result (scopes_of text.now) }
     {
-        if !is_plain_name(text) {
-            return Err(TextFault::Reserved);
-        }
-        let mut keys = Vec::with_capacity(alloc, 1)?;
-        keys.push(key(alloc, text)?)?;
+        let keys = settled(named(alloc, text)?)?;
         Ok(ScopeList { keys })
+    }
+
+    /// What stands in both. It takes time for the product of the lengths.
+    pub fn common(&self, alloc: Global, other: &ScopeList) -> Result<ScopeList, NoMemory>
+        ensures { IfOk result (λ l. l ≡ common_of self.now other.now) }
+    {
+        let keys = shared(alloc, &self.keys, other)?;
+        Ok(ScopeList { keys })
+    }
+
+    /// Appends the scopes in key order, with escapes and a comma between each two. Where memory runs
+    /// out nothing is appended.
+    pub fn print_into(&self, out: &mut String) -> Result<(), NoMemory>
+        ensures ok { IfOk result (λ _. string_bytes out.new ≡ string_bytes out.old ++ printed self.now) }
+        ensures err { OnErr result (string_bytes out.new ≡ string_bytes out.old) }
+    {
+        let before = out.len();
+        let done = append_printed(&self.keys, out);
+        if done.is_err() {
+            out.truncate(before);
+        }
+        done
     }
 
     /// How many scopes there are. Takes no memory.
@@ -107,4 +206,18 @@ impl ScopeList {
         let keys = copies(alloc, &self.keys)?;
         Ok(ScopeList { keys })
     }
+}
+
+impl PartialEq for ScopeList {
+    ghost eq = { texts_eq };
+
+    ghost laws = { Prim.search (comparing, rules) };
+
+    fn eq(&self, other: &ScopeList) -> bool {
+        self.keys == other.keys
+    }
+}
+
+impl Eq for ScopeList {
+    ghost laws = { Prim.search (comparing, rules) };
 }

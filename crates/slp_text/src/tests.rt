@@ -1,4 +1,7 @@
-use crate::{Key, Row, ScopeList, Text, TextFault, is_blank, key};
+use crate::{
+    Key, Place, Row, ScopeList, Text, TextFault, cut, escape_into, is_blank, key, unescape,
+    unescape_any,
+};
 use std::test::Fail;
 
 #[test]
@@ -18,19 +21,95 @@ fn keys_fold_and_squeeze(rt: HostRuntime) -> Result<(), Fail> {
 }
 
 #[test]
-fn scopes_are_one_plain_name(rt: HostRuntime) -> Result<(), Fail> {
+fn a_place_says_what_is_written_as_an_escape(rt: HostRuntime) -> Result<(), Fail> {
+    for (place, want) in [
+        (Place::Value, "a=\\28*_;+\\5C\\0A\\7F\\2C"),
+        (Place::Tag, "a=\\28\\2A\\5F;+\\5C\\0A\\7F\\2C"),
+        (Place::Scope, "a=\\28\\2A_\\3B\\2B\\5C\\0A\\7F\\2C"),
+    ] {
+        let mut out = String::from_str(rt.alloc(), "a=")?;
+        escape_into("(*_;+\\\n\u{7f},", place, &mut out)?;
+        assert_eq!(rt; out.as_str(), want);
+        escape_into("č d", place, &mut out)?;
+        assert!(rt; out.as_str().ends_with("č d"));
+    }
+    Ok(())
+}
+
+#[test]
+fn list_escapes_stand_for_what_is_reserved(rt: HostRuntime) -> Result<(), Fail> {
     let alloc = rt.alloc();
-    let parsed = ScopeList::parse(alloc, "DEFAULT")?;
-    let scopes = parsed.copy(alloc)?;
-    assert_eq!(rt; scopes.len(), 1);
-    let scope = scopes.at(0).ok_or("one scope")?;
-    assert_eq!(rt; scope.as_str(), "default");
-    assert!(rt; scopes.has(&key(alloc, " Default ")?));
-    assert!(rt; !scopes.has(&key(alloc, "other")?));
-    assert!(rt; scopes.at(1).is_none());
-    for text in ["", " ", "a,b", " DEFAULT", "de fault", "é"] {
+    assert_eq!(rt; unescape(alloc, "a\\2cb\\5F\\2Ač*;")?.as_str(), "a,b_*č*;");
+    for text in ["\\41", "\\2", "\\", "\\2g", "\\c4\\8d", "\\+2"] {
+        assert!(rt; matches!(unescape(alloc, text), Err(TextFault::BadEscape)));
+    }
+    Ok(())
+}
+
+#[test]
+fn an_escape_may_stand_for_any_byte(rt: HostRuntime) -> Result<(), Fail> {
+    let alloc = rt.alloc();
+    assert_eq!(rt; unescape_any(alloc, "\\41b\\c4\\8D")?.as_str(), "Abč");
+    assert!(rt; matches!(unescape_any(alloc, "\\ff"), Err(TextFault::NotUtf8)));
+    assert!(rt; matches!(unescape_any(alloc, "\\c4"), Err(TextFault::NotUtf8)));
+    assert!(rt; matches!(unescape_any(alloc, "\\ff\\f"), Err(TextFault::BadEscape)));
+    Ok(())
+}
+
+#[test]
+fn scope_lists_are_sets_of_keys(rt: HostRuntime) -> Result<(), Fail> {
+    let alloc = rt.alloc();
+    for (text, want) in [
+        ("Default , x", "default,x"),
+        (",, a ,A,", "a"),
+        ("a\\2cb", "a\\2Cb"),
+        ("x,B, a\tb ,x", "a b,b,x"),
+        ("a_b", "a_b"),
+        ("", ""),
+        (" , ", ""),
+        ("é,z\\2A\\5F", "z\\2A_,é"),
+    ] {
+        let scopes = ScopeList::parse(alloc, text)?;
+        let mut out = String::new(alloc);
+        scopes.print_into(&mut out)?;
+        assert_eq!(rt; out.as_str(), want);
+        let again = ScopeList::parse(alloc, out.as_str())?;
+        assert!(rt; again == scopes);
+        assert!(rt; scopes.copy(alloc)? == scopes);
+        assert_eq!(rt; scopes.is_empty(), want.is_empty());
+    }
+    Ok(())
+}
+
+#[test]
+fn scope_lists_answer_the_first_fault(rt: HostRuntime) -> Result<(), Fail> {
+    let alloc = rt.alloc();
+    for text in ["a\\41", "a\\", "a\\,b", "a\\2,b", "a\\2", "b\\zz;"] {
+        assert!(rt; matches!(ScopeList::parse(alloc, text), Err(TextFault::BadEscape)));
+    }
+    for text in ["a;b", "a*", "(a)", "a=b", ";\\zz", "a\u{1}"] {
         assert!(rt; matches!(ScopeList::parse(alloc, text), Err(TextFault::Reserved)));
     }
+    Ok(())
+}
+
+#[test]
+fn scopes_are_found_and_shared(rt: HostRuntime) -> Result<(), Fail> {
+    let alloc = rt.alloc();
+    let scopes = ScopeList::parse(alloc, "c,B,a")?;
+    assert_eq!(rt; scopes.len(), 3);
+    let second = scopes.at(1).ok_or("three scopes")?;
+    assert_eq!(rt; second.as_str(), "b");
+    assert!(rt; scopes.at(3).is_none());
+    assert!(rt; scopes.has(&key(alloc, " C ")?));
+    assert!(rt; !scopes.has(&key(alloc, "d")?));
+    let common = scopes.common(alloc, &ScopeList::parse(alloc, "x,b,C")?)?;
+    assert!(rt; common == ScopeList::parse(alloc, "b,c")?);
+    assert!(rt;
+        scopes
+            .common(alloc, &ScopeList::parse(alloc, "x")?)?
+            .is_empty()
+    );
     Ok(())
 }
 
@@ -44,5 +123,14 @@ fn texts_and_rows_keep_what_they_wrap(rt: HostRuntime) -> Result<(), Fail> {
     assert!(rt; is_blank(" \t\r\n"));
     assert!(rt; is_blank(""));
     assert!(rt; !is_blank(" x"));
+    Ok(())
+}
+
+#[test]
+fn pieces_are_cut_at_the_first_byte(rt: HostRuntime) -> Result<(), Fail> {
+    let (front, rest) = cut(b"a:b:c", b':').ok_or("a colon")?;
+    assert_eq!(rt; front, b"a".as_slice());
+    assert_eq!(rt; rest, b"b:c".as_slice());
+    assert!(rt; cut(b"abc", b':').is_none());
     Ok(())
 }

@@ -1,6 +1,5 @@
 use Rattle.std.proofs.Common.{◌≡◌, ℕ, List, ◌++◌, true, false, sym, ap, subst, ◌∙◌, refl, chars, encode_utf8}
 use Rattle.std.specs.Prelude.{string_bytes}
-use Rattle.std.specs.Str.Iter.{chars_steps}
 use Rattle.unicode_normalization.proofs.IterLemmas.{Spells-chars}
 use Rattle.caseless.specs.Caseless.{default_case_fold}
 use Rattle.slp_text.specs.Key.{is_white, key_of}

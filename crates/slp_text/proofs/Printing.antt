@@ -1,0 +1,35 @@
+-- What of a scope list is still to be printed.
+use Rattle.std.proofs.Common.{◌≡◌, ◌<◌, ◌+◌, ℕ, Bool, true, false, List, [], ◌∷◌, ◌++◌, length, get_or, drop, refl, sym, ap, ◌∙◌, append_assoc, append-nil, chars, encode_utf8_all, add-one, drop-cons}
+use Rattle.slp_text.specs.Escapes.{escaped}
+use Rattle.slp_text.specs.Named.{scope_written}
+use Rattle.slp_text.specs.Scopes.{printed}
+use Rattle.slp_text.specs.declared.escapes.Place.TheVariants.{Scope}
+
+-- a scope as it is written
+abbrev pub written : List ℕ → List ℕ
+written k = encode_utf8_all (escaped Scope (chars k))
+
+-- each with a comma before it
+abbrev pub with_commas : List (List ℕ) → List ℕ
+with_commas [] = []
+with_commas (k ∷ ks) = 44 ∷ (written k ++ with_commas ks)
+
+abbrev pub printed_from : Bool → List (List ℕ) → List ℕ
+printed_from false ks = printed ks
+printed_from true ks = with_commas ks
+
+pub printed-first : (k : List ℕ) (ks : List (List ℕ)) → printed (k ∷ ks) ≡ written k ++ with_commas ks
+printed-first k [] = sym (append-nil (written k))
+printed-first k (j ∷ ks) = ap (λ t. written k ++ 44 ∷ t) (printed-first j ks)
+
+pub printed_from-nil : (begun : Bool) → printed_from begun [] ≡ []
+printed_from-nil false = refl
+printed_from-nil true = refl
+
+-- the key at an index and those after it
+pub key_at : (ks : List (List ℕ)) (i : ℕ) (d : List ℕ) → i < length ks → drop i ks ≡ get_or ks i d ∷ drop (i + 1) ks
+key_at ks i d h = rw (add-one, drop-cons ks i d)
+
+pub printed_from-more : (begun : Bool) (text : List ℕ) (k : List ℕ) (ks : List (List ℕ)) → (text ++ scope_written begun k) ++ with_commas ks ≡ text ++ printed_from begun (k ∷ ks)
+printed_from-more false text k ks = append_assoc text (written k) (with_commas ks) ∙ ap (λ t. text ++ t) (sym (printed-first k ks))
+printed_from-more true text k ks = append_assoc text (44 ∷ written k) (with_commas ks)

@@ -1,0 +1,11 @@
+use Rattle.std.proofs.Common.{◌≡◌, ◌+◌, ◌≤◌, length}
+use Rattle.std.specs.List.{list_any}
+use Rattle.slp_text.specs.Tags.{ends_of, is_match}
+use Rattle.slp_text.proofs.tags.matches_an_end.Given as goal
+
+-- what is left matches where all does
+abbrev pub invariant-loop-n : goal.invariant-loop-n
+invariant-loop-n l = (length l.rest ≤ length l.part) × (list_any (is_match l.rest) (ends_of l.left) ≡ list_any (is_match l.part) (ends_of l.tag))
+
+abbrev pub decreases-loop-n : goal.decreases-loop-n
+decreases-loop-n l = length l.rest + length l.left

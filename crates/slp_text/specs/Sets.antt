@@ -1,0 +1,14 @@
+-- Sets of keys, which stand in key order, each once.
+use Rattle.std.specs.Prelude.{ℕ, List, [], ◌∷◌}
+use Rattle.std.specs.Ordering.{match_ordering}
+use Rattle.slp_text.specs.Words.{bytes_cmp}
+
+-- with one key more, unless it is there
+abbrev pub with_key : List ℕ → List (List ℕ) → List (List ℕ)
+with_key k [] = k ∷ []
+with_key k (j ∷ js) = match_ordering (bytes_cmp k j) (k ∷ j ∷ js) (j ∷ js) (j ∷ with_key k js)
+
+-- the set of some keys
+abbrev pub set_of : List (List ℕ) → List (List ℕ)
+set_of [] = []
+set_of (k ∷ ks) = with_key k (set_of ks)
