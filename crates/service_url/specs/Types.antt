@@ -1,9 +1,8 @@
 -- Service types (RFC 2609, section 2; RFC 2608, section 4.1).
-use Rattle.std.specs.Prelude.{ℕ, Bool, ◌==◌, ◌-◌, ◌&&◌, ◌||◌, List, [], ◌∷◌, ◌++◌, length, take, drop, slice_index, codes, nat_eq, nat_lt, Result, Ok, Err, if◌then◌else◌}
+use Rattle.std.specs.Prelude.{ℕ, Bool, ◌==◌, ◌-◌, ◌&&◌, ◌||◌, List, [], ◌∷◌, ◌++◌, length, take, drop, slice_index, codes, nat_eq, nat_lt, Option, Some, None, Result, Ok, Err, if◌then◌else◌}
 use Rattle.std.specs.List.{list_all, starts_with, before_first, after_first}
 use Rattle.slp_text.specs.Key.{key_of}
-use Rattle.slp_text.specs.Scopes.{is_plain}
-use Rattle.slp_text.specs.Words.{bytes_eq}
+use Rattle.slp_text.specs.Words.{is_plain, bytes_eq}
 use Rattle.service_url.specs.declared.fault.UrlFault.{UrlFault}
 use Rattle.service_url.specs.declared.fault.UrlFault.TheVariants.{BadType}
 
@@ -33,9 +32,9 @@ is_abstract text = is_service text && is_name (drop 8 text)
 abbrev pub is_concrete : List ℕ → Bool
 is_concrete text = is_service text && is_name (before_first is_colon (drop 8 text)) && is_name (after_first is_colon (drop 8 text))
 
--- the forms of a folded type that are read so far
+-- the three forms of a folded type: the third is a name, as of another scheme
 abbrev pub is_type : List ℕ → Bool
-is_type text = is_abstract text || is_concrete text
+is_type text = is_abstract text || is_concrete text || is_name text
 
 -- all but the last byte
 abbrev pub shortened : List ℕ → List ℕ
@@ -54,3 +53,24 @@ type_of text =
 -- A type covers itself, and an abstract one each that is made from it.
 abbrev pub covers : List ℕ → List ℕ → Bool
 covers kind other = bytes_eq kind other || (is_abstract kind && starts_with nat_eq other (kind ++ 58 ∷ []))
+
+abbrev pub is_dot : ℕ → Bool
+is_dot b = b == 46
+
+-- A of `service:A` and `service:A:C`, else the whole type
+abbrev pub main_name : List ℕ → List ℕ
+main_name kind = if is_service kind then before_first is_colon (drop 8 kind) else kind
+
+-- a text that is not empty
+abbrev pub some_text : List ℕ → Option (List ℕ)
+some_text [] = None
+some_text (b ∷ bs) = Some (b ∷ bs)
+
+-- the naming authority: what follows the first dot of the name
+abbrev pub authority_of : List ℕ → Option (List ℕ)
+authority_of kind = some_text (after_first is_dot (main_name kind))
+
+-- the naming authority that a text names, by its key
+abbrev pub named_authority : List ℕ → Result (List ℕ) UrlFault
+named_authority text =
+    if nat_lt 0 (length (key_of text)) && list_all is_name_byte (key_of text) then Ok (key_of text) else Err BadType

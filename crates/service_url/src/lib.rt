@@ -8,5 +8,5 @@ mod types;
 mod urls;
 
 pub use fault::UrlFault;
-pub use types::ServiceType;
+pub use types::{ServiceType, parse_authority};
 pub use urls::Url;

@@ -1,4 +1,4 @@
-use crate::{ServiceType, Url, UrlFault};
+use crate::{ServiceType, Url, UrlFault, parse_authority};
 use std::alloc::Global;
 use std::test::Fail;
 
@@ -9,6 +9,8 @@ fn types_are_folded(rt: HostRuntime) -> Result<(), Fail> {
         ("service:printer", "service:printer"),
         ("service:printer:lpr", "service:printer:lpr"),
         ("service:a.b:c.d", "service:a.b:c.d"),
+        ("HTTP", "http"),
+        (" http.Acme ", "http.acme"),
     ] {
         let parsed = ServiceType::parse(rt.alloc(), text)?;
         assert_eq!(rt; parsed.text(), want);
@@ -22,7 +24,8 @@ fn types_are_folded(rt: HostRuntime) -> Result<(), Fail> {
 fn other_texts_are_no_types(rt: HostRuntime) {
     for text in [
         "",
-        "http",
+        "http:",
+        "-http",
         "service:",
         "service:-a",
         "service:a:b:",
@@ -32,6 +35,36 @@ fn other_texts_are_no_types(rt: HostRuntime) {
         let read = ServiceType::parse(rt.alloc(), text);
         assert!(rt; matches!(read, Err(UrlFault::BadType)), "{text}");
     }
+}
+
+#[test]
+fn authorities_follow_the_first_dot(rt: HostRuntime) -> Result<(), Fail> {
+    for (text, want) in [
+        ("service:a..b", ".b"),
+        ("http.ACME", "acme"),
+        ("service:a.b:c.d", "b"),
+    ] {
+        let kind = ServiceType::parse(rt.alloc(), text)?;
+        assert_eq!(rt; kind.authority(), Some(want), "{text}");
+    }
+    for text in ["service:a.", "service:a:c.d", "service:a", "http"] {
+        let kind = ServiceType::parse(rt.alloc(), text)?;
+        assert!(rt; kind.authority().is_none(), "{text}");
+    }
+    Ok(())
+}
+
+#[test]
+fn authorities_are_folded(rt: HostRuntime) -> Result<(), Fail> {
+    for (text, want) in [("Acme", "acme"), ("-x.", "-x.")] {
+        let authority = parse_authority(rt.alloc(), text)?;
+        assert_eq!(rt; authority.as_str(), want);
+    }
+    for text in ["", " ", "a:b"] {
+        let read = parse_authority(rt.alloc(), text);
+        assert!(rt; matches!(read, Err(UrlFault::BadType)), "{text}");
+    }
+    Ok(())
 }
 
 #[test]

@@ -1,15 +1,16 @@
 ghost use Rattle.std.specs.Prelude.{◌≡◌, ◌&&◌, ◌∷◌, ◌++◌, ◌≤◌, [], nat_eq, length, IsTrue, IfOk};
+ghost use Rattle.std.specs.Option.{option_copied};
 ghost use Rattle.std.specs.List.{list_all, starts_with, position_or_len, before_first, after_first};
 ghost use Rattle.service_url.specs.Reading.{IsReading};
-ghost use Rattle.service_url.specs.Types.{is_colon, is_name_byte as is_name_number, is_name as is_name_text, is_service as is_service_text, is_abstract as is_abstract_text, is_concrete as is_concrete_text, is_abstract_with_colon as is_abstract_text_with_colon, covers as covers_it, type_of};
+ghost use Rattle.service_url.specs.Types.{is_colon, is_name_byte as is_name_number, is_name as is_name_text, is_service as is_service_text, is_abstract as is_abstract_text, is_concrete as is_concrete_text, is_type as is_type_text, is_abstract_with_colon as is_abstract_text_with_colon, covers as covers_it, type_of, is_dot, main_name as main_name_of, authority_of, named_authority};
 
 use crate::fault::UrlFault;
-use slp_text::{NoMemory, key};
+use slp_text::{Key, NoMemory, key};
 use std::alloc::Global;
 use std::marker::Model;
 
-/// A service type, folded, which contracts see as its bytes: `service:A` or `service:A:C` (RFC 2609,
-/// section 2). Those of other schemes are still to come.
+/// A service type, folded, which contracts see as its bytes: `service:A`, `service:A:C`, or a name as
+/// `http` of another scheme (RFC 2609, section 2).
 #[derive(Debug, Drop)]
 pub struct ServiceType {
     text: String,
@@ -80,6 +81,13 @@ fn is_concrete(bytes: &[u8]) -> bool
     is_service(bytes) && are_two_names(&bytes[SERVICE.len()..])
 }
 
+// Whether a folded text is a type: `service:A`, `service:A:C` or a name.
+fn is_type(bytes: &[u8]) -> bool
+    ensures { result ≡ is_type_text bytes.now }
+{
+    is_abstract(bytes) || is_concrete(bytes) || is_name(bytes)
+}
+
 fn is_abstract_with_colon(bytes: &[u8]) -> bool
     ensures { result ≡ is_abstract_text_with_colon bytes.now }
 {
@@ -96,6 +104,35 @@ fn is_followed_by_colon(front: &[u8], text: &[u8]) -> bool
     front.len() < text.len() && text.starts_with(front) && text[front.len()] == b':'
 }
 
+fn before_colon(text: &str) -> &str
+    ensures { result.now ≡ before_first is_colon text.now }
+{
+    match text.split_once(':') {
+        Some((front, _)) => front,
+        None => text,
+    }
+}
+
+// What follows the first dot, or nothing where there is none.
+fn behind_dot(text: &str) -> &str
+    ensures { result.now ≡ after_first is_dot text.now }
+{
+    match text.split_once('.') {
+        Some((_, rest)) => rest,
+        None => "",
+    }
+}
+
+// The name A of `service:A` and `service:A:C`, or else the whole type.
+fn main_name(kind: &str) -> &str
+    ensures { result.now ≡ main_name_of kind.now }
+{
+    match kind.strip_prefix("service:") {
+        Some(rest) => before_colon(rest),
+        None => kind,
+    }
+}
+
 impl ServiceType {
     /// The type that a text names. One colon at the end of `service:A` is dropped. What is no type is
     /// `BadType`.
@@ -110,7 +147,7 @@ impl ServiceType {
             text.truncate(text.len() - 1);
             return Ok(ServiceType { text });
         }
-        if !is_abstract(text.as_bytes()) && !is_concrete(text.as_bytes()) {
+        if !is_type(text.as_bytes()) {
             return Err(UrlFault::BadType);
         }
         Ok(ServiceType { text })
@@ -132,6 +169,18 @@ impl ServiceType {
         kind == other || (is_abstract(kind) && is_followed_by_colon(kind, other))
     }
 
+    /// The naming authority: what follows the first dot of the name behind `service:`, or of the type
+    /// of another scheme, if it is not empty. Takes no memory.
+    pub fn authority(&self) -> Option<&str>
+        ensures { option_copied result ≡ authority_of self.now }
+    {
+        let authority = behind_dot(main_name(&self.text));
+        if authority.is_empty() {
+            return None;
+        }
+        Some(authority)
+    }
+
     /// An equal type.
     pub fn copy(&self, alloc: Global) -> Result<ServiceType, NoMemory>
         ensures { IfOk result (λ t. t ≡ self.now) }
@@ -139,4 +188,18 @@ impl ServiceType {
         let text = String::from_str(alloc, self.text.as_str())?;
         Ok(ServiceType { text })
     }
+}
+
+/// The naming authority that a text names, folded: not empty, of the characters of a type's name.
+/// Another text is `BadType`.
+pub fn parse_authority(alloc: Global, text: &str) -> Result<Key, UrlFault>
+    ensures { IsReading result (named_authority text.now) }
+{
+    let Ok(folded) = key(alloc, text) else {
+        return Err(UrlFault::NoMemory);
+    };
+    if folded.as_str().is_empty() || !are_name_bytes(folded.as_str().as_bytes()) {
+        return Err(UrlFault::BadType);
+    }
+    Ok(folded)
 }
