@@ -1,3 +1,4 @@
+pub mod Addresses
 pub mod Codes
 pub mod Deciding
 pub mod Opening

@@ -6,6 +6,6 @@ mod addr;
 mod rule;
 mod rules;
 
-pub use addr::Addr;
+pub use addr::{Addr, number};
 pub use rule::{Action, Prefix, Rule};
 pub use rules::{Rules, Verdict};

@@ -1,0 +1,165 @@
+-- Addresses of four numbers with dots between them.
+use Rattle.std.proofs.Common.{◌≡◌, ◌≢◌, ℕ, ◌+◌, ◌-◌, ◌*◌, ◌^◌, true, false, cond, List, [], ◌∷◌, ◌++◌, map, Option, Some, None, refl, sym, ap, ◌∙◌, ◌⊎◌, inl, inr, nat_lt}
+use Rattle.std.specs.Prelude.{Bool, ◌&&◌, ◌==◌, nat_le}
+use Rattle.std.specs.Option.{option_and_then}
+use Rattle.std.specs.List.{slice_split, onto_first}
+use Rattle.std.proofs.lemmas.Bool.Decides.{eqb_tells}
+use Rattle.slp_text.specs.Words.{Lacks}
+use Rattle.access_rules.specs.Addresses.{number_from, number_of, within_octet, octet_of, address_in, is_dot, address_of, within_port, is_colon, paired, socket_in, socket_of}
+
+-- ---- texts that are cut at a byte
+not_byte : (x byte : ℕ) → x ≢ byte → (x == byte) ≡ false
+not_byte x byte h = elim (eqb_tells x byte) [ inl t ↦ absurd (h t.1) | inr f ↦ f.0 ]
+
+pub split-none : (byte : ℕ) (xs : List ℕ) → Lacks byte xs → slice_split (λ x. x == byte) xs ≡ xs ∷ []
+split-none byte [] h = refl
+split-none byte (x ∷ xs) h =
+    let other = not_byte x byte h.0 in
+    rw (other, split-none byte xs h.1) refl
+
+same_byte : (byte : ℕ) → (byte == byte) ≡ true
+same_byte byte = elim (eqb_tells byte byte) [ inl t ↦ t.0 | inr f ↦ absurd (f.1 refl) ]
+
+pub split-at : (byte : ℕ) (xs ys : List ℕ) → Lacks byte xs → slice_split (λ x. x == byte) (xs ++ byte ∷ ys) ≡ xs ∷ slice_split (λ x. x == byte) ys
+split-at byte [] ys h = rw (same_byte byte) refl
+split-at byte (x ∷ xs) ys h =
+    let other = not_byte x byte h.0 in
+    rw (other, split-at byte xs ys h.1) refl
+
+-- a byte that is no digit
+abbrev pub IsNoDigit : ℕ → Type 0
+IsNoDigit byte = (b : Bool) → (nat_le 48 byte && nat_le byte 57 && b) ≡ false
+
+no_number : (byte v : ℕ) (xs : List ℕ) → IsNoDigit byte → number_from v (byte ∷ xs) ≡ None
+no_number byte v xs other = ap (λ b. cond b (number_from (v * 10 + (byte - 48)) xs) None) (other (nat_lt (v * 10 + (byte - 48)) (2 ^ 32)))
+
+-- a number has no such byte
+number_from-lacks : (byte v : ℕ) (d : List ℕ) (n : ℕ) → IsNoDigit byte → number_from v d ≡ Some n → Lacks byte d
+number_from-lacks byte v [] n other h = tt
+number_from-lacks byte v (x ∷ xs) n other h = (
+  λ e. let k : number_from v (byte ∷ xs) ≡ Some n = rw e at h in let none = no_number byte v xs other in absurd (let e : None ≡ Some n = sym none ∙ k in cc),
+  elim (nat_le 48 x && nat_le x 57 && nat_lt (v * 10 + (x - 48)) (2 ^ 32)) as (λ b. cond b (number_from (v * 10 + (x - 48)) xs) None ≡ Some n → Lacks byte xs) [
+    | true ↦ λ k. number_from-lacks byte (v * 10 + (x - 48)) xs n other k
+    | false ↦ λ k. absurd cc
+  ] h,
+)
+
+pub number_of-lacks : (byte : ℕ) (d : List ℕ) (n : ℕ) → IsNoDigit byte → number_of d ≡ Some n → Lacks byte d
+number_of-lacks byte [] n other h = tt
+number_of-lacks byte (x ∷ xs) n other h = number_from-lacks byte 0 (x ∷ xs) n other h
+
+octet_of-lacks : (d : List ℕ) (n : ℕ) → octet_of d ≡ Some n → Lacks 46 d
+octet_of-lacks d n h =
+    elim (number_of d) as (λ o. number_of d ≡ o → option_and_then within_octet o ≡ Some n → Lacks 46 d) [
+      | Some m ↦ λ e k. number_of-lacks 46 d m (λ b. refl) e
+      | None ↦ λ e k. absurd cc
+    ] refl h
+
+-- a text is one part, or has two
+pub parts : (p : ℕ → Bool) (d : List ℕ) → (slice_split p d ≡ d ∷ []) ⊎ ((f g : List ℕ) × (rest : List (List ℕ)) × (slice_split p d ≡ f ∷ g ∷ rest))
+parts p [] = inl refl
+parts p (x ∷ xs) =
+    elim (p x) as (λ b. (cond b ([] ∷ slice_split p xs) (onto_first x (slice_split p xs)) ≡ (x ∷ xs) ∷ []) ⊎ ((f g : List ℕ) × (rest : List (List ℕ)) × (cond b ([] ∷ slice_split p xs) (onto_first x (slice_split p xs)) ≡ f ∷ g ∷ rest))) [
+      | true ↦ elim (parts p xs) [
+        | inl e ↦ inr ([], xs, [], ap (λ t. [] ∷ t) e)
+        | inr q ↦ inr ([], q.0, q.1 ∷ q.2, ap (λ t. [] ∷ t) q.3)
+      ]
+      | false ↦ elim (parts p xs) [
+        | inl e ↦ inl (ap (onto_first x) e)
+        | inr q ↦ inr (x ∷ q.0, q.1, q.2, ap (onto_first x) q.3)
+      ]
+    ]
+
+-- ---- what is no address
+one-not : (o : Option ℕ) → address_in (o ∷ []) ≡ None
+one-not None = refl
+one-not (Some a) = refl
+
+two-not : (o p : Option ℕ) → address_in (o ∷ p ∷ []) ≡ None
+two-not None p = refl
+two-not (Some a) None = refl
+two-not (Some a) (Some b) = refl
+
+three-not : (o p q : Option ℕ) → address_in (o ∷ p ∷ q ∷ []) ≡ None
+three-not None p q = refl
+three-not (Some a) None q = refl
+three-not (Some a) (Some b) None = refl
+three-not (Some a) (Some b) (Some c) = refl
+
+five-not : (o p q r s : Option ℕ) (rest : List (Option ℕ)) → address_in (o ∷ p ∷ q ∷ r ∷ s ∷ rest) ≡ None
+five-not None p q r s rest = refl
+five-not (Some a) None q r s rest = refl
+five-not (Some a) (Some b) None r s rest = refl
+five-not (Some a) (Some b) (Some c) None s rest = refl
+five-not (Some a) (Some b) (Some c) (Some d) s rest = refl
+
+fourth-not : (o p q : Option ℕ) → address_in (o ∷ p ∷ q ∷ None ∷ []) ≡ None
+fourth-not None p q = refl
+fourth-not (Some a) None q = refl
+fourth-not (Some a) (Some b) None = refl
+fourth-not (Some a) (Some b) (Some c) = refl
+
+-- a text that was cut at its first dot
+pub record IsCut (text front rest : List ℕ) : Type 0 where
+  pub all : text ≡ front ++ 46 ∷ rest
+  pub lacks : Lacks 46 front
+
+split-cut : (text front rest : List ℕ) → IsCut text front rest → slice_split is_dot text ≡ front ∷ slice_split is_dot rest
+split-cut text front rest c = ap (slice_split is_dot) c.all ∙ split-at 46 front rest c.lacks
+
+split-cut_2 : (text a rest b more : List ℕ) → IsCut text a rest → IsCut rest b more → slice_split is_dot text ≡ a ∷ b ∷ slice_split is_dot more
+split-cut_2 text a rest b more f g = split-cut text a rest f ∙ ap (λ t. a ∷ t) (split-cut rest b more g)
+
+pub address-one : (text : List ℕ) → Lacks 46 text → address_of text ≡ None
+address-one text h = rw (split-none 46 text h) (one-not (octet_of text))
+
+pub address-two : (text a rest : List ℕ) → IsCut text a rest → Lacks 46 rest → address_of text ≡ None
+address-two text a rest f h = rw (split-cut text a rest f, split-none 46 rest h) (two-not (octet_of a) (octet_of rest))
+
+pub address-three : (text a rest b more : List ℕ) → IsCut text a rest → IsCut rest b more → Lacks 46 more → address_of text ≡ None
+address-three text a rest b more f g h = rw (split-cut_2 text a rest b more f g, split-none 46 more h) (three-not (octet_of a) (octet_of b) (octet_of more))
+
+last-octet : (o p q : Option ℕ) (d : List ℕ) → address_in (o ∷ p ∷ q ∷ map octet_of (slice_split is_dot d)) ≡ address_in (o ∷ p ∷ q ∷ octet_of d ∷ [])
+last-octet o p q d =
+    elim (parts is_dot d) [
+      | inl e ↦ rw e refl
+      | inr t ↦ elim (octet_of d) as (λ r. octet_of d ≡ r → address_in (o ∷ p ∷ q ∷ map octet_of (slice_split is_dot d)) ≡ address_in (o ∷ p ∷ q ∷ r ∷ [])) [
+        | Some n ↦ λ is. let one = split-none 46 d (octet_of-lacks d n is) in absurd (let e : d ∷ [] ≡ t.0 ∷ t.1 ∷ t.2 = sym one ∙ t.3 in cc)
+        | None ↦ λ is. rw t.3 (five-not o p q (octet_of t.0) (octet_of t.1) (map octet_of t.2) ∙ sym (fourth-not o p q))
+      ] refl
+    ]
+
+pub address-four : (text a rest b more c d : List ℕ) → IsCut text a rest → IsCut rest b more → IsCut more c d → address_of text ≡ address_in (octet_of a ∷ octet_of b ∷ octet_of c ∷ octet_of d ∷ [])
+address-four text a rest b more c d f g h =
+    ap (λ t. address_in (map octet_of t)) (split-cut_2 text a rest b more f g ∙ ap (λ t. a ∷ b ∷ t) (split-cut more c d h))
+    ∙ last-octet (octet_of a) (octet_of b) (octet_of c) d
+
+-- ---- an address with a port
+unpaired : (o : Option ℕ) → paired {A = ℕ} {B = ℕ} o None ≡ None
+unpaired None = refl
+unpaired (Some a) = refl
+
+pub no_colon : (text : List ℕ) → Lacks 58 text → socket_of text ≡ None
+no_colon text h = rw (split-none 58 text h) refl
+
+socket_at : (host digits : List ℕ) → Lacks 58 host → socket_of (host ++ 58 ∷ digits) ≡ paired (address_of host) (option_and_then within_port (number_of digits))
+socket_at host digits h =
+    ap socket_in (split-at 58 host digits h) ∙ elim (parts is_colon digits) [
+      | inl e ↦ ap (λ t. socket_in (host ∷ t)) e
+      | inr t ↦ elim (number_of digits) as (λ o. number_of digits ≡ o → socket_in (host ∷ slice_split is_colon digits) ≡ paired (address_of host) (option_and_then within_port o)) [
+        | Some n ↦ λ is. let one = split-none 58 digits (number_of-lacks 58 digits n (λ b. refl) is) in absurd (let e : digits ∷ [] ≡ t.0 ∷ t.1 ∷ t.2 = sym one ∙ t.3 in cc)
+        | None ↦ λ is. ap (λ u. socket_in (host ∷ u)) t.3 ∙ sym (unpaired (address_of host))
+      ] refl
+    ]
+
+pub socket_cut : (text host digits : List ℕ) → text ≡ host ++ 58 ∷ digits → Lacks 58 host → socket_of text ≡ paired (address_of host) (option_and_then within_port (number_of digits))
+socket_cut text host digits all h = ap socket_of all ∙ socket_at host digits h
+
+pub no_address : (text host digits : List ℕ) → text ≡ host ++ 58 ∷ digits → Lacks 58 host → address_of host ≡ None → socket_of text ≡ None
+no_address text host digits all h none = socket_cut text host digits all h ∙ ap (λ o. paired o (option_and_then within_port (number_of digits))) none
+
+pub no_port : (text host digits : List ℕ) → text ≡ host ++ 58 ∷ digits → Lacks 58 host → option_and_then within_port (number_of digits) ≡ None → socket_of text ≡ None
+no_port text host digits all h none = socket_cut text host digits all h ∙ ap (λ o. paired (address_of host) o) none ∙ unpaired (address_of host)
+
+pub address_and_port : (text host digits : List ℕ) (a n : ℕ) → text ≡ host ++ 58 ∷ digits → Lacks 58 host → address_of host ≡ Some a → option_and_then within_port (number_of digits) ≡ Some n → socket_of text ≡ Some (a, n)
+address_and_port text host digits a n all h some port = socket_cut text host digits all h ∙ ap (λ o. paired o (option_and_then within_port (number_of digits))) some ∙ ap (λ o. paired (Some a) o) port

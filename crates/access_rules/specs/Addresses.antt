@@ -1,0 +1,54 @@
+-- Decimal numbers, and addresses of IPv4 as they are written.
+use Rattle.std.specs.Prelude.{ℕ, ◌+◌, ◌-◌, ◌*◌, ◌^◌, nat_lt, nat_le, Bool, ◌==◌, ◌&&◌, if◌then◌else◌, List, [], ◌∷◌, map, Option, Some, None}
+use Rattle.std.specs.Option.{option_and_then}
+use Rattle.std.specs.List.{slice_split}
+
+-- digits behind the value v, below 2^32
+abbrev pub number_from : ℕ → List ℕ → Option ℕ
+number_from v [] = Some v
+number_from v (x ∷ xs) =
+    if nat_le 48 x && nat_le x 57 && nat_lt (v * 10 + (x - 48)) (2 ^ 32) then number_from (v * 10 + (x - 48)) xs else None
+
+-- decimal digits, at least one; leading zeros are allowed
+abbrev pub number_of : List ℕ → Option ℕ
+number_of [] = None
+number_of (x ∷ xs) = number_from 0 (x ∷ xs)
+
+abbrev pub within_octet : ℕ → Option ℕ
+within_octet n = if nat_le n 255 then Some n else None
+
+-- a number of at most 255
+abbrev pub octet_of : List ℕ → Option ℕ
+octet_of digits = option_and_then within_octet (number_of digits)
+
+-- the address of four octets, the first of them the highest
+abbrev pub address_in : List (Option ℕ) → Option ℕ
+address_in (Some a ∷ Some b ∷ Some c ∷ Some d ∷ []) = Some (((a * 256 + b) * 256 + c) * 256 + d)
+address_in _ = None
+
+abbrev pub is_dot : ℕ → Bool
+is_dot b = b == 46
+
+-- four octets with a dot between each two
+abbrev pub address_of : List ℕ → Option ℕ
+address_of text = address_in (map octet_of (slice_split is_dot text))
+
+-- a port: 1 to 65535
+abbrev pub within_port : ℕ → Option ℕ
+within_port n = if nat_le 1 n && nat_le n 65535 then Some n else None
+
+abbrev pub is_colon : ℕ → Bool
+is_colon b = b == 58
+
+abbrev pub paired : {A B : Type 0} → Option A → Option B → Option (A × B)
+paired (Some a) (Some b) = Some (a, b)
+paired (Some a) None = None
+paired None o = None
+
+abbrev pub socket_in : List (List ℕ) → Option (ℕ × ℕ)
+socket_in (a ∷ p ∷ []) = paired (address_of a) (option_and_then within_port (number_of p))
+socket_in _ = None
+
+-- an address and a port, with a colon between them
+abbrev pub socket_of : List ℕ → Option (ℕ × ℕ)
+socket_of text = socket_in (slice_split is_colon text)
