@@ -1,0 +1,2 @@
+pub mod Configuring
+pub mod Tables

@@ -1,0 +1,104 @@
+//! The keys of a configuration, and what stands at each.
+ghost use Rattle.std.specs.Prelude.{◌≡◌, ◌≤◌, None, [], length, string_bytes, IfOk, IsTrue};
+ghost use Rattle.std.specs.BTreeMap.{keys};
+ghost use Rattle.std.specs.List.{list_all};
+ghost use Rattle.toml.specs.View.{view};
+ghost use Rattle.site_config.specs.Configuring.{scopes_key, listen_key, capacity_key, rules_key, templates_key, are_site_scopes, scopes_in, number_in, are_listening, listen_in, path_in, templates_in, needed, optional, is_known as is_known_key, keys_of, IsReading};
+ghost use Rattle.site_config.specs.Tables.{members_in};
+
+use crate::fault::ConfigFault;
+use crate::{listening, values};
+use access_rules::Addr;
+use slp_text::{Row, ScopeList, Text};
+use std::alloc::Global;
+use toml::{Table, Value};
+
+pub fn scopes(alloc: Global, table: &Value) -> Result<ScopeList, ConfigFault>
+    ensures value { IsReading result (needed scopes_in scopes_key (members_in (view table.now))) }
+    ensures limits { IfOk result (λ scopes. IsTrue (are_site_scopes scopes)) }
+{
+    match table.get("scopes") {
+        Some(value) => values::scopes(alloc, value),
+        None => Err(ConfigFault::Missing),
+    }
+}
+
+pub fn listen(alloc: Global, table: &Value) -> Result<Row<(Addr, u16)>, ConfigFault>
+    ensures value { IsReading result (needed listen_in listen_key (members_in (view table.now))) }
+    ensures limits { IfOk result (λ sockets. IsTrue (are_listening sockets)) }
+{
+    match table.get("listen") {
+        Some(value) => listening::listen(alloc, value),
+        None => Err(ConfigFault::Missing),
+    }
+}
+
+pub fn capacity(table: &Value) -> Result<u32, ConfigFault>
+    ensures value { result ≡ needed (number_in 1 65536) capacity_key (members_in (view table.now)) }
+    ensures low { IfOk result (λ n. 1 ≤ n) }
+    ensures high { IfOk result (λ n. n ≤ 65536) }
+{
+    match table.get("capacity") {
+        Some(value) => values::number(value, 1, 65_536),
+        None => Err(ConfigFault::Missing),
+    }
+}
+
+/// The number from 1 to `high` at a key, or the usual one where the key is missing.
+pub fn number(table: &Value, key: &str, usual: u32, high: u32) -> Result<u32, ConfigFault>
+    requires low { 1 ≤ usual }
+    requires high { usual ≤ high }
+    ensures value { result ≡ optional (number_in 1 high) key.now usual (members_in (view table.now)) }
+    ensures low { IfOk result (λ n. 1 ≤ n) }
+    ensures high { IfOk result (λ n. n ≤ high) }
+{
+    match table.get(key) {
+        Some(value) => values::number(value, 1, high),
+        None => Ok(usual),
+    }
+}
+
+pub fn rules(alloc: Global, table: &Value) -> Result<Option<Text>, ConfigFault>
+    ensures { IsReading result (optional path_in rules_key None (members_in (view table.now))) }
+{
+    match table.get("rules") {
+        Some(value) => Ok(Some(values::path(alloc, value)?)),
+        None => Ok(None),
+    }
+}
+
+pub fn templates(alloc: Global, table: &Value) -> Result<Row<Text>, ConfigFault>
+    ensures value { IsReading result (optional templates_in templates_key [] (members_in (view table.now))) }
+    ensures limit { IfOk result (λ paths. length paths ≤ 256) }
+{
+    match table.get("templates") {
+        Some(value) => values::templates(alloc, value),
+        None => Ok(Row::wrap(Vec::new(alloc))),
+    }
+}
+
+fn is_known(key: &str) -> bool
+    ensures { result ≡ is_known_key key.now }
+{
+    matches!(
+        key,
+        "scopes" | "listen" | "capacity" | "connections" | "sweep" | "rules" | "templates"
+    )
+}
+
+fn has_known_keys(table: &Table) -> bool
+    ensures { result ≡ list_all (λ key. is_known_key (string_bytes key)) (keys table.now) }
+{
+    table.keys().all(|key| is_known(key.as_str()))
+}
+
+/// Whether a table has no key but those of a configuration.
+#[tactic(auto, using(crate::proofs::KeysOfTables::test_keys))]
+pub fn are_known(table: &Value) -> bool
+    ensures { result ≡ list_all is_known_key (keys_of (members_in (view table.now))) }
+{
+    match table.as_table() {
+        Some(table) => has_known_keys(table),
+        None => true,
+    }
+}

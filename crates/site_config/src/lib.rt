@@ -1,0 +1,13 @@
+//! The configuration of a site, from TOML.
+#![tactic(auto)]
+
+mod config;
+mod fault;
+mod keys;
+mod listening;
+#[cfg(test)]
+mod tests;
+mod values;
+
+pub use config::{Config, LONGEST_CONFIG};
+pub use fault::ConfigFault;
