@@ -2,7 +2,7 @@
 use Rattle.std.proofs.Common.{◌≡◌, ◌≢◌, ℕ, suc, ◌+◌, ◌<◌, ◌≤◌, Bool, true, false, cond, ◌&&◌, List, [], ◌∷◌, ◌++◌, map, length, drop, get_or, set, Some, None, refl, sym, ap, ap₂, subst, ◌∙◌, arith}
 use Rattle.std.proofs.Math.Numerals.{one-add}
 use Rattle.std.specs.List.{prefix_len}
-use Rattle.std.specs.Prelude.{find, filter, is_some, not, nat_lt, position}
+use Rattle.std.specs.Prelude.{find, filter, is_some, not, nat_lt, position, Option}
 use Rattle.std.proofs.lemmas.Option.{cond_some, none-some}
 use borrow.Author.Tests.{ltb-true, ltb-false}
 use Rattle.std.proofs.lemmas.List.{nil_from_length, length-map, get_or-map}
@@ -16,7 +16,7 @@ use Rattle.std.specs.declared.cmp.Ordering.{Ordering}
 use Rattle.std.specs.declared.cmp.Ordering.TheVariants.{Less, Equal, Greater}
 use Rattle.std.specs.FinMap as fin
 use Rattle.registry_core.specs.declared.entry.Entry.{Entry}
-use Rattle.registry_core.specs.Entries.{Pair, pair_cmp, pair_eq, pair_of, is_of, of_list, kept, IsDistinct, IsListing}
+use Rattle.registry_core.specs.Entries.{Pair, Entries, pair_cmp, pair_eq, pair_of, is_of, of_list, kept, passing, IsDistinct, IsListing}
 
 -- ---- the order of pairs
 pub pair_total : IsTotalOrder pair_cmp
@@ -105,6 +105,21 @@ len-of_list (e ∷ es) d =
     fin.len-insert pair_total (of_list es) (pair_of e) e
     ∙ ap₂ (λ b (n : ℕ). cond b n (n + 1)) (ap is_some (get-of_list es (pair_of e) ∙ d.0)) (len-of_list es d.1) ∙ omega arith
 
+-- ---- what passes a test
+
+kept-cond : (p : Entry → Bool) (o : Option Entry) → cond (is_some (kept p o)) o None ≡ kept p o
+kept-cond p None = refl
+kept-cond p (Some e) = elim (p e) as (λ b. cond (is_some (cond b (Some e) None)) (Some e) None ≡ cond b (Some e) None) [ true ↦ refl | false ↦ refl ]
+
+-- what passes at a pair is what is there, where it passes
+pub get-passing : (p : Entry → Bool) (m : Entries) (q : Pair) → fin.get (passing p m) q ≡ kept p (fin.get m q)
+get-passing p m q =
+    fin.get-retain_keys m (λ r. is_some (kept p (fin.get m r))) q (λ x tie. ap (λ r. is_some (kept p (fin.get m r))) (sym (pair_exact q x tie)))
+    ∙ kept-cond p (fin.get m q)
+
+pub passing-is : (p : Entry → Bool) (a b : Entries) → ((q : Pair) → fin.get b q ≡ kept p (fin.get a q)) → b ≡ passing p a
+passing-is p a b each = fin.same_map pair_total pair_exact b (passing p a) (λ q. each q ∙ sym (get-passing p a q))
+
 -- ---- a filter
 
 pub find-kept : (p : Entry → Bool) (es : List Entry) (q : Pair) → IsDistinct es → find (is_of q) (filter p es) ≡ kept p (find (is_of q) es)
@@ -135,6 +150,11 @@ map-filter v p (x ∷ xs) = elim (p (v x)) as (λ b. map v (cond b (x ∷ filter
   | true ↦ ap (λ ys. v x ∷ ys) (map-filter v p xs)
   | false ↦ map-filter v p xs
 ]
+
+pub len-passing-of_list : (p : Entry → Bool) (es : List Entry) → IsDistinct es → fin.len (passing p (of_list es)) ≡ length (filter p es)
+len-passing-of_list p es d =
+    let left = passing-is p (of_list es) (of_list (filter p es)) (λ q. get-of_list (filter p es) q ∙ find-kept p es q d ∙ ap (kept p) (sym (get-of_list es q))) in
+    ap fin.len (sym left) ∙ len-of_list (filter p es) (IsDistinct-filter p es d)
 
 -- ---- a place
 
@@ -218,6 +238,9 @@ filter_end p es i h = ap (filter p) (nil_from_length (drop i es) (simp length-dr
 
 pub listed_len : {A : Type 0} (v : A → Entry) (xs : List A) → IsDistinct (map v xs) → fin.len (of_list (map v xs)) ≡ length xs
 listed_len v xs d = len-of_list (map v xs) d ∙ length-map xs v
+
+pub passing_len : {A : Type 0} (v : A → Entry) (p : Entry → Bool) (xs : List A) → IsDistinct (map v xs) → fin.len (passing p (of_list (map v xs))) ≡ length (filter (λ a. p (v a)) xs)
+passing_len v p xs d = len-passing-of_list p (map v xs) d ∙ ap length (sym (map-filter v p xs)) ∙ length-map (filter (λ a. p (v a)) xs) v
 
 -- the element that was read
 pub read_at : {A : Type 0} (v : A → Entry) (xs : List A) (i : ℕ) (x : A) (e : Entry) → i < length xs → x ≡ get_or xs i x → e ≡ v x → e ≡ get_or (map v xs) i e

@@ -1,12 +1,12 @@
 -- Entries, and finite maps of them from pairs of URL and language.
-use Rattle.std.specs.Prelude.{◌≡◌, ℕ, Bool, true, if◌then◌else◌, ◌&&◌, nat_lt, List, [], ◌∷◌, map, find, Option, Some, None, refl}
+use Rattle.std.specs.Prelude.{◌≡◌, ℕ, Bool, true, if◌then◌else◌, ◌&&◌, nat_lt, List, [], ◌∷◌, map, find, Option, Some, None, is_some, refl}
 use Rattle.std.specs.List.{list_any}
 use Rattle.std.specs.Ordering.{ordering_then}
 use Rattle.std.specs.declared.cmp.Ordering.{Ordering}
 use Rattle.std.specs.Coded.{Coded, code_by, coded×, coded_ℕ, coded_list}
 use Rattle.std.specs.FinMap as fin
 use Rattle.std.specs.FinMap.{FinMap}
-use Rattle.slp_text.specs.Words.{bytes_eq, bytes_cmp}
+use Rattle.slp_text.specs.Words.{bytes_eq, bytes_cmp, texts_eq}
 use Rattle.service_url.specs.Types.{covers}
 use Rattle.registry_core.specs.declared.entry.Entry.{Entry}
 
@@ -63,6 +63,18 @@ has_scope scope e = list_any (λ s. bytes_eq s scope) e.scopes
 abbrev pub is_kind : Option (List ℕ) → Entry → Bool
 is_kind None e = true
 is_kind (Some kind) e = covers kind e.kind
+
+-- of this URL
+abbrev pub is_of_url : List ℕ → Entry → Bool
+is_of_url url e = bytes_eq e.url url
+
+-- registered with this URL in just these scopes
+abbrev pub is_registered : List ℕ → List (List ℕ) → Entry → Bool
+is_registered url scopes e = bytes_eq e.url url && texts_eq e.scopes scopes
+
+-- the entries that pass the test
+abbrev pub passing : (Entry → Bool) → Entries → Entries
+passing p m = fin.retain_keys m (λ q. is_some (kept p (fin.get m q)))
 
 -- it stands in this scope, and is of a type that the given one covers
 abbrev pub is_at_place : List ℕ → Option (List ℕ) → Entry → Bool

@@ -2,12 +2,12 @@ ghost use Rattle.std.specs.Prelude.{◌≡◌, ◌<◌, ◌≤◌, [], IfOk, OnE
 ghost use Rattle.std.specs.Arc.{arc_value};
 ghost use Rattle.std.specs.FinMap as fin;
 ghost use Rattle.std.specs.Option.{option_copied};
-ghost use Rattle.registry_core.specs.Entries.{is_of, is_at_place, of_list};
+ghost use Rattle.registry_core.specs.Entries.{is_of, is_at_place, is_of_url, of_list};
 
 use crate::entry::Entry;
 use crate::registry::{Registry, RegistryFault};
 use service_url::{ServiceType, Url};
-use slp_text::Key;
+use slp_text::{Key, ScopeList};
 use std::alloc::Global;
 use std::marker::Model;
 use std::sync::Arc;
@@ -73,13 +73,15 @@ fn is_here(entry: &Entry, scope: &Key, kind: Option<&ServiceType>) -> bool
 
 impl Registry for ListRegistry {
     ghost use Rattle.std.specs.Prelude.{filter, drop};
-    ghost use Rattle.registry_core.specs.Entries.{of_list, is_at_place};
+    ghost use Rattle.registry_core.specs.Entries.{of_list, is_at_place, is_of_url};
 
     ghost contents = { λ r. of_list r.entries };
 
     ghost limit = { λ r. r.limit };
 
     ghost rest_at = { λ r scope kind from. filter (is_at_place scope kind) (drop from r.entries) };
+
+    ghost rest_of_url = { λ r url from. filter (is_of_url url) (drop from r.entries) };
 
     fn put(&mut self, entry: Arc<Entry>) -> Result<(), RegistryFault> {
         let held: &Entry = &entry;
@@ -102,6 +104,11 @@ impl Registry for ListRegistry {
         self.entries.retain(|e| e.deadline > now);
     }
 
+    fn remove_url(&mut self, url: &Url, scopes: &ScopeList) {
+        self.entries
+            .retain(|e| !(e.url == *url && e.scopes == *scopes));
+    }
+
     fn find(&self, url: &Url, language: &Key) -> Option<&Entry> {
         match place_of(&self.entries, url, language) {
             Some(at) => Some(&*self.entries[at]),
@@ -122,6 +129,20 @@ impl Registry for ListRegistry {
             }
         }
         None
+    }
+
+    fn by_url(&self, url: &Url, from: usize) -> Option<(&Entry, usize)> {
+        for at in from..self.entries.len() {
+            let entry: &Entry = &self.entries[at];
+            if entry.url == *url {
+                return Some((entry, at + 1));
+            }
+        }
+        None
+    }
+
+    fn live(&self, now: u64) -> usize {
+        self.entries.iter().filter(|e| e.deadline > now).count()
     }
 
     fn len(&self) -> usize {

@@ -1,12 +1,12 @@
-ghost use Rattle.std.specs.Prelude.{◌≡◌, ◌<◌, ◌≤◌, ◌∷◌, [], ◌↔◌, length, IsErrOf, OnOk, OnErr, MatchOption, None};
+ghost use Rattle.std.specs.Prelude.{◌≡◌, ◌<◌, ◌≤◌, ◌∷◌, [], ◌↔◌, length, not, IsErrOf, OnOk, OnErr, MatchOption, None};
 ghost use Rattle.std.specs.Arc.{arc_value};
 ghost use Rattle.std.specs.FinMap as fin;
 ghost use Rattle.std.specs.Option.{option_copied};
-ghost use Rattle.registry_core.specs.Entries.{Pair, pair_of, outlives, kept, is_at_place, IsListing};
+ghost use Rattle.registry_core.specs.Entries.{Pair, pair_of, outlives, kept, passing, is_at_place, is_of_url, is_registered, IsListing};
 
 use crate::entry::Entry;
 use service_url::{ServiceType, Url};
-use slp_text::Key;
+use slp_text::{Key, ScopeList};
 use std::sync::Arc;
 use thiserror::Error;
 
@@ -37,6 +37,9 @@ pub trait Registry {
     /// What `by_place` still gives of a scope and a type from a number on.
     ghost rest_at: { Self → List ℕ → Option (List ℕ) → ℕ → List Entry };
 
+    /// What `by_url` still gives of a URL from a number on.
+    ghost rest_of_url: { Self → List ℕ → ℕ → List Entry };
+
     /// Sets the entry of one pair. A registry that has no place for a pair that is not held is
     /// `Full`, and stays as it is.
     fn put(&mut self, entry: Arc<Entry>) -> Result<(), RegistryFault>
@@ -51,6 +54,11 @@ pub trait Registry {
     /// Drops the entries whose deadline is at most `now`, a moment in seconds.
     fn sweep(&mut self, now: u64)
         ensures each { (q : Pair) → fin.get (contents self.new) q ≡ kept (outlives now) (fin.get (contents self.old) q) }
+        ensures room { limit self.new ≡ limit self.old };
+
+    /// Drops the entries of a URL, in every language, whose scopes are exactly these.
+    fn remove_url(&mut self, url: &Url, scopes: &ScopeList)
+        ensures each { (q : Pair) → fin.get (contents self.new) q ≡ kept (λ e. not (is_registered url.now scopes.now e)) (fin.get (contents self.old) q) }
         ensures room { limit self.new ≡ limit self.old };
 
     /// The entry of a URL and a language.
@@ -68,6 +76,16 @@ pub trait Registry {
     ) -> Option<(&Entry, usize)>
         ensures next { MatchOption result (rest_at self.now scope.now (option_copied kind.entry) from ≡ []) (λ p. rest_at self.now scope.now (option_copied kind.entry) from ≡ p.0.now ∷ rest_at self.now scope.now (option_copied kind.entry) p.1) }
         ensures whole { IsListing (is_at_place scope.now (option_copied kind.entry)) (contents self.now) (rest_at self.now scope.now (option_copied kind.entry) 0) };
+
+    /// The next entry of a URL, with the number to go on from. The first number is 0. On a registry
+    /// that stays as it is each such entry comes once.
+    fn by_url(&self, url: &Url, from: usize) -> Option<(&Entry, usize)>
+        ensures next { MatchOption result (rest_of_url self.now url.now from ≡ []) (λ p. rest_of_url self.now url.now from ≡ p.0.now ∷ rest_of_url self.now url.now p.1) }
+        ensures whole { IsListing (is_of_url url.now) (contents self.now) (rest_of_url self.now url.now 0) };
+
+    /// How many entries have a deadline greater than `now`, a moment in seconds.
+    fn live(&self, now: u64) -> usize
+        ensures { result ≡ fin.len (passing (outlives now) (contents self.now)) };
 
     /// How many pairs are held.
     fn len(&self) -> usize
