@@ -1,5 +1,4 @@
+pub mod Concerned
 pub mod Denials
-pub mod Fullness
 pub mod Maps
 pub mod Steps
-pub mod Taking

@@ -1,24 +1,27 @@
 -- What each step of judging comes to.
-use Rattle.std.proofs.Common.{◌≡◌, ℕ, ◌+◌, Bool, true, false, cond, List, [], ◌∷◌, length, Option, Some, None, Result, Ok, Err, refl, sym, ap, subst, ◌∙◌}
-use Rattle.std.specs.Prelude.{IfOk, filter, is_some, is_none, nat_le, slice_get, unwrap_or, is_err, ◌==◌, ◌&&◌, ◌||◌}
-use Rattle.service_url.specs.Urls.{url_of}
-use Rattle.std.specs.Option.{option_map, option_map_or, option_or}
+use Rattle.std.proofs.Common.{◌≡◌, ◌≢◌, ℕ, ◌+◌, Bool, true, false, cond, List, [], ◌∷◌, length, Option, Some, None, Result, Ok, Err, refl, sym, ap, ap₂, subst, ◌∙◌}
+use Rattle.std.specs.Prelude.{IfOk, filter, is_none, nat_le, slice_get, unwrap_or, not, ◌==◌, ◌&&◌, ◌||◌}
+use Rattle.std.specs.List.{list_any}
+use Rattle.std.specs.Option.{option_map, option_or}
+use Rattle.std.specs.Result.{result_ok}
 use Rattle.std.specs.FinMap as fin
+use Rattle.slp_text.specs.Scopes.{scopes_of, common_of}
+use Rattle.service_url.specs.Urls.{url_of}
 use Rattle.slp_wire.specs.declared.header.Header.{Header}
 use Rattle.slp_wire.specs.declared.message.Registration.{Registration}
-use Rattle.access_rules.specs.declared.rule.Action.TheVariants.{Register}
+use Rattle.slp_wire.specs.declared.message.Withdrawal.{Withdrawal}
+use Rattle.access_rules.specs.declared.rule.Action.TheVariants.{Register, Withdraw}
 use Rattle.registry_core.specs.declared.entry.Entry.{Entry}
-use Rattle.registry_core.specs.Entries.{Pair, Entries, pair_of}
+use Rattle.registry_core.specs.Entries.{Pair, Entries, pair_of, is_of_url}
 use Rattle.directory_judge.specs.History.{Putting, Put}
-use Rattle.directory_judge.specs.Making.{Stores, content, entry_of}
-use Rattle.directory_judge.specs.Sites.{Place}
-use Rattle.directory_judge.specs.Judging.{Grounds, Judgement, Accepts, Ignores, Denies, by_step, by_rule, denial_of, taken, invalid, supports, stored_scopes, unsupported, denied_new, denied_old, no_room, pair_in, putting, allowance, judged_taken, judgement_of, IsJudged}
+use Rattle.directory_judge.specs.Making.{Content, Stores, Withdraws, content, entry_of}
+use Rattle.directory_judge.specs.Judging.{Grounds, Judgement, Accepts, Ignores, Waits, Denies, names_nothing, judged_within, judged_from, judgement_to, entries_in, first_of, is_kept, concerned, judged_concerned, judged_stored, release, withdrawing, by_step, by_rule, denial_of, denied_new, denied_old, no_room, pair_in, putting, allowance, judged_taken, IsJudged}
 use Rattle.directory_judge.specs.declared.because.Because.{Because}
 use Rattle.directory_judge.specs.declared.because.Decider.TheVariants as decider
 use Rattle.directory_judge.specs.declared.change.Change.{Change}
 use Rattle.directory_judge.specs.declared.judged.Judged.{Judged}
 use Rattle.directory_judge.specs.declared.judged.Judged.TheVariants as judged
-use Rattle.directory_judge.specs.declared.taken.Taken.{Taken}
+use Rattle.directory_judge.specs.declared.naming.Taken.{Taken}
 
 pub IfOk-more : {T E : Type 0} (r : Result T E) (P Q : T → Type 0) → ((x : T) → P x → Q x) → IfOk r P → IfOk r Q
 IfOk-more (Ok x) P Q more h = more x h
@@ -32,6 +35,9 @@ IsAccepted now e because j = (c : Change) × (j ≡ judged.Accept c because) × 
 
 pub IsAccepted-made : (now : ℕ) (e : Entry) (b a : Because) (c : Change) → b ≡ a → content c ≡ Stores now e → IsAccepted now e a (judged.Accept c b)
 IsAccepted-made now e b a c same holds = (c, ap (judged.Accept c) same, holds)
+
+pub IsReleased-made : (x : Content) (b a : Because) (c : Change) → b ≡ a → content c ≡ x → (d : Change) × (judged.Accept c b ≡ judged.Accept d a) × (content d ≡ x)
+IsReleased-made x b a c same holds = (c, ap (judged.Accept c) same, holds)
 
 pub IsJudged-accepted : (live : Entries) (now : ℕ) (e : Entry) (b : Because) (j : Judged) (p : Putting) (d : Judgement) → IsAccepted now e b j → entry_of now p ≡ e → d ≡ Accepts (record { moment = now; act = Put p }) b → IsJudged live j d
 IsJudged-accepted live now e b j p d h same is = subst (λ x. IsJudged live x d) (sym h.1) (record { moment = now; act = Put p }, is, h.2 ∙ ap (Stores now) (sym same))
@@ -71,104 +77,73 @@ IsJudgedBy g e j =
 
 -- ---- what is registered
 
-pub stored-single : (site : Place) (t : Taken) (k : List ℕ) (b : Bool) → t.scopes ≡ k ∷ [] → option_map_or (supports site) (slice_get t.scopes 0) false ≡ b → stored_scopes site t ≡ cond b t.scopes []
-stored-single site t k b one is =
-    let at : supports site k ≡ b = ap (λ ss. option_map_or (supports site) (slice_get ss 0) false) (sym one) ∙ is in
-    ap (filter (supports site)) one ∙ ap (λ x. cond x (k ∷ []) []) at ∙ ap (λ ss. cond b ss []) (sym one)
+module _ (g : Grounds) (h : Header) (r : Registration) (t : Taken) where
+  accepts : Judgement
+  accepts = Accepts (record { moment = g.now; act = Put (putting g h r t) }) (allowance g t)
 
-some_chosen : {A : Type 0} (b : Bool) (x : A) → is_some (cond b (Some x) None) ≡ true → cond b (Some x) None ≡ Some x
-some_chosen true x h = refl
-some_chosen false x h = cc
+  -- what is judged by the pair
+  by_pair : Option Judgement
+  by_pair = option_or (denied_old g (fin.get g.live (pair_in h r))) (no_room g (pair_in h r) t)
 
-none_chosen : {A : Type 0} (b : Bool) (x : A) → is_some (cond b (Some x) None) ≡ false → cond b (Some x) None ≡ None
-none_chosen true x h = cc
-none_chosen false x h = refl
+  judged-allowed : (length t.scopes == 0) ≡ false → denial_of g.rules g.asker Register t.kind t.scopes ≡ None → judged_taken g h r t ≡ unwrap_or by_pair accepts
+  unfolding by_pair accepts
+  judged-allowed some allowed =
+      ap (λ b. unwrap_or (option_or (cond b (Some (Denies 4 (by_step decider.Scope (Some t.kind)))) None) (option_or (denied_new g t) by_pair)) accepts) some
+      ∙ ap (λ d. unwrap_or (option_or (option_map (Denies 4) d) by_pair) accepts) allowed
 
-is_invalid : Header → Registration → Bool
-is_invalid h r = length h.language == 0 || r.entry.lifetime == 0 || is_err (url_of r.entry.url)
+  -- what the steps come to that look at an entry's pair
+  pub IsJudged-entry : (e : Entry) (j : Judged) → (length t.scopes == 0) ≡ false → denial_of g.rules g.asker Register t.kind t.scopes ≡ None → pair_of e ≡ pair_in h r → e.kind ≡ t.kind → e.scopes ≡ t.scopes → e.deadline ≡ g.now + r.entry.lifetime
+      → IsJudgedBy g e j → IsJudged g.live j (judged_taken g h r t)
+  unfolding by_pair accepts
+  IsJudged-entry e j some allowed pair kind scopes deadline by =
+      let same : entry_of g.now (putting g h r t) ≡ e = λ i. record {
+        url = (sym pair i).0;
+        language = (sym pair i).1;
+        kind = sym kind i;
+        scopes = sym scopes i;
+        deadline = sym deadline i;
+      } in
+      let at : IsJudgedBy g (entry_of g.now (putting g h r t)) j = subst (λ x. IsJudgedBy g x j) (sym same) by in
+      subst (IsJudged g.live j) (sym (judged-allowed some allowed)) (at (putting g h r t) refl)
 
-invalid-some : (h : Header) (r : Registration) → is_some (invalid h r) ≡ true → invalid h r ≡ Some (Denies 3 (by_step decider.Registration None))
-unfolding is_invalid
-invalid-some h r is = some_chosen (is_invalid h r) (Denies 3 (by_step decider.Registration None)) is
+-- ---- a withdrawal
 
-invalid-none : (h : Header) (r : Registration) → is_some (invalid h r) ≡ false → invalid h r ≡ None
-unfolding is_invalid
-invalid-none h r is = none_chosen (is_invalid h r) (Denies 3 (by_step decider.Registration None)) is
+module _ (g : Grounds) (url : List ℕ) (scopes : List (List ℕ)) where
+  pub judged-nothing : list_any (is_of_url url) (entries_in g.live) ≡ false → judged_stored g url scopes ≡ Ignores
+  judged-nothing none = ap (λ b. cond b (judged_concerned g url scopes (first_of (concerned g url scopes)) (first_of (filter (is_kept g.rules g.asker) (concerned g url scopes)))) Ignores) none
 
-module _ (g : Grounds) (h : Header) (r : Registration) where
-  pub judged-ignored : taken h r ≡ None → judgement_of g h r ≡ Ignores
-  judged-ignored is = ap (λ o. option_map_or (judged_taken g h r) o Ignores) is
+  module _ (some : list_any (is_of_url url) (entries_in g.live) ≡ true) (first kept : Option Entry) (first_is : first_of (concerned g url scopes) ≡ first) (kept_is : first_of (filter (is_kept g.rules g.asker) (concerned g url scopes)) ≡ kept) where
+    pub judged-some : judged_stored g url scopes ≡ judged_concerned g url scopes first kept
+    judged-some =
+        ap (λ b. cond b (judged_concerned g url scopes (first_of (concerned g url scopes)) (first_of (filter (is_kept g.rules g.asker) (concerned g url scopes)))) Ignores) some
+        ∙ ap₂ (judged_concerned g url scopes) first_is kept_is
 
-  module _ (t : Taken) (is : taken h r ≡ Some t) where
-    accepts : Judgement
-    accepts = Accepts (record { moment = g.now; act = Put (putting g h r t) }) (allowance g t)
+pub judged-kept : (g : Grounds) (url : List ℕ) (scopes : List (List ℕ)) (first kept : Entry) (b : Because) → denial_of g.rules g.asker Withdraw kept.kind kept.scopes ≡ Some b
+    → judged_concerned g url scopes (Some first) (Some kept) ≡ Denies 4 b
+judged-kept g url scopes first kept b denied = ap (λ d. unwrap_or (option_map (Denies 4) d) (Accepts (withdrawing g url scopes) (release g first))) denied
 
-    -- what is judged by the pair
-    by_pair : Option Judgement
-    by_pair = option_or (denied_old g (fin.get g.live (pair_in h r))) (no_room g (pair_in h r) t)
+pub judged-released : (g : Grounds) (url : List ℕ) (scopes : List (List ℕ)) (first kept : Entry) → denial_of g.rules g.asker Withdraw kept.kind kept.scopes ≡ None
+    → judged_concerned g url scopes (Some first) (Some kept) ≡ Accepts (withdrawing g url scopes) (release g first)
+judged-released g url scopes first kept allowed = ap (λ d. unwrap_or (option_map (Denies 4) d) (Accepts (withdrawing g url scopes) (release g first))) allowed
 
-    after_taken : Option Judgement → Judgement
-    after_taken o = unwrap_or (option_or o (option_or (unsupported g t) (option_or (denied_new g t) by_pair))) accepts
+-- a change that withdraws was accepted
+abbrev pub IsReleased : ℕ → List ℕ → List (List ℕ) → Because → Judged → Type 0
+IsReleased now url scopes because j = (c : Change) × (j ≡ judged.Accept c because) × (content c ≡ Withdraws now (record { url = url; scopes = scopes }))
 
-    judged-taken : judgement_of g h r ≡ after_taken (invalid h r)
-    unfolding after_taken by_pair accepts
-    judged-taken = ap (λ o. option_map_or (judged_taken g h r) o Ignores) is
+pub IsJudged-released : (g : Grounds) (url : List ℕ) (scopes : List (List ℕ)) (first : Entry) (j : Judged) (d : Judgement) → d ≡ Accepts (withdrawing g url scopes) (release g first)
+    → IsReleased g.now url scopes (release g first) j → IsJudged g.live j d
+IsJudged-released g url scopes first j d is h = subst (λ x. IsJudged g.live x d) (sym h.1) (withdrawing g url scopes, is, h.2)
 
-    after_fault : (d : Judgement) → after_taken (Some d) ≡ d
-    unfolding after_taken
-    after_fault d = refl
+within-some : (g : Grounds) (url : List ℕ) (scopes : List (List ℕ)) → scopes ≢ [] → judged_within g url scopes ≡ judged_stored g url scopes
+within-some g url [] some = absurd (some refl)
+within-some g url (s ∷ ss) some = refl
 
-    pub judged-invalid : is_some (invalid h r) ≡ true → judgement_of g h r ≡ Denies 3 (by_step decider.Registration None)
-    judged-invalid fault = judged-taken ∙ ap after_taken (invalid-some h r fault) ∙ after_fault _
+or_false : (a b : Bool) → a ≡ false → b ≡ true → (a || not b) ≡ false
+or_false a b x y = ap₂ (λ p q. p || not q) x y
 
-    after_scopes : List (List ℕ) → Judgement
-    after_scopes ss =
-        unwrap_or
-        (option_or (cond (length ss == 0) (Some (Denies 4 (by_step decider.Scope (Some t.kind)))) None)
-        (option_or (option_map (Denies 4) (denial_of g.rules g.asker Register t.kind ss)) by_pair))
-        accepts
-
-    after_valid : after_taken None ≡ after_scopes (stored_scopes g.site t)
-    unfolding after_taken after_scopes
-    after_valid = refl
-
-    module _ (valid : is_some (invalid h r) ≡ false) where
-      judged-valid : judgement_of g h r ≡ after_scopes (stored_scopes g.site t)
-      judged-valid = judged-taken ∙ ap after_taken (invalid-none h r valid) ∙ after_valid
-
-      pub judged-unsupported : stored_scopes g.site t ≡ [] → judgement_of g h r ≡ Denies 4 (by_step decider.Scope (Some t.kind))
-      unfolding after_scopes
-      judged-unsupported none = judged-valid ∙ ap after_scopes none
-
-      module _ (k : List ℕ) (single : t.scopes ≡ k ∷ []) (stored : stored_scopes g.site t ≡ t.scopes) where
-        after_denied : Option Because → Judgement
-        after_denied d = unwrap_or (option_or (option_map (Denies 4) d) by_pair) accepts
-
-        judged-supported : judgement_of g h r ≡ after_denied (denial_of g.rules g.asker Register t.kind t.scopes)
-        unfolding after_scopes after_denied
-        judged-supported =
-            judged-valid ∙ ap after_scopes (stored ∙ single)
-            ∙ ap (λ ss. unwrap_or (option_or (option_map (Denies 4) (denial_of g.rules g.asker Register t.kind ss)) by_pair) accepts) (sym single)
-
-        pub judged-denied_new : (b : Because) → denial_of g.rules g.asker Register t.kind t.scopes ≡ Some b → judgement_of g h r ≡ Denies 4 b
-        unfolding after_denied
-        judged-denied_new b denied = judged-supported ∙ ap after_denied denied
-
-        judged-allowed : denial_of g.rules g.asker Register t.kind t.scopes ≡ None → judgement_of g h r ≡ unwrap_or by_pair accepts
-        unfolding after_denied
-        judged-allowed allowed = judged-supported ∙ ap after_denied allowed
-
-        -- what the steps come to that look at an entry's pair
-        pub IsJudged-entry : (e : Entry) (j : Judged) → denial_of g.rules g.asker Register t.kind t.scopes ≡ None → pair_of e ≡ pair_in h r → e.kind ≡ t.kind → e.scopes ≡ t.scopes → e.deadline ≡ g.now + r.entry.lifetime
-            → IsJudgedBy g e j → IsJudged g.live j (judgement_of g h r)
-        unfolding by_pair accepts
-        IsJudged-entry e j allowed pair kind scopes deadline by =
-            let same : entry_of g.now (putting g h r t) ≡ e = λ i. record {
-              url = (sym pair i).0;
-              language = (sym pair i).1;
-              kind = sym kind i;
-              scopes = (stored ∙ sym scopes) i;
-              deadline = sym deadline i;
-            } in
-            let at : IsJudgedBy g (entry_of g.now (putting g h r t)) j = subst (λ x. IsJudgedBy g x j) (sym same) by in
-            subst (IsJudged g.live j) (sym (judged-allowed allowed)) (at (putting g h r t) refl)
+pub judged-asked : (g : Grounds) (h : Header) (w : Withdrawal) (url : List ℕ) (asked scopes : List (List ℕ)) → h.flags.multicast ≡ false → names_nothing w.tags ≡ true
+    → result_ok (url_of w.entry.url) ≡ Some url → result_ok (scopes_of w.scopes) ≡ Some asked → scopes ≡ common_of g.site.scopes asked → scopes ≢ []
+    → judgement_to g h w ≡ judged_stored g url scopes
+judged-asked g h w url asked scopes one no_tag url_is scopes_is common some =
+    ap (λ b. cond b Waits (judged_from g (result_ok (url_of w.entry.url)) (result_ok (scopes_of w.scopes)))) (or_false h.flags.multicast (names_nothing w.tags) one no_tag)
+    ∙ ap₂ (judged_from g) url_is scopes_is ∙ ap (judged_within g url) (sym common) ∙ within-some g url scopes some

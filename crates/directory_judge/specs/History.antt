@@ -2,7 +2,8 @@
 use Rattle.std.specs.Prelude.{ℕ, max, List, [], ◌∷◌, Option, None}
 use Rattle.std.specs.Option.{option_or}
 use Rattle.access_rules.specs.declared.rule.Rule.{Rule}
-use Rattle.directory_judge.specs.Attributes.{Attributes, Part}
+use Rattle.slp_text.specs.Tags.{Part}
+use Rattle.directory_judge.specs.Attributes.{Attributes}
 
 -- a registration
 pub record Putting : Type 0 where

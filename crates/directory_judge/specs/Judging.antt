@@ -1,30 +1,34 @@
--- How a registration is judged: the first step whose fault is there, else it is accepted (RFC 2608, sections 7 and 9.3).
-use Rattle.std.specs.Prelude.{◌≡◌, ℕ, Bool, is_err, true, false, not, ◌==◌, ◌&&◌, ◌||◌, List, [], ◌∷◌, filter, find, length, codes, slice_get, Option, Some, None, is_some, is_none, nat_le, unwrap_or, IsTrue, Result, Ok, Err, if◌then◌else◌}
-use Rattle.std.specs.Option.{option_or, option_map, option_map_or, option_and_then}
-use Rattle.std.specs.List.{list_any}
+-- How registrations and withdrawals are judged: the first step whose fault is there, else they are accepted (RFC 2608, sections 7, 9.3 and 10.6).
+use Rattle.std.specs.Prelude.{◌≡◌, ℕ, ◌≤◌, Bool, true, false, not, ◌==◌, ◌&&◌, ◌||◌, List, [], ◌∷◌, map, filter, find, length, codes, slice_get, Option, Some, None, is_none, nat_le, unwrap_or, Result, Ok, Err, if◌then◌else◌}
+use Rattle.std.specs.Option.{option_or, option_map, option_map_or}
+use Rattle.std.specs.List.{list_any, list_all}
+use Rattle.std.specs.Ordering.{match_ordering}
+use Rattle.std.specs.Result.{result_ok}
 use Rattle.std.specs.FinMap as fin
-use Rattle.slp_text.specs.Key.{key_of}
-use Rattle.slp_text.specs.Scopes.{scopes_of}
-use Rattle.slp_text.specs.Words.{bytes_eq, is_blank}
+use Rattle.slp_text.specs.Key.{key_of, is_white}
+use Rattle.slp_text.specs.Scopes.{scopes_of, common_of}
+use Rattle.slp_text.specs.Words.{bytes_eq, bytes_cmp, is_blank}
 use Rattle.slp_text.specs.declared.faults.TextFault.{TextFault}
 use Rattle.slp_wire.specs.declared.header.Header.{Header}
 use Rattle.slp_wire.specs.declared.message.Message.{Message}
 use Rattle.slp_wire.specs.declared.message.Message.TheVariants as message
 use Rattle.slp_wire.specs.declared.message.Registration.{Registration}
+use Rattle.slp_wire.specs.declared.message.Withdrawal.{Withdrawal}
 use Rattle.service_url.specs.Types.{type_of}
 use Rattle.service_url.specs.Urls.{url_of}
-use Rattle.service_url.specs.declared.fault.UrlFault.{UrlFault}
 use Rattle.access_rules.specs.Deciding.{deciding}
 use Rattle.access_rules.specs.declared.rule.Action.{Action}
-use Rattle.access_rules.specs.declared.rule.Action.TheVariants.{Register}
+use Rattle.access_rules.specs.declared.rule.Action.TheVariants.{Register, Withdraw}
 use Rattle.access_rules.specs.declared.rule.Rule.{Rule as AnyRule}
 use Rattle.access_rules.specs.declared.rules.Verdict.{Verdict}
 use Rattle.registry_core.specs.declared.entry.Entry.{Entry}
-use Rattle.registry_core.specs.Entries.{Entries, Pair}
-use Rattle.directory_judge.specs.History.{Putting, Put, Event}
+use Rattle.registry_core.specs.Entries.{Entries, Pair, is_of_url, is_registered}
+use Rattle.directory_judge.specs.History.{Putting, Put, Withdraw as EndOf, Event}
 use Rattle.directory_judge.specs.Making.{content, content_on}
 use Rattle.directory_judge.specs.Sites.{Place}
-use Rattle.directory_judge.specs.declared.taken.Taken.{Taken}
+use Rattle.directory_judge.specs.declared.naming.Taken.{Taken}
+use Rattle.directory_judge.specs.declared.naming.Named.{Named}
+use Rattle.directory_judge.specs.declared.naming.Named.TheVariants as found
 use Rattle.directory_judge.specs.declared.because.Because.{Because}
 use Rattle.directory_judge.specs.declared.because.Decider.{Decider}
 use Rattle.directory_judge.specs.declared.because.Decider.TheVariants as decider
@@ -44,8 +48,10 @@ pub record Grounds : Type 0 where
 pub data Judgement : Type 0 where
   -- the change that it makes
   Accepts : Event → Because → Judgement
-  -- no change
+  -- no change, and nobody had to decide
   Ignores : Judgement
+  -- nothing comes of it yet
+  Waits : Judgement
   -- an error code
   Denies : ℕ → Because → Judgement
 
@@ -72,47 +78,73 @@ denial_of rules asker action kind scopes = option_map (by_rule rules asker actio
 abbrev pub denial_in : Grounds → Action → List ℕ → List (List ℕ) → Option Judgement
 denial_in g action kind scopes = option_map (Denies 4) (denial_of g.rules g.asker action kind scopes)
 
--- ---- which registrations are taken so far
+-- ---- what is not judged yet
 
 -- `service:directory-agent`, which no one registers
 abbrev pub agent_type : List ℕ
 agent_type = codes "service:directory-agent"
 
-abbrev pub taken_as : Result (List ℕ) UrlFault → Result (List (List ℕ)) TextFault → Option Taken
-taken_as (Ok kind) (Ok scopes) = if bytes_eq kind agent_type then None else Some (record { kind = kind; scopes = scopes })
-taken_as (Ok kind) (Err e) = None
-taken_as (Err e) scopes = None
+abbrev pub is_agent : Option (List ℕ) → Bool
+is_agent (Some kind) = bytes_eq kind agent_type
+is_agent None = false
 
--- A new registration without attributes, of a type and in scopes that are read. Of any other nothing comes yet.
-abbrev pub taken : Header → Registration → Option Taken
-taken h r =
-    if h.flags.fresh && not h.flags.multicast && is_blank r.attributes then taken_as (type_of r.kind) (scopes_of r.scopes) else None
+-- Registrations of which nothing comes yet: updates, those with attributes, those sent to many, and those of a directory agent.
+abbrev pub is_ignored : Header → Registration → Bool
+is_ignored h r = not h.flags.fresh || h.flags.multicast || not (is_blank r.attributes) || is_agent (result_ok (type_of r.kind))
 
--- ---- the steps, each with the judgement where its fault is there
+-- nothing but white space and commas
+abbrev pub names_nothing : List ℕ → Bool
+names_nothing text = list_all (λ b. is_white b || b == 44) text
+
+-- withdrawals of which nothing comes yet: those of tags, and those sent to many
+abbrev pub is_unjudged : Header → Withdrawal → Bool
+is_unjudged h w = h.flags.multicast || not (names_nothing w.tags)
+
+-- ---- what a registration names
+
+-- a denial by a step that knows of no type
+abbrev pub denied_by : ℕ → Decider → Judgement
+denied_by code d = Denies code (by_step d None)
+
+-- the type, and those of the scopes that the site supports; or the first fault, where something is not read
+abbrev pub named_as : Place → Option (List ℕ) → Option (List ℕ) → Option (List (List ℕ)) → Result Taken Judgement
+named_as site (Some kind) (Some url) (Some scopes) = Ok (record { kind = kind; scopes = common_of site.scopes scopes })
+named_as site (Some kind) (Some url) None = Err (denied_by 2 decider.Parse)
+named_as site (Some kind) None scopes = Err (denied_by 3 decider.Registration)
+named_as site None url scopes = Err (denied_by 3 decider.Registration)
+
+-- a registration has a language and a lifetime first of all
+abbrev pub named : Place → Header → Registration → Result Taken Judgement
+named site h r =
+    if length h.language == 0 || r.entry.lifetime == 0 then Err (denied_by 3 decider.Registration)
+    else named_as site (result_ok (type_of r.kind)) (result_ok (url_of r.entry.url)) (result_ok (scopes_of r.scopes))
+
+-- what the code finds of it
+abbrev pub named_in : Named → Result Taken Judgement
+named_in (found.Taken url taken) = Ok taken
+named_in (found.Denied code d) = Err (denied_by code d)
+
+-- the URL that is found is the one that is named, and the scopes are no more than a site has
+abbrev pub IsNamedAt : List ℕ → Named → Type 0
+IsNamedAt named (found.Taken url taken) = (url ≡ named) × (length taken.scopes ≤ 16)
+IsNamedAt named (found.Denied code d) = Unit {0}
+
+-- ---- the further steps of a registration, each with the judgement where its fault is there
 
 -- the pair of URL and language that a registration is of
 abbrev pub pair_in : Header → Registration → Pair
 pair_in h r = (r.entry.url, key_of h.language)
 
--- no language, no lifetime, or no URL
-abbrev pub invalid : Header → Registration → Option Judgement
-invalid h r =
-    if length h.language == 0 || r.entry.lifetime == 0 || is_err (url_of r.entry.url) then Some (Denies 3 (by_step decider.Registration None)) else None
-
 abbrev pub supports : Place → List ℕ → Bool
 supports site scope = list_any (λ s. bytes_eq s scope) site.scopes
 
--- the scopes that are stored: the supported ones among those named
-abbrev pub stored_scopes : Place → Taken → List (List ℕ)
-stored_scopes site t = filter (supports site) t.scopes
-
 -- none of the scopes is supported
-abbrev pub unsupported : Grounds → Taken → Option Judgement
-unsupported g t = if length (stored_scopes g.site t) == 0 then Some (Denies 4 (by_step decider.Scope (Some t.kind))) else None
+abbrev pub unsupported : Taken → Option Judgement
+unsupported t = if length t.scopes == 0 then Some (Denies 4 (by_step decider.Scope (Some t.kind))) else None
 
 -- its type may not be registered in some scope
 abbrev pub denied_new : Grounds → Taken → Option Judgement
-denied_new g t = denial_in g Register t.kind (stored_scopes g.site t)
+denied_new g t = denial_in g Register t.kind t.scopes
 
 -- nor may what it would replace
 abbrev pub denied_old : Grounds → Option Entry → Option Judgement
@@ -125,24 +157,90 @@ no_room g q t = if is_none (fin.get g.live q) && (nat_le g.site.capacity (fin.le
 
 -- the registration that is made
 abbrev pub putting : Grounds → Header → Registration → Taken → Putting
-putting g h r t = record { url = r.entry.url; language = key_of h.language; kind = t.kind; scopes = stored_scopes g.site t; attributes = fin.empty; lifetime = r.entry.lifetime }
+putting g h r t = record { url = r.entry.url; language = key_of h.language; kind = t.kind; scopes = t.scopes; attributes = fin.empty; lifetime = r.entry.lifetime }
 
 -- what decided on the first stored scope
 abbrev pub allowance : Grounds → Taken → Because
-allowance g t = by_rule g.rules g.asker Register t.kind (unwrap_or (slice_get (stored_scopes g.site t) 0) [])
+allowance g t = by_rule g.rules g.asker Register t.kind (unwrap_or (slice_get t.scopes 0) [])
 
 abbrev pub judged_taken : Grounds → Header → Registration → Taken → Judgement
 judged_taken g h r t =
     unwrap_or
-    (option_or (invalid h r)
-    (option_or (unsupported g t)
+    (option_or (unsupported t)
     (option_or (denied_new g t)
     (option_or (denied_old g (fin.get g.live (pair_in h r)))
-    (no_room g (pair_in h r) t)))))
+    (no_room g (pair_in h r) t))))
     (Accepts (record { moment = g.now; act = Put (putting g h r t) }) (allowance g t))
 
+abbrev pub judged_named : Grounds → Header → Registration → Result Taken Judgement → Judgement
+judged_named g h r (Ok t) = judged_taken g h r t
+judged_named g h r (Err j) = j
+
 abbrev pub judgement_of : Grounds → Header → Registration → Judgement
-judgement_of g h r = option_map_or (judged_taken g h r) (taken h r) Ignores
+judgement_of g h r = if is_ignored h r then Waits else judged_named g h r (named g.site h r)
+
+-- ---- withdrawals
+
+abbrev pub entries_in : Entries → List Entry
+entries_in m = map (λ p. p.1) (fin.entries m)
+
+-- the one whose language comes first, of what was first so far and an entry
+abbrev pub earlier : Option Entry → Entry → Entry
+earlier None e = e
+earlier (Some f) e = match_ordering (bytes_cmp e.language f.language) e f f
+
+abbrev pub first_from : Option Entry → List Entry → Option Entry
+first_from o [] = o
+first_from o (e ∷ es) = first_from (Some (earlier o e)) es
+
+-- the entry whose language comes first
+abbrev pub first_of : List Entry → Option Entry
+first_of = first_from None
+
+-- some scope of it is one in which its type may not be withdrawn
+abbrev pub is_kept : List AnyRule → ℕ → Entry → Bool
+is_kept rules asker e = list_any (is_denied rules asker Withdraw e.kind) e.scopes
+
+-- who denies an entry's withdrawal in the first of its scopes in which there is a denial
+abbrev pub keeps : Grounds → Option Entry → Option Judgement
+keeps g None = None
+keeps g (Some e) = denial_in g Withdraw e.kind e.scopes
+
+-- what decided on an entry's first scope
+abbrev pub release : Grounds → Entry → Because
+release g e = by_rule g.rules g.asker Withdraw e.kind (unwrap_or (slice_get e.scopes 0) [])
+
+abbrev pub withdrawing : Grounds → List ℕ → List (List ℕ) → Event
+withdrawing g url scopes = record { moment = g.now; act = EndOf (record { url = url; scopes = scopes }) }
+
+-- Where no entry is concerned the scopes are other ones. The first denial is that of the entry whose language comes first among those that may not
+-- be withdrawn.
+abbrev pub judged_concerned : Grounds → List ℕ → List (List ℕ) → Option Entry → Option Entry → Judgement
+judged_concerned g url scopes None kept = denied_by 4 decider.Scope
+judged_concerned g url scopes (Some first) kept = unwrap_or (keeps g kept) (Accepts (withdrawing g url scopes) (release g first))
+
+-- the entries concerned: those of the URL in just these scopes
+abbrev pub concerned : Grounds → List ℕ → List (List ℕ) → List Entry
+concerned g url scopes = filter (is_registered url scopes) (entries_in g.live)
+
+-- where nothing of the URL is live, nothing is changed
+abbrev pub judged_stored : Grounds → List ℕ → List (List ℕ) → Judgement
+judged_stored g url scopes =
+    if list_any (is_of_url url) (entries_in g.live)
+    then judged_concerned g url scopes (first_of (concerned g url scopes)) (first_of (filter (is_kept g.rules g.asker) (concerned g url scopes)))
+    else Ignores
+
+abbrev pub judged_within : Grounds → List ℕ → List (List ℕ) → Judgement
+judged_within g url [] = denied_by 4 decider.Scope
+judged_within g url (s ∷ ss) = judged_stored g url (s ∷ ss)
+
+abbrev pub judged_from : Grounds → Option (List ℕ) → Option (List (List ℕ)) → Judgement
+judged_from g (Some url) (Some scopes) = judged_within g url (common_of g.site.scopes scopes)
+judged_from g (Some url) None = denied_by 2 decider.Parse
+judged_from g None scopes = denied_by 2 decider.Parse
+
+abbrev pub judgement_to : Grounds → Header → Withdrawal → Judgement
+judgement_to g h w = if is_unjudged h w then Waits else judged_from g (result_ok (url_of w.entry.url)) (result_ok (scopes_of w.scopes))
 
 -- ---- messages that may change something
 
@@ -159,27 +257,22 @@ IsChange (message.TypeRequest h q) = ⊥
 IsChange (message.TypeReply h r) = ⊥
 IsChange (message.ServiceAdvert h a) = ⊥
 
--- of a withdrawal nothing comes yet
 abbrev pub judgement : Grounds → Message → Judgement
 judgement g (message.Registration h r) = judgement_of g h r
-judgement g (message.ServiceRequest h q) = Ignores
-judgement g (message.ServiceReply h r) = Ignores
-judgement g (message.Acknowledgement h code) = Ignores
-judgement g (message.Withdrawal h w) = Ignores
-judgement g (message.AttributeRequest h q) = Ignores
-judgement g (message.AttributeReply h r) = Ignores
-judgement g (message.DirectoryAdvert h a) = Ignores
-judgement g (message.TypeRequest h q) = Ignores
-judgement g (message.TypeReply h r) = Ignores
-judgement g (message.ServiceAdvert h a) = Ignores
-
--- a registry is one of the site: it has the site's capacity, and each entry stands in a scope of the site
-pub record IsRegistryOf (site : Place) (entries : Entries) (limit : ℕ) : Type 0 where
-  pub capacity : limit ≡ site.capacity
-  pub supported : (q : Pair) (e : Entry) → fin.get entries q ≡ Some e → IsTrue (list_any (supports site) e.scopes)
+judgement g (message.ServiceRequest h q) = Waits
+judgement g (message.ServiceReply h r) = Waits
+judgement g (message.Acknowledgement h code) = Waits
+judgement g (message.Withdrawal h w) = judgement_to g h w
+judgement g (message.AttributeRequest h q) = Waits
+judgement g (message.AttributeReply h r) = Waits
+judgement g (message.DirectoryAdvert h a) = Waits
+judgement g (message.TypeRequest h q) = Waits
+judgement g (message.TypeReply h r) = Waits
+judgement g (message.ServiceAdvert h a) = Waits
 
 -- what was answered is the judgement, with a change that holds what the event asks for
 abbrev pub IsJudged : Entries → Judged → Judgement → Type 0
 IsJudged live (judged.Accept c because) j = (event : Event) × (j ≡ Accepts event because) × (content c ≡ content_on live event)
 IsJudged live judged.Nothing j = j ≡ Ignores
+IsJudged live judged.Unjudged j = j ≡ Waits
 IsJudged live (judged.Deny code because) j = j ≡ Denies code because

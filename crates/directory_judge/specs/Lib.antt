@@ -4,3 +4,4 @@ pub mod Judging
 pub mod Making
 pub mod Meaning
 pub mod Sites
+pub mod Walking

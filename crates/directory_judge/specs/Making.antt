@@ -1,17 +1,13 @@
 -- What a change holds.
-use Rattle.std.specs.Prelude.{ℕ, ◌+◌, Bool, is_some, List, Option, Some, None}
+use Rattle.std.specs.Prelude.{ℕ, ◌+◌, List, Option, Some, None}
 use Rattle.std.specs.Arc.{arc_value}
 use Rattle.std.specs.FinMap as fin
 use Rattle.access_rules.specs.declared.rule.Rule.{Rule}
 use Rattle.registry_core.specs.declared.entry.Entry.{Entry}
-use Rattle.registry_core.specs.Entries.{Entries, kept}
-use Rattle.directory_judge.specs.History.{Putting, Setting, Withdrawing, Act, Put, Set, Remove, Withdraw, Sweep, Reload, Event}
+use Rattle.registry_core.specs.Entries.{Entries}
+use Rattle.directory_judge.specs.History.{Putting, Withdrawing, Put, Set, Remove, Withdraw, Sweep, Reload, Event}
 use Rattle.directory_judge.specs.declared.change.Change.{Change}
 use Rattle.directory_judge.specs.declared.change.Change.TheVariants as change
-
--- the entries that pass the test
-abbrev pub passing : (Entry → Bool) → Entries → Entries
-passing p m = fin.retain_keys m (λ q. is_some (kept p (fin.get m q)))
 
 -- what a change holds, wherever it lies in memory
 pub data Content : Type 0 where
@@ -23,6 +19,7 @@ pub data Content : Type 0 where
 
 abbrev pub content : Change → Content
 content (change.Put placed) = Stores placed.moment (arc_value placed.entry)
+content (change.Withdraw moment w) = Withdraws moment (record { url = (arc_value w).url; scopes = (arc_value w).scopes })
 content (change.Sweep moment) = Sweeps moment
 
 -- the entry that a registration founds at a moment

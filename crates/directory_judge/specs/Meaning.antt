@@ -2,12 +2,13 @@
 use Rattle.std.specs.Prelude.{◌≡◌, ℕ, ◌+◌, ◌<◌, Bool, true, false, ◌&&◌, ◌↔◌, if◌then◌else◌, List, [], ◌∷◌, Option, Some, None, is_none, is_some, unwrap_or}
 use Rattle.std.specs.List.{list_any}
 use Rattle.std.specs.FinMap as fin
+use Rattle.slp_text.specs.Tags.{selects}
 use Rattle.slp_text.specs.Words.{bytes_eq, texts_eq}
 use Rattle.access_rules.specs.declared.rule.Rule.{Rule}
 use Rattle.registry_core.specs.declared.entry.Entry.{Entry}
 use Rattle.registry_core.specs.Entries.{Pair, Entries, pair_of, pair_eq}
-use Rattle.directory_judge.specs.Attributes.{Held, selects}
-use Rattle.directory_judge.specs.History.{Putting, Act, Put, Set, Remove, Withdraw, Sweep, Reload, Event, History, now, last_that}
+use Rattle.directory_judge.specs.Attributes.{Held}
+use Rattle.directory_judge.specs.History.{Putting, Put, Set, Remove, Withdraw, Sweep, Reload, Event, History, now, last_that}
 
 abbrev pub only : {A : Type 0} → Bool → Option A → Option A
 only true o = o

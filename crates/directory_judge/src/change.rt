@@ -2,6 +2,8 @@ ghost use Rattle.std.specs.Prelude.{◌<◌, ◌≤◌, length};
 ghost use Rattle.std.specs.Arc.{arc_value};
 
 use registry_core::Entry;
+use service_url::Url;
+use slp_text::ScopeList;
 use std::sync::Arc;
 
 /// An entry that a registration founds, of 1 to 16 scopes, and the moment of that in seconds.
@@ -13,9 +15,17 @@ pub struct Placed {
     ghost few_scopes: { length (arc_value entry).scopes ≤ 16 },
 }
 
+/// What a withdrawal ends: the entries of a URL, in every language, of exactly these scopes.
+#[derive(Debug, Drop)]
+pub struct Withdrawn {
+    pub url: Url,
+    pub scopes: ScopeList,
+}
+
 /// A change of a directory, at its moment in seconds.
 #[derive(Debug, Drop)]
 pub enum Change {
     Put(Placed),
+    Withdraw(u32, Arc<Withdrawn>),
     Sweep(u32),
 }

@@ -7,6 +7,8 @@ pub enum Judged {
     Accept(Change, Because),
     /// Nothing is changed, and nobody had to decide.
     Nothing,
+    /// Messages of this kind are not judged yet.
+    Unjudged,
     /// An error code (RFC 2608, section 7).
     Deny(u16, Because),
 }

@@ -1,72 +1,30 @@
-ghost use Rattle.std.specs.Prelude.{◌≡◌, ◌<◌, ◌≤◌, IfOk, false, [], length, slice_get, unwrap_or};
+ghost use Rattle.std.specs.Prelude.{◌≡◌, ◌<◌, ◌≤◌, IfOk, [], length, slice_get, unwrap_or};
 ghost use Rattle.std.specs.FinMap as fin;
-ghost use Rattle.std.specs.Option.{option_copied, option_map_or, option_or};
+ghost use Rattle.std.specs.Option.{option_copied, option_or};
 ghost use Rattle.slp_text.specs.Key.{key_of};
-ghost use Rattle.access_rules.specs.Deciding.{deciding};
 ghost use Rattle.access_rules.specs.declared.rule.Action.TheVariants.{Register};
-ghost use Rattle.registry_core.specs.Entries.{outlives, kept, pair_of};
+ghost use Rattle.registry_core.specs.Entries.{outlives, kept, passing, pair_of};
 ghost use Rattle.directory_judge.specs.History.{Putting, Put};
-ghost use Rattle.directory_judge.specs.Making.{passing, content, Stores, entry_of};
-ghost use Rattle.directory_judge.specs.Judging.{Grounds, Accepts, by_step, by_rule, denial_of, supports, denied_old, no_room, judgement_of, judgement, IsChange, IsJudged, IsRegistryOf};
+ghost use Rattle.directory_judge.specs.Making.{content, Stores, entry_of};
+ghost use Rattle.directory_judge.specs.Judging.{Grounds, Accepts, by_rule, denied_old, no_room, judged_taken, judgement_of, judgement, IsChange, IsJudged};
 ghost use Rattle.directory_judge.specs.declared.change.Change.{Change};
-ghost use Rattle.directory_judge.specs.declared.taken.Taken.{Taken};
+ghost use Rattle.directory_judge.specs.declared.naming.Taken.{Taken};
 
-use crate::because::{Because, Decider};
+use crate::because::Decider;
 use crate::change::{Change, Placed};
+use crate::denying::{by_verdict, denial, deny};
 use crate::judged::Judged;
+use crate::naming::{Named, Taken, is_agent, name, read_kind};
 use crate::rooms::is_full;
 use crate::site::Site;
-use crate::taken::{Taken, take, valid_url};
-use access_rules::{Action, Addr, Rules, Verdict};
+use crate::withdrawing::judge_withdrawal;
+use access_rules::{Action, Addr, Rules};
 use registry_core::{Entry, Registry};
-use service_url::{ServiceType, Url};
-use slp_text::{Key, NoMemory, ScopeList, key};
+use service_url::Url;
+use slp_text::{Key, NoMemory, is_blank, key};
 use slp_wire::{Header, Message, Registration};
 use std::alloc::Global;
 use std::sync::Arc;
-
-// Why a verdict on a type in a scope is what it is.
-fn by_verdict(
-    alloc: Global,
-    verdict: Verdict,
-    kind: &ServiceType,
-    scope: &Key,
-) -> Result<Because, NoMemory>
-    ensures { (rules : _) (asker : _) (action : _) → verdict ≡ deciding rules asker action kind.now scope.now
-        → IfOk result (λ b. b ≡ by_rule rules asker action kind.now scope.now) }
-{
-    let decider = match verdict.rule {
-        Some(place) => Decider::Rule(place),
-        None => Decider::Default,
-    };
-    Ok(Because {
-        decider,
-        kind: Some(kind.copy(alloc)?),
-        scope: Some(scope.copy(alloc)?),
-    })
-}
-
-/// Who denies an action in the first of these scopes, in key order, in which it is denied.
-pub fn denial(
-    alloc: Global,
-    rules: &Rules,
-    asker: Addr,
-    action: Action,
-    kind: &ServiceType,
-    scopes: &ScopeList,
-) -> Result<Option<Because>, NoMemory>
-    ensures { IfOk result (λ b. b ≡ denial_of rules.now asker action kind.now scopes.now) }
-{
-    for place in 0..scopes.len() {
-        if let Some(scope) = scopes.at(place) {
-            let verdict = rules.decide(asker, action, kind, scope);
-            if !verdict.allow {
-                return Ok(Some(by_verdict(alloc, verdict, kind, scope)?));
-            }
-        }
-    }
-    Ok(None)
-}
 
 // The entry of a pair, where it is live.
 fn live_entry<'a, R: Registry>(
@@ -81,30 +39,6 @@ fn live_entry<'a, R: Registry>(
         Some(entry) if entry.deadline > now => Some(entry),
         _ => None,
     }
-}
-
-// Whether the first scope is supported.
-fn is_supported(site: &Site, scopes: &ScopeList) -> bool
-    ensures { result ≡ option_map_or (supports site.now) (slice_get scopes.now 0) false }
-{
-    match scopes.at(0) {
-        Some(scope) => site.scopes().has(scope),
-        None => false,
-    }
-}
-
-// A denial by a step of judging, of which a type may be known.
-fn deny(code: u16, decider: Decider, kind: Option<ServiceType>) -> Judged
-    ensures { result ≡ Judged.Deny code (by_step decider kind) }
-{
-    Judged::Deny(
-        code,
-        Because {
-            decider,
-            kind,
-            scope: None,
-        },
-    )
 }
 
 fn memory<T, E: Drop>(made: Result<T, E>) -> Result<T, NoMemory>
@@ -153,8 +87,7 @@ fn judge_entry<R: Registry>(
 ) -> Result<Judged, NoMemory>
     requires scoped { 0 < length entry.scopes }
     requires few_scopes { length entry.scopes ≤ 16 }
-    ensures { IsRegistryOf site.now (R.contents registry.now) (R.limit registry.now) →
-        IfOk result (λ j. (p : Putting) → entry_of now p ≡ entry →
+    ensures { IfOk result (λ j. (p : Putting) → entry_of now p ≡ entry →
         let live = passing (outlives now) (R.contents registry.now) in
         let g : Grounds = record { rules = rules.now; site = site.now; live = live; now = now; asker = asker } in
         let t : Taken = record { kind = entry.kind; scopes = entry.scopes } in
@@ -183,8 +116,8 @@ fn judge_entry<R: Registry>(
     accept(alloc, rules, asker, now, entry)
 }
 
-// Judges a registration, step by step.
-fn judge_registration<R: Registry>(
+// Judges what a registration names, of a language and a lifetime.
+fn judge_taken<R: Registry>(
     alloc: Global,
     registry: &R,
     rules: &Rules,
@@ -193,19 +126,16 @@ fn judge_registration<R: Registry>(
     asker: Addr,
     header: &Header,
     registration: &Registration,
+    url: Url,
+    taken: Taken,
 ) -> Result<Judged, NoMemory>
-    ensures { IsRegistryOf site.now (R.contents registry.now) (R.limit registry.now) →
-        IfOk result (λ j. let live = passing (outlives now) (R.contents registry.now) in
-        IsJudged live j (judgement_of (record { rules = rules.now; site = site.now; live = live; now = now; asker = asker }) header.now registration.now)) }
+    requires named { url ≡ registration.now.entry.url }
+    requires few_scopes { length taken.scopes ≤ 16 }
+    ensures { IfOk result (λ j. let live = passing (outlives now) (R.contents registry.now) in
+        IsJudged live j (judged_taken (record { rules = rules.now; site = site.now; live = live; now = now; asker = asker }) header.now registration.now taken)) }
 {
-    let Some(taken) = take(alloc, header, registration)? else {
-        return Ok(Judged::Nothing);
-    };
-    let Some(url) = valid_url(alloc, header, registration)? else {
-        return Ok(deny(3, Decider::Registration, None));
-    };
     let Taken { kind, scopes } = taken;
-    if !is_supported(site, &scopes) {
+    if scopes.is_empty() {
         return Ok(deny(4, Decider::Scope, Some(kind)));
     }
     if let Some(because) = denial(alloc, rules, asker, Action::Register, &kind, &scopes)? {
@@ -223,6 +153,45 @@ fn judge_registration<R: Registry>(
     judge_entry(alloc, registry, rules, site, now, asker, entry)
 }
 
+// Judges a registration, step by step.
+fn judge_registration<R: Registry>(
+    alloc: Global,
+    registry: &R,
+    rules: &Rules,
+    site: &Site,
+    now: u32,
+    asker: Addr,
+    header: &Header,
+    registration: &Registration,
+) -> Result<Judged, NoMemory>
+    ensures { IfOk result (λ j. let live = passing (outlives now) (R.contents registry.now) in
+        IsJudged live j (judgement_of (record { rules = rules.now; site = site.now; live = live; now = now; asker = asker }) header.now registration.now)) }
+{
+    let kind = read_kind(alloc, registration.kind.as_str())?;
+    if !header.flags.fresh
+        || header.flags.multicast
+        || !is_blank(registration.attributes.as_str())
+        || is_agent(kind.as_ref())
+    {
+        return Ok(Judged::Unjudged);
+    }
+    match name(alloc, site, header, registration, kind)? {
+        Named::Denied(code, decider) => Ok(deny(code, decider, None)),
+        Named::Taken(url, taken) => judge_taken(
+            alloc,
+            registry,
+            rules,
+            site,
+            now,
+            asker,
+            header,
+            registration,
+            url,
+            taken,
+        ),
+    }
+}
+
 /// Judges a message that may change something (RFC 2608, sections 8.3 and 9.3): the first step whose
 /// fault is there, else the change is accepted at the moment `now`, in seconds. Nothing is changed.
 pub fn judge_on<R: Registry>(
@@ -235,8 +204,7 @@ pub fn judge_on<R: Registry>(
     message: &Message,
 ) -> Result<Judged, NoMemory>
     requires { IsChange message.now }
-    ensures { IsRegistryOf site.now (R.contents registry.now) (R.limit registry.now) →
-        IfOk result (λ j. let live = passing (outlives now) (R.contents registry.now) in
+    ensures { IfOk result (λ j. let live = passing (outlives now) (R.contents registry.now) in
         IsJudged live j (judgement (record { rules = rules.now; site = site.now; live = live; now = now; asker = asker }) message.now)) }
 {
     match message {
@@ -250,7 +218,9 @@ pub fn judge_on<R: Registry>(
             header,
             registration,
         ),
-        Message::Withdrawal(_, _) => Ok(Judged::Nothing),
+        Message::Withdrawal(header, withdrawal) => judge_withdrawal(
+            alloc, registry, rules, site, now, asker, header, withdrawal,
+        ),
         _ => unreachable!(),
     }
 }

@@ -3,16 +3,18 @@
 
 mod because;
 mod change;
+mod denying;
 mod judged;
 mod judging;
+mod naming;
 mod rooms;
 mod site;
-mod taken;
 #[cfg(test)]
 mod tests;
+mod withdrawing;
 
 pub use because::{Because, Decider};
-pub use change::{Change, Placed};
+pub use change::{Change, Placed, Withdrawn};
 pub use judged::Judged;
 pub use judging::judge_on;
 pub use site::Site;

@@ -1,7 +1,7 @@
 use Rattle.std.proofs.Common.{◌≡◌, drop}
 use Rattle.std.specs.Prelude.{find}
 use Rattle.directory_judge.specs.Judging.{is_denied}
-use Rattle.directory_judge.proofs.judging.denial.Given as goal
+use Rattle.directory_judge.proofs.denying.denial.Given as goal
 
 -- nothing was denied so far
 abbrev pub invariant-loop-place : goal.invariant-loop-place

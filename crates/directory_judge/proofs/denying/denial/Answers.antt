@@ -5,8 +5,8 @@ use Rattle.std.proofs.lemmas.Option.{none-some, slice_get-get_or}
 use Rattle.access_rules.specs.declared.rules.Verdict.{Verdict}
 use Rattle.directory_judge.specs.Judging.{by_rule, is_denied}
 use Rattle.directory_judge.proofs.Denials.{find-drop}
-use Rattle.directory_judge.proofs.judging.denial.Goals as goal
-use Rattle.directory_judge.proofs.judging.denial.Goals.{in-Some+else-not-verdict, in_default}
+use Rattle.directory_judge.proofs.denying.denial.Goals as goal
+use Rattle.directory_judge.proofs.denying.denial.Goals.{in-Some+else-not-verdict, in_default}
 
 pub returns-then-not-verdict : goal.returns-then-not-verdict
 returns-then-not-verdict c =

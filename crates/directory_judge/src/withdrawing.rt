@@ -1,0 +1,198 @@
+ghost use Rattle.std.specs.Prelude.{◌≡◌, ◌<◌, [], length, filter, slice_get, unwrap_or, IfOk};
+ghost use Rattle.std.specs.List.{list_any};
+ghost use Rattle.std.specs.Option.{option_copied};
+ghost use Rattle.access_rules.specs.declared.rule.Action.TheVariants.{Withdraw};
+ghost use Rattle.registry_core.specs.Entries.{outlives, passing, is_of_url, IsListing};
+ghost use Rattle.directory_judge.specs.Making.{content, Withdraws};
+ghost use Rattle.directory_judge.specs.Judging.{Grounds, by_rule, earlier as earlier_of, first_of, is_kept as is_kept_by, judged_stored, judgement_to, IsJudged};
+ghost use Rattle.directory_judge.specs.declared.change.Change.{Change};
+ghost use Rattle.directory_judge.specs.Walking.{is_asked as is_asked_for};
+
+use crate::because::Decider;
+use crate::change::{Change, Withdrawn};
+use crate::denying::{by_verdict, denial, deny};
+use crate::judged::Judged;
+use crate::naming::{names_nothing, read_scopes, read_url};
+use crate::site::Site;
+use access_rules::{Action, Addr, Rules};
+use registry_core::{Entry, Registry};
+use service_url::Url;
+use slp_text::{NoMemory, ScopeList};
+use slp_wire::{Header, Withdrawal};
+use std::alloc::Global;
+use std::cmp::Ordering;
+use std::sync::Arc;
+
+// Whether an entry of the URL is live.
+fn has_live<R: Registry>(registry: &R, url: &Url, now: u64) -> bool
+    ensures value { result ≡ list_any (outlives now) (R.rest_of_url registry.now url.now 0) }
+    ensures listing { IsListing (is_of_url url.now) (R.contents registry.now) (R.rest_of_url registry.now url.now 0) }
+{
+    let mut from = 0;
+    while let Some((entry, next)) = registry.by_url(url, from) {
+        if entry.deadline > now {
+            return true;
+        }
+        from = next;
+    }
+    false
+}
+
+// Whether the asker may not withdraw an entry from some scope of it.
+fn is_kept(rules: &Rules, asker: Addr, entry: &Entry) -> bool
+    ensures { result ≡ is_kept_by rules.now asker entry.now }
+{
+    for place in 0..entry.scopes.len() {
+        if let Some(scope) = entry.scopes.at(place)
+            && !rules
+                .decide(asker, Action::Withdraw, &entry.kind, scope)
+                .allow
+        {
+            return true;
+        }
+    }
+    false
+}
+
+// Whether an entry is live and of just these scopes, and where only those are asked for, may not be
+// withdrawn.
+fn is_asked(
+    rules: &Rules,
+    now: u64,
+    asker: Addr,
+    scopes: &ScopeList,
+    only_kept: bool,
+    entry: &Entry,
+) -> bool
+    ensures { result ≡ is_asked_for rules.now now asker scopes.now only_kept entry.now }
+{
+    entry.deadline > now && entry.scopes == *scopes && (!only_kept || is_kept(rules, asker, entry))
+}
+
+// The one whose language comes first.
+fn earlier<'a>(first: Option<&'a Entry>, entry: &'a Entry) -> &'a Entry
+    ensures { result.now ≡ earlier_of (option_copied first.entry) entry.now }
+{
+    match first {
+        None => entry,
+        Some(first) => match entry.language.cmp(&first.language) {
+            Ordering::Less => entry,
+            _ => first,
+        },
+    }
+}
+
+// The entry whose language comes first, of those of the URL that are asked for.
+fn first<'a, R: Registry>(
+    registry: &'a R,
+    rules: &Rules,
+    now: u64,
+    asker: Addr,
+    url: &Url,
+    scopes: &ScopeList,
+    only_kept: bool,
+) -> Option<&'a Entry>
+    ensures { option_copied result ≡ first_of (filter (is_asked_for rules.now now asker scopes.now only_kept) (R.rest_of_url registry.now url.now 0)) }
+{
+    let mut first = None;
+    let mut from = 0;
+    while let Some((entry, next)) = registry.by_url(url, from) {
+        if is_asked(rules, now, asker, scopes, only_kept, entry) {
+            first = Some(earlier(first, entry));
+        }
+        from = next;
+    }
+    first
+}
+
+// The change of a withdrawal that nothing speaks against, and what allowed it for an entry.
+fn release(
+    alloc: Global,
+    rules: &Rules,
+    now: u32,
+    asker: Addr,
+    entry: &Entry,
+    url: Url,
+    scopes: ScopeList,
+) -> Result<Judged, NoMemory>
+    requires { 0 < length entry.now.scopes }
+    ensures { let because = by_rule rules.now asker Withdraw entry.now.kind (unwrap_or (slice_get entry.now.scopes 0) []) in
+        IfOk result (λ j. (c : Change) × (j ≡ Judged.Accept c because) × (content c ≡ Withdraws now (record { url = url; scopes = scopes }))) }
+{
+    let because = match entry.scopes.at(0) {
+        Some(scope) => {
+            let verdict = rules.decide(asker, Action::Withdraw, &entry.kind, scope);
+            by_verdict(alloc, verdict, &entry.kind, scope)?
+        }
+        None => unreachable!(),
+    };
+    let withdrawn = Arc::new(alloc, Withdrawn { url, scopes })?;
+    Ok(Judged::Accept(Change::Withdraw(now, withdrawn), because))
+}
+
+// Judges a withdrawal by what is live of its URL.
+fn judge_stored<R: Registry>(
+    alloc: Global,
+    registry: &R,
+    rules: &Rules,
+    site: &Site,
+    now: u32,
+    asker: Addr,
+    url: Url,
+    scopes: ScopeList,
+) -> Result<Judged, NoMemory>
+    requires { 0 < length scopes }
+    ensures { IfOk result (λ j. let live = passing (outlives now) (R.contents registry.now) in
+        IsJudged live j (judged_stored (record { rules = rules.now; site = site.now; live = live; now = now; asker = asker }) url scopes)) }
+{
+    let moment = u64::from(now);
+    if !has_live(registry, &url, moment) {
+        return Ok(Judged::Nothing);
+    }
+    let Some(entry) = first(registry, rules, moment, asker, &url, &scopes, false) else {
+        return Ok(deny(4, Decider::Scope, None));
+    };
+    if let Some(kept) = first(registry, rules, moment, asker, &url, &scopes, true)
+        && let Some(because) = denial(
+            alloc,
+            rules,
+            asker,
+            Action::Withdraw,
+            &kept.kind,
+            &kept.scopes,
+        )?
+    {
+        return Ok(Judged::Deny(4, because));
+    }
+    release(alloc, rules, now, asker, entry, url, scopes)
+}
+
+/// Judges a withdrawal, step by step (RFC 2608, section 10.6).
+pub fn judge_withdrawal<R: Registry>(
+    alloc: Global,
+    registry: &R,
+    rules: &Rules,
+    site: &Site,
+    now: u32,
+    asker: Addr,
+    header: &Header,
+    withdrawal: &Withdrawal,
+) -> Result<Judged, NoMemory>
+    ensures { IfOk result (λ j. let live = passing (outlives now) (R.contents registry.now) in
+        IsJudged live j (judgement_to (record { rules = rules.now; site = site.now; live = live; now = now; asker = asker }) header.now withdrawal.now)) }
+{
+    if header.flags.multicast || !names_nothing(withdrawal.tags.as_str()) {
+        return Ok(Judged::Unjudged);
+    }
+    let Some(url) = read_url(alloc, withdrawal.entry.url.as_str())? else {
+        return Ok(deny(2, Decider::Parse, None));
+    };
+    let Some(scopes) = read_scopes(alloc, withdrawal.scopes.as_str())? else {
+        return Ok(deny(2, Decider::Parse, None));
+    };
+    let scopes = site.scopes().common(alloc, &scopes)?;
+    if scopes.is_empty() {
+        return Ok(deny(4, Decider::Scope, None));
+    }
+    judge_stored(alloc, registry, rules, site, now, asker, url, scopes)
+}
