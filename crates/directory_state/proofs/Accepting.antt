@@ -1,28 +1,33 @@
 -- What is known of a change that a message makes.
-use Rattle.std.proofs.Common.{◌≡◌, ℕ, ◌<◌, Bool, true, false, cond, List, [], ◌∷◌, Option, Some, None, length, refl, sym, ap, subst, arith, inl, inr}
-use Rattle.std.specs.Prelude.{◌⊎◌, ◌==◌, ◌&&◌, ◌||◌, is_some, is_none, is_err, nat_le, unwrap_or, IsTrue, filter}
-use Rattle.std.specs.Option.{option_or, option_map, option_map_or}
+use Rattle.std.proofs.Common.{◌≡◌, ℕ, ◌<◌, Bool, true, false, cond, List, [], ◌∷◌, Option, Some, None, Err, length, refl, sym, ap, subst, arith, inl, inr}
+use Rattle.std.specs.Prelude.{◌⊎◌, ◌==◌, ◌&&◌, ◌||◌, filter, is_some, is_none, nat_le, unwrap_or, IsTrue}
 use Rattle.std.specs.List.{list_any}
+use Rattle.std.specs.Option.{option_or, option_map}
+use Rattle.std.specs.Result.{result_ok}
 use Rattle.std.proofs.lemmas.Bool.Decides.{nat_tests}
-use Rattle.std.proofs.lemmas.Option.{none-some, same_Some}
+use Rattle.std.proofs.lemmas.Option.{none-some}
 use Rattle.std.specs.FinMap as fin
-use Rattle.access_rules.specs.declared.rule.Action.TheVariants.{Register}
+use Rattle.access_rules.specs.declared.rule.Action.TheVariants.{Register, Withdraw as Withdrawal-of}
 use Rattle.access_rules.specs.declared.rule.Rule.{Rule}
 use Rattle.registry_core.specs.declared.entry.Entry.{Entry}
-use Rattle.registry_core.specs.Entries.{Pair, Entries, pair_of, pair_eq}
+use Rattle.registry_core.specs.Entries.{Entries, is_of_url}
+use Rattle.service_url.specs.Types.{type_of}
 use Rattle.service_url.specs.Urls.{url_of}
+use Rattle.slp_text.specs.Scopes.{scopes_of, common_of}
 use Rattle.slp_wire.specs.declared.header.Header.{Header}
 use Rattle.slp_wire.specs.declared.message.Message.{Message}
 use Rattle.slp_wire.specs.declared.message.Message.TheVariants as message
 use Rattle.slp_wire.specs.declared.message.Registration.{Registration}
+use Rattle.slp_wire.specs.declared.message.Withdrawal.{Withdrawal}
 use Rattle.directory_judge.specs.declared.because.Because.{Because}
-use Rattle.directory_judge.specs.declared.taken.Taken.{Taken}
-use Rattle.directory_judge.specs.History.{Putting, Setting, Removing, Act, Put, Set, Remove, Withdraw, Sweep, Reload, Event, History, now, last_that}
-use Rattle.directory_judge.specs.Judging.{Grounds, Judgement, Accepts, Ignores, Denies, judgement, judged_taken, taken, invalid, unsupported, denied_new, denied_old, denial_of, no_room, putting, allowance, pair_in, stored_scopes, supports}
-use Rattle.directory_judge.specs.Meaning.{only, put_of, Stands, AreLive}
+use Rattle.directory_judge.specs.declared.because.Decider.TheVariants as decider
+use Rattle.directory_judge.specs.declared.naming.Taken.{Taken}
+use Rattle.directory_judge.specs.History.{Putting, Setting, Removing, Withdrawing, Act, Put, Set, Remove, Withdraw, Sweep, Reload, Event, History, now}
+use Rattle.directory_judge.specs.Judging.{Grounds, Judgement, Accepts, Ignores, Waits, Denies, denied_by, is_ignored, named, named_as, judgement, judgement_of, judged_named, judged_taken, unsupported, denied_new, denied_old, denial_of, no_room, putting, pair_in, is_unjudged, is_kept, keeps, withdrawing, entries_in, first_of, concerned, judgement_to, judged_from, judged_within, judged_stored, judged_concerned}
+use Rattle.directory_judge.specs.Meaning.{AreLive}
 use Rattle.directory_judge.specs.Sites.{Place}
-use Rattle.directory_state.specs.Verdicts.{grounds, IsGrounded, IsLegal}
-use Rattle.directory_state.proofs.Folding.{IsPossible, founding-put}
+use Rattle.directory_state.specs.Verdicts.{grounds, IsGrounded}
+use Rattle.directory_state.proofs.Folding.{IsPossible}
 
 -- ---- a step denies, or finds nothing
 
@@ -31,6 +36,7 @@ IsDenial None = Unit {0}
 IsDenial (Some (Denies code why)) = Unit {0}
 IsDenial (Some (Accepts c why)) = ⊥
 IsDenial (Some Ignores) = ⊥
+IsDenial (Some Waits) = ⊥
 
 denies_accepts : (code : ℕ) (why because : Because) (c : Event) → Denies code why ≡ Accepts c because → ⊥
 denies_accepts code why because c h = cc
@@ -40,12 +46,14 @@ first_none None rest d c because is h = (refl, h)
 first_none (Some (Denies code why)) rest d c because is h = absurd (denies_accepts code why because c h)
 first_none (Some (Accepts e why)) rest d c because is h = absurd is
 first_none (Some Ignores) rest d c because is h = absurd is
+first_none (Some Waits) rest d c because is h = absurd is
 
 last_none : (o : Option Judgement) (d : Judgement) (c : Event) (because : Because) → IsDenial o → unwrap_or o d ≡ Accepts c because → (o ≡ None) × (d ≡ Accepts c because)
 last_none None d c because is h = (refl, h)
 last_none (Some (Denies code why)) d c because is h = absurd (denies_accepts code why because c h)
 last_none (Some (Accepts e why)) d c because is h = absurd is
 last_none (Some Ignores) d c because is h = absurd is
+last_none (Some Waits) d c because is h = absurd is
 
 cond-denial : (b : Bool) (code : ℕ) (why : Because) → IsDenial (cond b (Some (Denies code why)) None)
 cond-denial true code why = tt
@@ -62,24 +70,22 @@ old-denial g (Some e) = map-denial (denial_of g.rules g.asker Register e.kind e.
 -- ---- a registration that is accepted
 
 pub record Accepted (g : Grounds) (h : Header) (r : Registration) (t : Taken) (c : Event) (because : Because) : Type 0 where
-  pub valid : invalid h r ≡ None
-  pub supported : unsupported g t ≡ None
   pub room : no_room g (pair_in h r) t ≡ None
   pub event : c ≡ record { moment = g.now; act = Put (putting g h r t) }
-  pub why : because ≡ allowance g t
 
 accepts-parts : (c e : Event) (a b : Because) → Accepts c a ≡ Accepts e b → (e ≡ c) × (b ≡ a)
 accepts-parts c e a b h = (cc, cc)
 
-pub taken-accepted : (g : Grounds) (h : Header) (r : Registration) (t : Taken) (c : Event) (because : Because) → judged_taken g h r t ≡ Accepts c because → Accepted g h r t c because
+taken-accepted : (g : Grounds) (h : Header) (r : Registration) (t : Taken) (c : Event) (because : Because) → judged_taken g h r t ≡ Accepts c because → Accepted g h r t c because
 taken-accepted g h r t c because is =
-    let one = first_none (invalid h r) _ _ c because (cond-denial (length h.language == 0 || r.entry.lifetime == 0 || is_err (url_of r.entry.url)) _ _) is in
-    let two = first_none (unsupported g t) _ _ c because (cond-denial (length (stored_scopes g.site t) == 0) _ _) one.1 in
-    let three = first_none (denied_new g t) _ _ c because (map-denial (denial_of g.rules g.asker Register t.kind (stored_scopes g.site t))) two.1 in
-    let four = first_none (denied_old g (fin.get g.live (pair_in h r))) _ _ c because (old-denial g (fin.get g.live (pair_in h r))) three.1 in
-    let five = last_none (no_room g (pair_in h r) t) _ c because (cond-denial (is_none (fin.get g.live (pair_in h r)) && nat_le g.site.capacity (fin.len g.live)) _ _) four.1 in
-    let both = accepts-parts _ c _ because five.1 in
-    record { valid = one.0; supported = two.0; room = five.0; event = both.0; why = both.1 }
+    let one = first_none (unsupported t) _ _ c because (cond-denial (length t.scopes == 0) _ _) is in
+    let two = first_none (denied_new g t) _ _ c because (map-denial (denial_of g.rules g.asker Register t.kind t.scopes)) one.1 in
+    let three = first_none (denied_old g (fin.get g.live (pair_in h r))) _ _ c because (old-denial g (fin.get g.live (pair_in h r))) two.1 in
+    let four = last_none (no_room g (pair_in h r) t) _ c because (cond-denial (is_none (fin.get g.live (pair_in h r)) && nat_le g.site.capacity (fin.len g.live)) _ _) three.1 in
+    record { room = four.0; event = (accepts-parts _ c _ because four.1).0 }
+
+waits_accepts : (c : Event) (because : Because) → Waits ≡ Accepts c because → ⊥
+waits_accepts c because h = cc
 
 ignores_accepts : (c : Event) (because : Because) → Ignores ≡ Accepts c because → ⊥
 ignores_accepts c because h = cc
@@ -89,32 +95,15 @@ pub record IsRegistered (g : Grounds) (sent : Message) (c : Event) (because : Be
   pub registration : Registration
   pub named : Taken
   pub is : sent ≡ message.Registration header registration
-  pub is_taken : taken header registration ≡ Some named
+  pub lasting : 0 < registration.entry.lifetime
   pub accepted : Accepted g header registration named c because
 
-of_taken : (g : Grounds) (h : Header) (r : Registration) (o : Option Taken) (c : Event) (because : Because) → taken h r ≡ o → option_map_or (judged_taken g h r) o Ignores ≡ Accepts c because → IsRegistered g (message.Registration h r) c because
-of_taken g h r None c because e is = absurd (ignores_accepts c because is)
-of_taken g h r (Some t) c because e is = record { header = h; registration = r; named = t; is = refl; is_taken = e; accepted = taken-accepted g h r t c because is }
-
--- only a registration is accepted so far
-pub registered : (g : Grounds) (sent : Message) (c : Event) (because : Because) → judgement g sent ≡ Accepts c because → IsRegistered g sent c because
-registered g (message.Registration h r) c because is = of_taken g h r (taken h r) c because refl is
-registered g (message.ServiceRequest h q) c because is = absurd (ignores_accepts c because is)
-registered g (message.ServiceReply h r) c because is = absurd (ignores_accepts c because is)
-registered g (message.Acknowledgement h code) c because is = absurd (ignores_accepts c because is)
-registered g (message.Withdrawal h w) c because is = absurd (ignores_accepts c because is)
-registered g (message.AttributeRequest h q) c because is = absurd (ignores_accepts c because is)
-registered g (message.AttributeReply h r) c because is = absurd (ignores_accepts c because is)
-registered g (message.DirectoryAdvert h a) c because is = absurd (ignores_accepts c because is)
-registered g (message.TypeRequest h q) c because is = absurd (ignores_accepts c because is)
-registered g (message.TypeReply h r) c because is = absurd (ignores_accepts c because is)
-registered g (message.ServiceAdvert h a) c because is = absurd (ignores_accepts c because is)
-
--- ---- what that gives
-
-cond_false : {A : Type 0} (b : Bool) (x : A) → cond b (Some x) None ≡ None → b ≡ false
-cond_false true x h = absurd (none-some x (sym h))
-cond_false false x h = refl
+named-taken : (g : Grounds) (h : Header) (r : Registration) (kind url : Option (List ℕ)) (scopes : Option (List (List ℕ))) (c : Event) (because : Because)
+    → judged_named g h r (named_as g.site kind url scopes) ≡ Accepts c because → (t : Taken) × (judged_taken g h r t ≡ Accepts c because)
+named-taken g h r None url scopes c because is = absurd (denies_accepts _ _ because c is)
+named-taken g h r (Some kind) None scopes c because is = absurd (denies_accepts _ _ because c is)
+named-taken g h r (Some kind) (Some url) None c because is = absurd (denies_accepts _ _ because c is)
+named-taken g h r (Some kind) (Some url) (Some scopes) c because is = (record { kind = kind; scopes = common_of g.site.scopes scopes }, is)
 
 or_parts : (a b : Bool) → (a || b) ≡ false → (a ≡ false) × (b ≡ false)
 or_parts true b h = cc
@@ -123,20 +112,139 @@ or_parts false b h = (refl, h)
 not_zero : (n : ℕ) → (n == 0) ≡ false → 0 < n
 not_zero n h = grind (arith, nat_tests)
 
+of_registration : (g : Grounds) (h : Header) (r : Registration) (c : Event) (because : Because) → judgement_of g h r ≡ Accepts c because → IsRegistered g (message.Registration h r) c because
+of_registration g h r c because =
+    elim (is_ignored h r) as (λ b. cond b Waits (judged_named g h r (named g.site h r)) ≡ Accepts c because → IsRegistered g (message.Registration h r) c because) [
+      | true ↦ λ is. absurd (waits_accepts c because is)
+      | false ↦
+          let k = result_ok (type_of r.kind) in
+          let u = result_ok (url_of r.entry.url) in
+          let s = result_ok (scopes_of r.scopes) in
+          elim (length h.language == 0 || r.entry.lifetime == 0) as (λ b. (length h.language == 0 || r.entry.lifetime == 0) ≡ b
+          → judged_named g h r (cond b (Err (denied_by 3 decider.Registration)) (named_as g.site k u s)) ≡ Accepts c because → IsRegistered g (message.Registration h r) c because) [
+            | true ↦ λ e is. absurd (denies_accepts _ _ because c is)
+            | false ↦ λ e is.
+                let t = named-taken g h r k u s c because is in
+                record {
+                  header = h;
+                  registration = r;
+                  named = t.0;
+                  is = refl;
+                  lasting = not_zero r.entry.lifetime (or_parts (length h.language == 0) (r.entry.lifetime == 0) e).1;
+                  accepted = taken-accepted g h r t.0 c because t.1;
+                }
+          ] refl
+    ]
+
+-- ---- a withdrawal that is accepted
+
+pub record IsReleased (g : Grounds) (c : Event) : Type 0 where
+  pub url : List ℕ
+  pub scopes : List (List ℕ)
+  pub event : c ≡ withdrawing g url scopes
+
+keeps-denial : (g : Grounds) (o : Option Entry) → IsDenial (keeps g o)
+keeps-denial g None = tt
+keeps-denial g (Some e) = map-denial (denial_of g.rules g.asker Withdrawal-of e.kind e.scopes)
+
+concerned-released : (g : Grounds) (url : List ℕ) (scopes : List (List ℕ)) (first kept : Option Entry) (c : Event) (because : Because) → judged_concerned g url scopes first kept ≡ Accepts c because → IsReleased g c
+concerned-released g url scopes None kept c because is = absurd (denies_accepts _ _ because c is)
+concerned-released g url scopes (Some first) kept c because is =
+    let k = last_none (keeps g kept) _ c because (keeps-denial g kept) is in
+    record { url = url; scopes = scopes; event = (accepts-parts _ c _ because k.1).0 }
+
+stored-released : (g : Grounds) (url : List ℕ) (scopes : List (List ℕ)) (c : Event) (because : Because) → judged_stored g url scopes ≡ Accepts c because → IsReleased g c
+stored-released g url scopes c because =
+    let first = first_of (concerned g url scopes) in
+    let kept = first_of (filter (is_kept g.rules g.asker) (concerned g url scopes)) in
+    elim (list_any (is_of_url url) (entries_in g.live)) as (λ b. cond b (judged_concerned g url scopes first kept) Ignores ≡ Accepts c because → IsReleased g c) [
+      | true ↦ λ is. concerned-released g url scopes first kept c because is
+      | false ↦ λ is. absurd (ignores_accepts c because is)
+    ]
+
+within-released : (g : Grounds) (url : List ℕ) (scopes : List (List ℕ)) (c : Event) (because : Because) → judged_within g url scopes ≡ Accepts c because → IsReleased g c
+within-released g url [] c because is = absurd (denies_accepts _ _ because c is)
+within-released g url (s ∷ ss) c because is = stored-released g url (s ∷ ss) c because is
+
+from-released : (g : Grounds) (url : Option (List ℕ)) (scopes : Option (List (List ℕ))) (c : Event) (because : Because) → judged_from g url scopes ≡ Accepts c because → IsReleased g c
+from-released g None scopes c because is = absurd (denies_accepts _ _ because c is)
+from-released g (Some url) None c because is = absurd (denies_accepts _ _ because c is)
+from-released g (Some url) (Some scopes) c because is = within-released g url (common_of g.site.scopes scopes) c because is
+
+of_withdrawal : (g : Grounds) (h : Header) (w : Withdrawal) (c : Event) (because : Because) → judgement_to g h w ≡ Accepts c because → IsReleased g c
+of_withdrawal g h w c because =
+    let url = result_ok (url_of w.entry.url) in
+    let scopes = result_ok (scopes_of w.scopes) in
+    elim (is_unjudged h w) as (λ b. cond b Waits (judged_from g url scopes) ≡ Accepts c because → IsReleased g c) [
+      | true ↦ λ is. absurd (waits_accepts c because is)
+      | false ↦ λ is. from-released g url scopes c because is
+    ]
+
+-- ---- a message that is accepted
+
+-- a registration or a withdrawal is accepted, and nothing else so far
+pub accepted : (g : Grounds) (sent : Message) (c : Event) (because : Because) → judgement g sent ≡ Accepts c because → IsRegistered g sent c because ⊎ IsReleased g c
+accepted g (message.Registration h r) c because is = inl (of_registration g h r c because is)
+accepted g (message.ServiceRequest h q) c because is = absurd (waits_accepts c because is)
+accepted g (message.ServiceReply h r) c because is = absurd (waits_accepts c because is)
+accepted g (message.Acknowledgement h code) c because is = absurd (waits_accepts c because is)
+accepted g (message.Withdrawal h w) c because is = inr (of_withdrawal g h w c because is)
+accepted g (message.AttributeRequest h q) c because is = absurd (waits_accepts c because is)
+accepted g (message.AttributeReply h r) c because is = absurd (waits_accepts c because is)
+accepted g (message.DirectoryAdvert h a) c because is = absurd (waits_accepts c because is)
+accepted g (message.TypeRequest h q) c because is = absurd (waits_accepts c because is)
+accepted g (message.TypeReply h r) c because is = absurd (waits_accepts c because is)
+accepted g (message.ServiceAdvert h a) c because is = absurd (waits_accepts c because is)
+
+act_of : {c e : Event} → c ≡ e → c.act ≡ e.act
+act_of h = ap (λ (x : Event). x.act) h
+
+put_end : (p : Putting) (w : Withdrawing) → Put p ≡ Withdraw w → ⊥
+put_end p w h = cc
+
+-- a registration is what it comes of
+pub registered : (g : Grounds) (sent : Message) (moment : ℕ) (p : Putting) (because : Because) → judgement g sent ≡ Accepts (record { moment = moment; act = Put p }) because → IsRegistered g sent (record { moment = moment; act = Put p }) because
+registered g sent moment p because is = elim (accepted g sent (record { moment = moment; act = Put p }) because is) [
+  | inl by ↦ by
+  | inr by ↦ absurd (put_end p _ (act_of by.event))
+]
+
+no_set : (s : Setting) (p : Putting) → Set s ≡ Put p → ⊥
+no_set s p h = cc
+
+set_end : (s : Setting) (w : Withdrawing) → Set s ≡ Withdraw w → ⊥
+set_end s w h = cc
+
+no_remove : (r : Removing) (p : Putting) → Remove r ≡ Put p → ⊥
+no_remove r p h = cc
+
+remove_end : (r : Removing) (w : Withdrawing) → Remove r ≡ Withdraw w → ⊥
+remove_end r w h = cc
+
+-- no update comes about so far
+pub unset : (g : Grounds) (sent : Message) (moment : ℕ) (s : Setting) (because : Because) → judgement g sent ≡ Accepts (record { moment = moment; act = Set s }) because → ⊥
+unset g sent moment s because is = elim (accepted g sent (record { moment = moment; act = Set s }) because is) [
+  | inl by ↦ no_set s _ (act_of by.accepted.event)
+  | inr by ↦ set_end s _ (act_of by.event)
+]
+
+unremoved : (g : Grounds) (sent : Message) (moment : ℕ) (r : Removing) (because : Because) → judgement g sent ≡ Accepts (record { moment = moment; act = Remove r }) because → ⊥
+unremoved g sent moment r because is = elim (accepted g sent (record { moment = moment; act = Remove r }) because is) [
+  | inl by ↦ no_remove r _ (act_of by.accepted.event)
+  | inr by ↦ remove_end r _ (act_of by.event)
+]
+
+-- ---- what that gives
+
+cond_false : {A : Type 0} (b : Bool) (x : A) → cond b (Some x) None ≡ None → b ≡ false
+cond_false true x h = absurd (none-some x (sym h))
+cond_false false x h = refl
+
 some_or_less : (o : Option Entry) (capacity many : ℕ) → (is_none o && nat_le capacity many) ≡ false → IsTrue (is_some o) ⊎ (many < capacity)
 some_or_less None capacity many h = inr (grind (arith, nat_tests))
 some_or_less (Some e) capacity many h = inl refl
 
 module _ {g : Grounds} {h : Header} {r : Registration} {t : Taken} {c : Event} {because : Because} (a : Accepted g h r t c because) where
-  pub lasting : 0 < r.entry.lifetime
-  lasting =
-      let all = cond_false (length h.language == 0 || r.entry.lifetime == 0 || is_err (url_of r.entry.url)) _ a.valid in
-      let first = or_parts (length h.language == 0 || r.entry.lifetime == 0) (is_err (url_of r.entry.url)) all in
-      not_zero r.entry.lifetime (or_parts (length h.language == 0) (r.entry.lifetime == 0) first.0).1
-
-  pub some_scope : 0 < length (stored_scopes g.site t)
-  some_scope = not_zero (length (stored_scopes g.site t)) (cond_false (length (stored_scopes g.site t) == 0) _ a.supported)
-
   pub has_room : IsTrue (is_some (fin.get g.live (pair_in h r))) ⊎ (fin.len g.live < g.site.capacity)
   has_room = some_or_less (fin.get g.live (pair_in h r)) g.site.capacity (fin.len g.live) (cond_false (is_none (fin.get g.live (pair_in h r)) && nat_le g.site.capacity (fin.len g.live)) _ a.room)
 
@@ -150,20 +258,14 @@ AreLive-acting h m t a is live q e = (
 put_put : (p o : Putting) → Put p ≡ Put o → p ≡ o
 put_put p o h = cc
 
-no_set : (s : Setting) (p : Putting) → Set s ≡ Put p → ⊥
-no_set s p h = cc
-
-no_remove : (r : Removing) (p : Putting) → Remove r ≡ Put p → ⊥
-no_remove r p h = cc
-
 -- what makes an event possible, of an event that some message makes
 pub possible : (opening : List Rule) (site : Place) (h : History) (moment : ℕ) (act : Act) → IsGrounded opening site h (record { moment = moment; act = act }) → IsPossible site.capacity h (record { moment = moment; act = act })
 possible opening site h moment (Put p) grounded =
     let g = grounds opening site h grounded.verdict.live grounded.moment grounded.asker in
-    let by = registered g grounded.sent (record { moment = moment; act = Put p }) grounded.because (sym grounded.verdict.is) in
-    let same : p ≡ putting g by.header by.registration by.named = put_put p _ (ap (λ (x : Event). x.act) by.accepted.event) in
+    let by = registered g grounded.sent moment p grounded.because (sym grounded.verdict.is) in
+    let same : p ≡ putting g by.header by.registration by.named = put_put p _ (act_of by.accepted.event) in
     let at : moment ≡ now h grounded.moment = ap (λ (x : Event). x.moment) by.accepted.event in (
-      subst (λ (x : Putting). 0 < x.lifetime) (sym same) (lasting by.accepted),
+      subst (λ (x : Putting). 0 < x.lifetime) (sym same) by.lasting,
       (
         grounded.verdict.live,
         AreLive-acting h grounded.moment moment grounded.verdict.live at grounded.verdict.are_live,
@@ -171,54 +273,9 @@ possible opening site h moment (Put p) grounded =
       ),
     )
 possible opening site h moment (Set s) grounded =
-    let by = registered (grounds opening site h grounded.verdict.live grounded.moment grounded.asker) grounded.sent (record { moment = moment; act = Set s }) grounded.because (sym grounded.verdict.is) in
-    absurd (no_set s _ (ap (λ (x : Event). x.act) by.accepted.event))
-possible opening site h moment (Remove s) grounded =
-    let by = registered (grounds opening site h grounded.verdict.live grounded.moment grounded.asker) grounded.sent (record { moment = moment; act = Remove s }) grounded.because (sym grounded.verdict.is) in
-    absurd (no_remove s _ (ap (λ (x : Event). x.act) by.accepted.event))
+    absurd (unset (grounds opening site h grounded.verdict.live grounded.moment grounded.asker) grounded.sent moment s grounded.because (sym grounded.verdict.is))
+possible opening site h moment (Remove r) grounded =
+    absurd (unremoved (grounds opening site h grounded.verdict.live grounded.moment grounded.asker) grounded.sent moment r grounded.because (sym grounded.verdict.is))
 possible opening site h moment (Withdraw w) grounded = tt
 possible opening site h moment Sweep grounded = tt
 possible opening site h moment (Reload rs) grounded = tt
-
--- ---- the scopes of what stands
-
-all_supported : (site : Place) (scopes : List (List ℕ)) → 0 < length (filter (supports site) scopes) → IsTrue (list_any (supports site) (filter (supports site) scopes))
-all_supported site [] h = absurd (omega arith)
-all_supported site (s ∷ scopes) h =
-    elim (supports site s) as (λ b. supports site s ≡ b → 0 < length (cond b (s ∷ filter (supports site) scopes) (filter (supports site) scopes)) → IsTrue (list_any (supports site) (cond b (s ∷ filter (supports site) scopes) (filter (supports site) scopes)))) [
-      | true ↦ λ e _. ap (λ b. b || list_any (supports site) (filter (supports site) scopes)) e
-      | false ↦ λ e k. all_supported site scopes k
-    ] refl h
-
-put-supported : (opening : List Rule) (site : Place) (h : History) (moment : ℕ) (p : Putting) → IsGrounded opening site h (record { moment = moment; act = Put p }) → IsTrue (list_any (supports site) p.scopes)
-put-supported opening site h moment p grounded =
-    let g = grounds opening site h grounded.verdict.live grounded.moment grounded.asker in
-    let by = registered g grounded.sent (record { moment = moment; act = Put p }) grounded.because (sym grounded.verdict.is) in
-    let same : p ≡ putting g by.header by.registration by.named = put_put p _ (ap (λ (x : Event). x.act) by.accepted.event) in
-    subst (λ (x : Putting). IsTrue (list_any (supports site) x.scopes)) (sym same) (all_supported site by.named.scopes (some_scope by.accepted))
-
-option_or_some : {A : Type 0} (a b : Option A) (x : A) → option_or a b ≡ Some x → (a ≡ Some x) ⊎ (b ≡ Some x)
-option_or_some None b x h = inr h
-option_or_some (Some y) b x h = inl h
-
-pub only_some : (b : Bool) (o p : Putting) → only b (Some o) ≡ Some p → o ≡ p
-only_some true o p h = same_Some o p h
-only_some false o p h = absurd (none-some p h)
-
-now-supported : (opening : List Rule) (site : Place) (h : History) (moment : ℕ) (act : Act) (q : Pair) (p : Putting) → IsGrounded opening site h (record { moment = moment; act = act }) → put_of q (record { moment = moment; act = act }) ≡ Some p → IsTrue (list_any (supports site) p.scopes)
-now-supported opening site h moment (Put o) q p grounded is =
-    subst (λ (x : Putting). IsTrue (list_any (supports site) x.scopes)) (only_some (pair_eq (o.url, o.language) q) o p is) (put-supported opening site h moment o grounded)
-now-supported opening site h moment _ q p grounded is = absurd (none-some p is)
-
--- each registration is in a scope of the site
-pub last-supported : (opening : List Rule) (site : Place) (h : History) (q : Pair) (p : Putting) → IsLegal opening site h → last_that (put_of q) h ≡ Some p → IsTrue (list_any (supports site) p.scopes)
-last-supported opening site [] q p legal is = absurd (none-some p is)
-last-supported opening site (c ∷ h) q p legal is = elim (option_or_some (put_of q c) (last_that (put_of q) h) p is) [
-  | inl here ↦ now-supported opening site h c.moment c.act q p legal.1 here
-  | inr before ↦ last-supported opening site h q p legal.2 before
-]
-
--- and so is what stands
-pub Stands-supported : (opening : List Rule) (site : Place) (h : History) (e : Entry) → IsLegal opening site h → Stands h e → IsTrue (list_any (supports site) e.scopes)
-Stands-supported opening site h e legal s =
-    subst (λ scopes. IsTrue (list_any (supports site) scopes)) (sym s.scopes) (last-supported opening site h (pair_of e) s.by legal (founding-put (pair_of e) h s.by s.founded))

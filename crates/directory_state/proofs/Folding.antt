@@ -10,15 +10,14 @@ use Rattle.std.specs.FinMap as fin
 use Rattle.slp_text.specs.Words.{bytes_eq, texts_eq}
 use Rattle.access_rules.specs.declared.rule.Rule.{Rule}
 use Rattle.registry_core.specs.declared.entry.Entry.{Entry}
-use Rattle.registry_core.specs.Entries.{Pair, Entries, pair_cmp, pair_of, pair_eq, outlives}
-use Rattle.registry_core.proofs.Lists.{pair_total, pair_exact, cmp-pair_eq, pair_eq-true, pair_eq-same}
+use Rattle.registry_core.specs.Entries.{Pair, Entries, pair_cmp, pair_of, pair_eq, outlives, passing}
+use Rattle.registry_core.proofs.Lists.{pair_total, pair_exact, cmp-pair_eq, pair_eq-true, pair_eq-same, get-passing}
 use Rattle.directory_judge.specs.History.{Putting, Withdrawing, Act, Put, Set, Remove, Withdraw, Sweep, Reload, Event, History, clock, now, last_that}
-use Rattle.directory_judge.specs.Making.{Content, Stores, Edits, Withdraws, Sweeps, Reloads, passing}
+use Rattle.directory_judge.specs.Making.{Content, Stores, Edits, Withdraws, Sweeps, Reloads}
 use Rattle.directory_judge.specs.Meaning.{only, put_of, withdraws, deadline_of, rules_of, since_put, unless_withdrawn, founding, Stands, Live, AreLive}
 use Rattle.directory_judge.specs.Sites.{Place}
 use Rattle.directory_state.specs.Folding.{Fold, IsEditOf, StandsFor}
 use Rattle.directory_state.specs.State.{State, is_full_for, is_withdrawn, stored, edited, made}
-use Rattle.directory_judge.proofs.Maps.{get-passing}
 pub use Rattle.directory_judge.proofs.Maps.{kept-some, some-kept}
 use Rattle.directory_state.proofs.States.{is_full-parts}
 
@@ -246,10 +245,6 @@ last_put-pair q (c ∷ h) p is = elim (option_or_some (put_of q c) (last_that (p
   | inl now ↦ put_of-pair q c.moment c.act p now
   | inr before ↦ last_put-pair q h p before
 ]
-
--- what founds a pair is its last registration
-pub founding-put : (q : Pair) (h : History) (p : Putting) → founding q h ≡ Some p → last_that (put_of q) h ≡ Some p
-founding-put q h p is = (unless-parts (since_put q h) (last_that (put_of q) h) p is).0
 
 module _ (moment : ℕ) (w : Withdrawing) (h : History) (e : Entry) where
   same_words : (p : Putting) → ◌≡◌ {A = Pair} (p.url, p.language) (pair_of e) → e.scopes ≡ p.scopes → withdraws p (record { moment = moment; act = Withdraw w }) ≡ is_withdrawn w e

@@ -1,19 +1,22 @@
 -- One change founded what stands: the last registration of its pair.
-use Rattle.std.proofs.Common.{◌≡◌, ℕ, cond, [], ◌∷◌, ◌++◌, length, Some, None, refl, sym, ap, ◌∙◌}
+use Rattle.std.proofs.Common.{◌≡◌, ℕ, Bool, true, false, cond, [], ◌∷◌, ◌++◌, length, Some, None, refl, sym, ap, ◌∙◌}
 use Rattle.std.specs.Prelude.{is_none}
 use Rattle.std.specs.List.{AllByRecursion, list_any}
 use Rattle.std.specs.Option.{option_or}
-use Rattle.std.proofs.lemmas.Option.{none-some}
+use Rattle.std.proofs.lemmas.Option.{none-some, same_Some}
 use Rattle.registry_core.specs.declared.entry.Entry.{Entry}
 use Rattle.registry_core.specs.Entries.{Pair, pair_of, pair_eq}
 use Rattle.registry_core.proofs.Lists.{pair_eq-same}
 use Rattle.directory_judge.specs.History.{Putting, Act, Put, Event, History, last_that}
 use Rattle.directory_judge.specs.Meaning.{only, put_of, withdraws, since_put, Stands}
 use Rattle.directory_state.specs.Founding.{IsFoundedAt}
-use Rattle.directory_state.proofs.Accepting.{only_some}
 use Rattle.directory_state.proofs.Folding.{last_put-pair, unless-parts}
 
 -- ---- the last registration of a pair
+
+only_some : (b : Bool) (o p : Putting) → only b (Some o) ≡ Some p → o ≡ p
+only_some true o p h = same_Some o p h
+only_some false o p h = absurd (none-some p h)
 
 put_of-act : (q : Pair) (moment : ℕ) (a : Act) (p : Putting) → put_of q (record { moment = moment; act = a }) ≡ Some p → a ≡ Put p
 put_of-act q moment (Put o) p is = ap Put (only_some (pair_eq (o.url, o.language) q) o p is)

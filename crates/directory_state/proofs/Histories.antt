@@ -1,21 +1,24 @@
 -- What holds of every history.
-use Rattle.std.proofs.Common.{◌≡◌, ℕ, ◌<◌, ◌≤◌, List, [], ◌∷◌, Some, refl, sym, ap, subst, ◌∙◌, arith}
+use Rattle.std.proofs.Common.{◌≡◌, ℕ, ◌<◌, ◌≤◌, List, [], ◌∷◌, Some, refl, sym, ap, subst, ◌∙◌, arith, inl, inr}
 use Rattle.std.specs.Prelude.{◌↔◌}
 use Rattle.std.specs.FinMap as fin
 use Rattle.access_rules.specs.declared.rule.Rule.{Rule}
-use Rattle.registry_core.specs.Entries.{Pair, pair_of}
+use Rattle.registry_core.specs.Entries.{Pair, Entries, pair_of}
 use Rattle.registry_core.specs.declared.entry.Entry.{Entry}
 use Rattle.slp_wire.specs.Messages.{IsMessage}
 use Rattle.slp_wire.specs.declared.message.Message.{Message}
-use Rattle.directory_judge.specs.History.{History, Event, Sweep, clock, now}
-use Rattle.directory_judge.specs.Judging.{Judgement, Accepts, Ignores, Denies, judgement}
+use Rattle.slp_wire.specs.declared.message.UrlEntry.{UrlEntry}
+use Rattle.directory_judge.specs.History.{History, Act, Event, Sweep, clock, now}
+use Rattle.directory_judge.specs.Judging.{Judgement, Accepts, Ignores, Waits, Denies, judgement}
 use Rattle.directory_judge.specs.Making.{Content}
-use Rattle.directory_judge.specs.Meaning.{Live}
+use Rattle.directory_judge.specs.Meaning.{AreLive, Live, rules}
 use Rattle.directory_judge.specs.Sites.{Place}
+use Rattle.directory_state.specs.declared.query.ServiceQuery.{ServiceQuery}
+use Rattle.directory_state.specs.Asking.{Answers, AreItems, AreServices}
 use Rattle.directory_state.specs.Folding.{Fold, StandFor}
 use Rattle.directory_state.specs.State.{State, after}
 use Rattle.directory_state.specs.Verdicts.{IsAccepted, IsGrounded, IsLegal, IsVerdict, grounds, next}
-use Rattle.directory_state.proofs.Accepting.{possible, registered}
+use Rattle.directory_state.proofs.Accepting.{possible, accepted}
 use Rattle.directory_state.proofs.Folding.{AreLive-nil, AreLive-unique, Fold-made, Silent, Stands-before, Stands-after}
 
 pub Fold-after : (opening : List Rule) (site : Place) (h : History) (xs : List Content) → IsLegal opening site h → StandFor h xs → Fold opening site h (after opening site xs)
@@ -39,14 +42,71 @@ pub one_verdict : (opening : List Rule) (site : Place) (h : History) (m asker : 
 one_verdict opening site h m asker sent v w a b =
     a.is ∙ ap (λ live. judgement (grounds opening site h live m asker) sent) (AreLive-unique h m a.live b.live a.are_live b.are_live) ∙ sym b.is
 
-pub legal_next : (opening : List Rule) (site : Place) (h : History) (m asker : ℕ) (sent : Message) (v : Judgement) → IsLegal opening site h → IsMessage sent → IsVerdict opening site h m asker sent v → IsLegal opening site (next h v)
-legal_next opening site h m asker sent (Accepts c because) legal sound verdict =
-    let event = (registered (grounds opening site h verdict.live m asker) sent c because (sym verdict.is)).accepted.event in
-    let accepted : IsAccepted opening site h c = record { moment = m; asker = asker; sent = sent; sound = sound; because = because; verdict = verdict } in
+-- an event at the moment at which a call acts
+legal_after : (opening : List Rule) (site : Place) (h : History) (m : ℕ) (c : Event) (act : Act) → c ≡ record { moment = now h m; act = act } → IsLegal opening site h
+    → (IsAccepted opening site h (record { moment = now h m; act = act }) → IsGrounded opening site h (record { moment = now h m; act = act })) → IsAccepted opening site h c → IsLegal opening site (c ∷ h)
+legal_after opening site h m c act event legal grounded is =
     let at : c.moment ≡ now h m = ap (λ (x : Event). x.moment) event in (
       omega (arith, at),
-      subst (IsGrounded opening site h) (sym event) (subst (IsAccepted opening site h) event accepted),
+      subst (IsGrounded opening site h) (sym event) (grounded (subst (IsAccepted opening site h) event is)),
       legal,
     )
+
+pub legal_next : (opening : List Rule) (site : Place) (h : History) (m asker : ℕ) (sent : Message) (v : Judgement) → IsLegal opening site h → IsMessage sent → IsVerdict opening site h m asker sent v → IsLegal opening site (next h v)
+legal_next opening site h m asker sent (Accepts c because) legal sound verdict =
+    let is : IsAccepted opening site h c = record { moment = m; asker = asker; sent = sent; sound = sound; because = because; verdict = verdict } in
+    elim (accepted (grounds opening site h verdict.live m asker) sent c because (sym verdict.is)) [
+      | inl by ↦ legal_after opening site h m c _ by.accepted.event legal (λ a. a) is
+      | inr by ↦ legal_after opening site h m c _ by.event legal (λ a. a) is
+    ]
 legal_next opening site h m asker sent Ignores legal sound verdict = legal
+legal_next opening site h m asker sent Waits legal sound verdict = legal
 legal_next opening site h m asker sent (Denies code because) legal sound verdict = legal
+
+-- ---- a sweep
+
+now-sweep : (h : History) (s m : ℕ) → s ≤ m → now (record { moment = s; act = Sweep } ∷ h) m ≡ now h m
+now-sweep h s m le = omega (arith, le)
+
+AreLive-sweep : (h : History) (s m : ℕ) (live : Entries) → s ≤ m → AreLive (record { moment = s; act = Sweep } ∷ h) m live ↔ AreLive h m live
+AreLive-sweep h s m live le = (
+  (λ are q e. (
+    (λ is. let l = (are q e).0 is in (l.0, (Live-sweep h s m e le).0 l.1)),
+    (λ l. (are q e).1 (l.0, (Live-sweep h s m e le).1 l.1)),
+  )),
+  (λ are q e. (
+    (λ is. let l = (are q e).0 is in (l.0, (Live-sweep h s m e le).1 l.1)),
+    (λ l. (are q e).1 (l.0, (Live-sweep h s m e le).0 l.1)),
+  )),
+)
+
+same_moment : (opening : List Rule) (site : Place) (h : History) (live : Entries) (n k asker : ℕ) (sent : Message) → n ≡ k
+    → judgement (record { rules = rules opening h; site = site; live = live; now = n; asker = asker }) sent ≡ judgement (record { rules = rules opening h; site = site; live = live; now = k; asker = asker }) sent
+same_moment opening site h live n k asker sent same = ap (λ t. judgement (record { rules = rules opening h; site = site; live = live; now = t; asker = asker }) sent) same
+
+pub verdict-sweep : (opening : List Rule) (site : Place) (h : History) (s m asker : ℕ) (sent : Message) (v : Judgement) → s ≤ m
+    → IsVerdict opening site (record { moment = s; act = Sweep } ∷ h) m asker sent v ↔ IsVerdict opening site h m asker sent v
+verdict-sweep opening site h s m asker sent v le = (
+  (λ a. record { live = a.live; are_live = (AreLive-sweep h s m a.live le).0 a.are_live; is = a.is ∙ same_moment opening site h a.live _ _ asker sent (now-sweep h s m le) }),
+  (λ a. record { live = a.live; are_live = (AreLive-sweep h s m a.live le).1 a.are_live; is = a.is ∙ same_moment opening site h a.live _ _ asker sent (sym (now-sweep h s m le)) }),
+)
+
+-- items of the same entries at the same moment
+same_items : (P Q : Entry → Type 0) (n k : ℕ) (items : List UrlEntry) → ((e : Entry) → P e → Q e) → ((e : Entry) → Q e → P e) → n ≡ k → AreItems P n items → AreItems Q k items
+same_items P Q n k items to from same are = record {
+  ordered = are.ordered;
+  each = λ i has.
+      let x = are.each i has in
+      record { from = x.from; answers = to x.from x.answers; url = x.url; lifetime = omega (arith, x.lifetime, same); greatest = λ e q at. x.greatest e (from e q) at };
+  all = λ e q. are.all e (from e q);
+}
+
+pub answer-sweep : (opening : List Rule) (site : Place) (h : History) (s m asker : ℕ) (q : ServiceQuery) (items : List UrlEntry) → s ≤ m
+    → AreServices opening site (record { moment = s; act = Sweep } ∷ h) m asker q items ↔ AreServices opening site h m asker q items
+answer-sweep opening site h s m asker q items le =
+    let swept : History = record { moment = s; act = Sweep } ∷ h in
+    let to : (e : Entry) → Answers opening site swept m asker q e → Answers opening site h m asker q e = λ e a. record { live = (Live-sweep h s m e le).0 a.live; open_to = a.open_to; covered = a.covered } in
+    let from : (e : Entry) → Answers opening site h m asker q e → Answers opening site swept m asker q e = λ e a. record { live = (Live-sweep h s m e le).1 a.live; open_to = a.open_to; covered = a.covered } in (
+      same_items (Answers opening site swept m asker q) (Answers opening site h m asker q) (now swept m) (now h m) items to from (now-sweep h s m le),
+      same_items (Answers opening site h m asker q) (Answers opening site swept m asker q) (now h m) (now swept m) items from to (sym (now-sweep h s m le)),
+    )

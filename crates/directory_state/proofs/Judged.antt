@@ -1,21 +1,21 @@
 -- The judgement over a state is the verdict at its history.
-use Rattle.std.proofs.Common.{◌≡◌, ℕ, ◌∷◌, max, true, List, Result, Ok, Err, refl, sym, ap, subst, arith}
+use Rattle.std.proofs.Common.{◌≡◌, ℕ, ◌∷◌, max, true, List, Result, Ok, Err, refl, sym, ap, subst, arith, inl, inr}
 use Rattle.std.specs.Prelude.{IfOk}
 use Rattle.access_rules.specs.declared.rule.Rule.{Rule}
-use Rattle.registry_core.specs.Entries.{Entries, pair_eq, outlives}
+use Rattle.registry_core.specs.Entries.{Entries, pair_eq, outlives, passing}
 use Rattle.registry_core.proofs.Lists.{pair_eq-same}
 use Rattle.slp_wire.specs.declared.message.Message.{Message}
 use Rattle.directory_judge.specs.declared.judged.Judged.{Judged}
 use Rattle.directory_judge.specs.declared.judged.Judged.TheVariants as judged
 use Rattle.directory_judge.specs.History.{Putting, Put, Event, History, clock, now}
-use Rattle.directory_judge.specs.Judging.{Grounds, Judgement, judgement, IsJudged, IsRegistryOf, putting}
-use Rattle.directory_judge.specs.Making.{content_on, entry_of, passing}
+use Rattle.directory_judge.specs.Judging.{Grounds, Judgement, judgement, IsJudged, putting}
+use Rattle.directory_judge.specs.Making.{content_on, entry_of}
 use Rattle.directory_judge.specs.Meaning.{AreLive, Stands, rules}
 use Rattle.directory_judge.specs.Sites.{Place}
 use Rattle.directory_state.specs.Folding.{Fold, StandsFor}
 use Rattle.directory_state.specs.State.{State}
-use Rattle.directory_state.specs.Verdicts.{grounds, IsVerdict, IsLegal, IsJudgedAs}
-use Rattle.directory_state.proofs.Accepting.{registered, Stands-supported}
+use Rattle.directory_state.specs.Verdicts.{grounds, IsVerdict, IsJudgedAs}
+use Rattle.directory_state.proofs.Accepting.{accepted}
 use Rattle.directory_state.proofs.Folding.{AreLive-swept}
 
 -- the entries of the state that outlive the moment of a call are those that are live at it
@@ -49,25 +49,21 @@ same_grounds a b site live m n asker e f = λ i. record { rules = e i; site = si
 -- a change that holds what an accepted event asks for stands for it
 stands_for : (opening : List Rule) (site : Place) (h : History) (live : Entries) (m asker : ℕ) (sent : Message) (j : Judged) → IsJudged live j (judgement (grounds opening site h live m asker) sent) → IsJudgedAs h j (judgement (grounds opening site h live m asker) sent)
 stands_for opening site h live m asker sent (judged.Accept change because) is =
-    let by = registered (grounds opening site h live m asker) sent is.0 because is.1 in
-    let p = putting (grounds opening site h live m asker) by.header by.registration by.named in
-    let event : is.0 ≡ record { moment = now h m; act = Put p } = by.accepted.event in (
+    let g = grounds opening site h live m asker in (
       is.0,
       is.1,
-      subst (λ x. StandsFor h x is.0) (sym is.2)
-          (subst (λ (c : Event). StandsFor h (content_on live c) c) (sym event) (refl, p, refl, refl, Stands-put (now h m) p h)),
+      subst (λ x. StandsFor h x is.0) (sym is.2) (elim (accepted g sent is.0 because is.1) [
+        | inl by ↦
+            let p = putting g by.header by.registration by.named in
+            subst (λ (c : Event). StandsFor h (content_on live c) c) (sym by.accepted.event) (refl, p, refl, refl, Stands-put (now h m) p h)
+        | inr by ↦ subst (λ (c : Event). StandsFor h (content_on live c) c) (sym by.event) (refl, refl)
+      ]),
     )
 stands_for opening site h live m asker sent judged.Nothing is = is
+stands_for opening site h live m asker sent judged.Unjudged is = is
 stands_for opening site h live m asker sent (judged.Deny code because) is = is
 
-module _ (opening : List Rule) (h : History) (s : State) (fold : Fold opening s.site h s) (legal : IsLegal opening s.site h) where
-  -- the registry of the state of a legal history is one of its site
-  pub registry_of : (limit : ℕ) → limit ≡ s.site.capacity → IsRegistryOf s.site s.entries limit
-  registry_of limit is = record {
-    capacity = is;
-    supported = λ q e there. Stands-supported opening s.site h e legal ((fold.entries q e).0 there).1.stands;
-  }
-
+module _ (opening : List Rule) (h : History) (s : State) (fold : Fold opening s.site h s) where
   pub judged_as : (m asker : ℕ) (sent : Message) (j : Judged)
       → IsJudged (passing (outlives (max m s.clock)) s.entries) j (judgement (record { rules = s.rules; site = s.site; live = passing (outlives (max m s.clock)) s.entries; now = max m s.clock; asker = asker }) sent)
       → (v : Judgement) × IsVerdict opening s.site h m asker sent v × IsJudgedAs h j v

@@ -6,18 +6,15 @@ use Rattle.std.proofs.lemmas.Option.{none-some, same_Some}
 use Rattle.access_rules.specs.declared.rule.Rule.{Rule}
 use Rattle.registry_core.specs.Entries.{Pair, pair_eq}
 use Rattle.slp_wire.specs.Messages.{IsMessage}
-use Rattle.directory_judge.specs.History.{Putting, Setting, Act, Put, Set, Remove, Withdraw, Sweep, Reload, Event, History, clock, last_that}
+use Rattle.directory_judge.specs.History.{Putting, Act, Put, Set, Remove, Withdraw, Sweep, Reload, Event, History, clock, last_that}
 use Rattle.directory_judge.specs.Judging.{putting}
 use Rattle.directory_judge.specs.Meaning.{only, deadline_of}
 use Rattle.directory_judge.specs.Sites.{Place}
 use Rattle.directory_state.specs.Verdicts.{grounds, IsGrounded, IsLegal}
-use Rattle.directory_state.proofs.Accepting.{registered}
+use Rattle.directory_state.proofs.Accepting.{registered, unset}
 
 put_put : (p o : Putting) → Put p ≡ Put o → p ≡ o
 put_put p o h = cc
-
-no_set : (s : Setting) (p : Putting) → Set s ≡ Put p → ⊥
-no_set s p h = cc
 
 option_or_some : {A : Type 0} (a b : Option A) (x : A) → option_or a b ≡ Some x → (a ≡ Some x) ⊎ (b ≡ Some x)
 option_or_some None b x h = inr h
@@ -31,7 +28,7 @@ only_some false n d h = absurd (none-some d h)
 put-short : (opening : List Rule) (site : Place) (h : History) (moment : ℕ) (p : Putting) → IsGrounded opening site h (record { moment = moment; act = Put p }) → p.lifetime < 2 ^ 16
 put-short opening site h moment p grounded =
     let g = grounds opening site h grounded.verdict.live grounded.moment grounded.asker in
-    let by = registered g grounded.sent (record { moment = moment; act = Put p }) grounded.because (sym grounded.verdict.is) in
+    let by = registered g grounded.sent moment p grounded.because (sym grounded.verdict.is) in
     let same : p ≡ putting g by.header by.registration by.named = put_put p _ (ap (λ (x : Event). x.act) by.accepted.event) in
     let sound = subst IsMessage by.is grounded.sound in
     subst (λ (x : Putting). x.lifetime < 2 ^ 16) (sym same) sound.body.entry.lifetime
@@ -43,8 +40,7 @@ now-deadline opening site h moment (Put o) q d grounded is =
     let short = put-short opening site h moment o grounded in
     omega arith
 now-deadline opening site h moment (Set s) q d grounded is =
-    let by = registered (grounds opening site h grounded.verdict.live grounded.moment grounded.asker) grounded.sent (record { moment = moment; act = Set s }) grounded.because (sym grounded.verdict.is) in
-    absurd (no_set s _ (ap (λ (x : Event). x.act) by.accepted.event))
+    absurd (unset (grounds opening site h grounded.verdict.live grounded.moment grounded.asker) grounded.sent moment s grounded.because (sym grounded.verdict.is))
 now-deadline opening site h moment (Remove r) q d grounded is = absurd (none-some d is)
 now-deadline opening site h moment (Withdraw w) q d grounded is = absurd (none-some d is)
 now-deadline opening site h moment Sweep q d grounded is = absurd (none-some d is)

@@ -9,7 +9,6 @@ use Rattle.registry_core.specs.declared.entry.Entry.{Entry}
 use Rattle.registry_core.specs.declared.registry.RegistryFault.{RegistryFault}
 use Rattle.registry_core.specs.declared.registry.RegistryFault.TheVariants.{Full}
 use Rattle.registry_core.specs.Entries.{Entries, pair_of}
-pub use Rattle.directory_judge.proofs.Maps.{get-passing, passing-is}
 use Rattle.directory_judge.specs.Sites.{Place}
 use Rattle.directory_state.specs.State.{State, is_full_for, stored}
 

@@ -1,5 +1,5 @@
 -- The state that a history leaves, and which changes stand for its events.
-use Rattle.std.specs.Prelude.{◌≡◌, ℕ, List, [], ◌∷◌}
+use Rattle.std.specs.Prelude.{◌≡◌, List, [], ◌∷◌}
 use Rattle.access_rules.specs.declared.rule.Rule.{Rule}
 use Rattle.registry_core.specs.Entries.{Pair, pair_of}
 use Rattle.directory_judge.specs.History.{History, Event, Act, Putting, Put, Set, Remove, Withdraw, Sweep, Reload, clock}

@@ -1,5 +1,5 @@
 -- Which change founded what stands.
-use Rattle.std.specs.Prelude.{◌≡◌, ℕ, false, List, ◌∷◌, ◌++◌, length, None}
+use Rattle.std.specs.Prelude.{◌≡◌, ℕ, false, ◌∷◌, ◌++◌, length, None}
 use Rattle.std.specs.List.{AllByRecursion, list_any}
 use Rattle.registry_core.specs.Entries.{Pair, pair_of}
 use Rattle.registry_core.specs.declared.entry.Entry.{Entry}

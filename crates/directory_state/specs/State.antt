@@ -1,14 +1,13 @@
 -- What a directory is to contracts, and what a change makes of it.
-use Rattle.std.specs.Prelude.{◌≡◌, ℕ, max, Bool, ◌==◌, ◌&&◌, not, is_some, is_none, if◌then◌else◌, List, [], ◌∷◌, refl}
-use Rattle.std.specs.Coded.{Coded, code_by, coded×, coded_ℕ, coded_list}
+use Rattle.std.specs.Prelude.{ℕ, max, Bool, ◌==◌, ◌&&◌, not, is_some, is_none, if◌then◌else◌, List, [], ◌∷◌, refl}
+use Rattle.std.specs.Coded.{Coded, code_by, coded×, coded_ℕ}
 use Rattle.std.specs.FinMap as fin
-use Rattle.slp_text.specs.Words.{bytes_eq, texts_eq}
 use Rattle.access_rules.specs.Codes.{rules_code}
 use Rattle.access_rules.specs.declared.rule.Rule.{Rule}
-use Rattle.registry_core.specs.Entries.{Entries, entries_code, pair_of, outlives}
+use Rattle.registry_core.specs.Entries.{Entries, entries_code, pair_of, is_registered, outlives, passing}
 use Rattle.registry_core.specs.declared.entry.Entry.{Entry}
 use Rattle.directory_judge.specs.History.{Withdrawing}
-use Rattle.directory_judge.specs.Making.{Content, Stores, Edits, Withdraws, Sweeps, Reloads, passing}
+use Rattle.directory_judge.specs.Making.{Content, Stores, Edits, Withdraws, Sweeps, Reloads}
 use Rattle.directory_judge.specs.Sites.{Place, place_code}
 
 pub record State : Type 0 where
@@ -41,7 +40,7 @@ edited e m = if is_some (fin.get m (pair_of e)) then fin.insert m (pair_of e) e 
 
 -- registered with this URL in just these scopes
 abbrev pub is_withdrawn : Withdrawing → Entry → Bool
-is_withdrawn w e = bytes_eq e.url w.url && texts_eq e.scopes w.scopes
+is_withdrawn w e = is_registered w.url w.scopes e
 
 -- what a change makes of any state: it drops what is dead at its moment, and raises the clock
 abbrev pub made : Content → State → State

@@ -5,7 +5,7 @@ use Rattle.registry_core.specs.Entries.{Entries}
 use Rattle.slp_wire.specs.Messages.{IsMessage}
 use Rattle.slp_wire.specs.declared.message.Message.{Message}
 use Rattle.directory_judge.specs.History.{History, Event, Put, Set, Remove, Withdraw, Sweep, Reload, clock, now}
-use Rattle.directory_judge.specs.Judging.{Grounds, Judgement, Accepts, Ignores, Denies, judgement}
+use Rattle.directory_judge.specs.Judging.{Grounds, Judgement, Accepts, Ignores, Waits, Denies, judgement}
 use Rattle.directory_judge.specs.Meaning.{AreLive, rules}
 use Rattle.directory_judge.specs.Sites.{Place}
 use Rattle.directory_judge.specs.Making.{content}
@@ -53,10 +53,12 @@ IsLegal opening site (c ∷ h) = (clock h ≤ c.moment) × IsGrounded opening si
 abbrev pub IsJudgedAs : History → Judged → Judgement → Type 0
 IsJudgedAs h (judged.Accept change because) v = (c : Event) × (v ≡ Accepts c because) × StandsFor h (content change) c
 IsJudgedAs h judged.Nothing v = v ≡ Ignores
+IsJudgedAs h judged.Unjudged v = v ≡ Waits
 IsJudgedAs h (judged.Deny code because) v = v ≡ Denies code because
 
 -- the history after a judgement
 abbrev pub next : History → Judgement → History
 next h (Accepts c because) = c ∷ h
 next h Ignores = h
+next h Waits = h
 next h (Denies code because) = h

@@ -136,6 +136,11 @@ impl<R: Registry> Directory<R> {
                 self.registry.sweep(u64::from(moment));
                 let _ = self.registry.put(entry);
             }
+            Change::Withdraw(moment, withdrawn) => {
+                self.clock = self.now(moment);
+                self.registry.sweep(u64::from(moment));
+                self.registry.remove_url(&withdrawn.url, &withdrawn.scopes);
+            }
             Change::Sweep(moment) => {
                 self.clock = self.now(moment);
                 self.registry.sweep(u64::from(moment));

@@ -53,9 +53,13 @@ pub fn accepted_changes_are_legal()
         → IsVerdict opening site h m asker sent v → IsLegal opening site (next h v) }
 {}
 
-/// A sweep is not seen at its moment or later.
+/// A sweep is not seen at its moment or later: not in what is live, nor in a verdict, nor in an answer.
 pub fn sweeps_are_not_seen()
-    ensures { (h : History) (s m : ℕ) (e : Entry) → s ≤ m → Live (record { moment = s; act = Sweep } ∷ h) m e ↔ Live h m e }
+    ensures live { (h : History) (s m : ℕ) (e : Entry) → s ≤ m → Live (record { moment = s; act = Sweep } ∷ h) m e ↔ Live h m e }
+    ensures verdict { (opening : List Rule) (site : Place) (h : History) (s m asker : ℕ) (sent : Message) (v : Judgement) → s ≤ m
+        → IsVerdict opening site (record { moment = s; act = Sweep } ∷ h) m asker sent v ↔ IsVerdict opening site h m asker sent v }
+    ensures answer { (opening : List Rule) (site : Place) (h : History) (s m asker : ℕ) (q : ServiceQuery) (items : List UrlEntry) → s ≤ m
+        → AreServices opening site (record { moment = s; act = Sweep } ∷ h) m asker q items ↔ AreServices opening site h m asker q items }
 {}
 
 /// A message has one verdict at a history and a moment.

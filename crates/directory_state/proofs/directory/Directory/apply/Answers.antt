@@ -1,13 +1,16 @@
-use Rattle.std.proofs.Common.{◌∷◌, sym, ap, subst, ◌∙◌}
+use Rattle.std.proofs.Common.{◌≡◌, ◌∷◌, sym, ap, subst, ◌∙◌}
+use Rattle.std.specs.Prelude.{not}
 use Rattle.std.specs.Arc.{arc_value}
 use Rattle.std.specs.FinMap as fin
-use Rattle.registry_core.specs.Entries.{kept, outlives}
-use Rattle.directory_judge.specs.Making.{content, Stores, Sweeps}
-use Rattle.directory_state.specs.State.{State, stored, made}
+use Rattle.registry_core.specs.Entries.{kept, outlives, passing}
+use Rattle.directory_judge.specs.History.{Withdrawing}
+use Rattle.directory_judge.specs.Making.{content, Stores, Withdraws, Sweeps}
+use Rattle.directory_state.specs.State.{State, stored, is_withdrawn, made}
 use Rattle.directory_state.specs.Folding.{Fold}
 use Rattle.directory_state.proofs.Accepting.{possible}
 use Rattle.directory_state.proofs.Folding.{Fold-made}
-use Rattle.directory_state.proofs.States.{passing-is, stored-is, same_state}
+use Rattle.registry_core.proofs.Lists.{passing-is}
+use Rattle.directory_state.proofs.States.{stored-is, same_state}
 use Rattle.directory_state.proofs.directory.Directory.apply.Goals as goal
 
 pub returns-in-Put-clause-made : goal.returns-in-Put-clause-made
@@ -34,6 +37,20 @@ returns-in-Sweep-clause-made g c =
     swept (ap (λ (s : State). s.rules) c.self.view_is) (ap (λ (s : State). s.site) c.self.view_is) c.now-self-inside-in-Sweep.ensures
     ∙ ap (λ x. made (content x) old) (sym c.in-Sweep.is)
 
+pub returns-in-Withdraw-clause-made : goal.returns-in-Withdraw-clause-made
+returns-in-Withdraw-clause-made g c =
+    let old = c.args.self.now in
+    let w : Withdrawing = record { url = (arc_value c.in-Withdraw.withdrawn).url; scopes = (arc_value c.in-Withdraw.withdrawn).scopes } in
+    let swept = passing-is (outlives c.in-Withdraw.moment) old.entries (g.R.Registry.contents c.sweep-in-Withdraw.new.self) (λ q.
+    c.sweep-in-Withdraw.ensures.each q ∙ ap (λ m. kept (outlives m) (fin.get (g.R.Registry.contents c.self.inside.registry) q)) c.from-in-Withdraw.ensures ∙ ap (λ (s : State). kept (outlives c.in-Withdraw.moment) (fin.get s.entries q)) c.self.view_is) in
+    let words : ◌≡◌ {A = Withdrawing} (record { url = c.deref.result.now.url; scopes = c.deref-in-Withdraw.result.now.scopes }) w =
+    λ i. record { url = (c.deref.ensures i).url; scopes = (c.deref-in-Withdraw.ensures i).scopes } in
+    let removed = passing-is (λ e. not (is_withdrawn w e)) (g.R.Registry.contents c.sweep-in-Withdraw.new.self) (g.R.Registry.contents c.remove_url.new.self) (λ q.
+    c.remove_url.ensures.each q ∙ ap (λ v. kept (λ e. not (is_withdrawn v e)) (fin.get (g.R.Registry.contents c.sweep-in-Withdraw.new.self) q)) words) in
+    same_state (made (Withdraws c.in-Withdraw.moment w) old) _ _ _ _
+    (removed ∙ ap (passing (λ e. not (is_withdrawn w e))) swept) (ap (λ (s : State). s.rules) c.self.view_is) (ap (λ (s : State). s.site) c.self.view_is) c.now-self-inside-in-Withdraw.ensures
+    ∙ ap (λ x. made (content x) old) (sym c.in-Withdraw.is)
+
 pub returns-in-Put-clause-fold : goal.returns-in-Put-clause-fold
 returns-in-Put-clause-fold g c = λ opening h event fold legal stands.
     let old = c.args.self.now in
@@ -43,3 +60,8 @@ pub returns-in-Sweep-clause-fold : goal.returns-in-Sweep-clause-fold
 returns-in-Sweep-clause-fold g c = λ opening h event fold legal stands.
     let old = c.args.self.now in
     subst (Fold opening old.site (event ∷ h)) (sym (returns-in-Sweep-clause-made g c)) (Fold-made opening old.site h (content c.args.change) event old fold legal.0 (possible opening old.site h event.moment event.act legal.1) stands)
+
+pub returns-in-Withdraw-clause-fold : goal.returns-in-Withdraw-clause-fold
+returns-in-Withdraw-clause-fold g c = λ opening h event fold legal stands.
+    let old = c.args.self.now in
+    subst (Fold opening old.site (event ∷ h)) (sym (returns-in-Withdraw-clause-made g c)) (Fold-made opening old.site h (content c.args.change) event old fold legal.0 (possible opening old.site h event.moment event.act legal.1) stands)

@@ -7,7 +7,7 @@ use Rattle.directory_judge.specs.Judging.{Judgement}
 use Rattle.directory_state.specs.Folding.{Fold}
 use Rattle.directory_state.specs.State.{State}
 use Rattle.directory_state.specs.Verdicts.{IsLegal, IsVerdict, IsJudgedAs}
-use Rattle.directory_state.proofs.Judged.{registry_of, judged_from, IfOk-more}
+use Rattle.directory_state.proofs.Judged.{judged_from, IfOk-more}
 use Rattle.directory_state.proofs.directory.Directory.judge.Goals as goal
 
 pub returns : goal.returns
@@ -18,5 +18,5 @@ returns g c =
     → IfOk c.judge_on.result (λ j. (v : Judgement) × IsVerdict opening x.site h c.args.moment c.args.asker c.args.message.now v × IsJudgedAs h j v) in
     subst G c.self.view_is (λ opening h fold legal.
     IfOk-more c.judge_on.result _ _
-    (λ j. judged_from opening h s fold legal c.args.moment c.args.asker c.args.message.now j c.now.result c.deref.result.now (c.now.ensures ∙ ap (λ (x : State). max c.args.moment x.clock) (sym c.self.view_is)) c.deref.ensures)
-    (c.judge_on.ensures (registry_of opening h s fold legal (g.R.Registry.limit inside.registry) c.self.invariant)))
+    (λ j. judged_from opening h s fold c.args.moment c.args.asker c.args.message.now j c.now.result c.deref.result.now (c.now.ensures ∙ ap (λ (x : State). max c.args.moment x.clock) (sym c.self.view_is)) c.deref.ensures)
+    c.judge_on.ensures)
