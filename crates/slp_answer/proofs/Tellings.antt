@@ -8,10 +8,10 @@ use Rattle.slp_wire.specs.declared.header.Header.{Header}
 use Rattle.slp_wire.specs.declared.message.Message.{Message}
 use Rattle.slp_wire.specs.declared.message.Message.TheVariants as message
 use Rattle.slp_wire.specs.declared.message.ServiceRequest.{ServiceRequest}
-use Rattle.access_rules.specs.declared.rule.Action.TheVariants.{Register}
+use Rattle.access_rules.specs.declared.rule.Action.{Action}
 use Rattle.access_rules.specs.declared.rule.Rule.{Rule as AnyRule}
 use Rattle.directory_judge.specs.History.{History, Event}
-use Rattle.directory_judge.specs.Judging.{Judgement, Accepts, Ignores, Denies, IsChange}
+use Rattle.directory_judge.specs.Judging.{Judgement, Accepts, Ignores, Waits, Denies, IsChange}
 use Rattle.directory_judge.specs.Meaning.{rules}
 use Rattle.directory_judge.specs.Sites.{Place}
 use Rattle.directory_judge.specs.declared.because.Because.{Because}
@@ -20,7 +20,7 @@ use Rattle.directory_judge.specs.declared.judged.Judged.{Judged}
 use Rattle.directory_judge.specs.declared.judged.Judged.TheVariants as judged
 use Rattle.directory_state.proofs.Histories.{legal_next}
 use Rattle.directory_state.specs.Verdicts.{IsLegal, IsVerdict, IsJudgedAs, next}
-use Rattle.slp_answer.specs.Answering.{Told, silence, faulted, telling, audit_of, coded, acknowledged, IsFoundOf, IsTold, Tells, RepliesTo, AcknowledgesTo}
+use Rattle.slp_answer.specs.Answering.{Told, silence, faulted, telling, audit_of, coded, acknowledged, action_asked, nobody, IsFoundOf, IsTold, Tells, RepliesTo, AcknowledgesTo}
 use Rattle.slp_answer.specs.Understanding.{may_change, request_of}
 use Rattle.slp_answer.specs.declared.answer.Sent.{Sent}
 use Rattle.slp_answer.specs.declared.answer.Sent.TheVariants as sent
@@ -65,7 +65,7 @@ module _ (opening : List AnyRule) (site : Place) (h : History) (m asker limit : 
   other-told (message.TypeReply header r) none still = (refl, refl)
   other-told (message.ServiceAdvert header a) none still = (refl, refl)
 
-  change-told : (x : Message) (v : Judgement) → IsChange x → IsVerdict opening site h m asker x v → IsTold opening site h m asker limit heading (Ok x) (acknowledged (rules opening h) asker (header_of x) v) (next h v)
+  change-told : (x : Message) (v : Judgement) → IsChange x → IsVerdict opening site h m asker x v → IsTold opening site h m asker limit heading (Ok x) (acknowledged (rules opening h) asker (action_asked x) (header_of x) v) (next h v)
   unfolding IsTold
   change-told (message.Registration header r) v is verdict = (v, verdict, refl, refl)
   change-told (message.ServiceRequest header q) v is verdict = absurd is
@@ -134,49 +134,63 @@ module _ (opening : List AnyRule) (site : Place) (h : History) (m asker : ℕ) (
   pub read-acknowledges : (read : Result Message WireFault) (x : Message) (what : Sent) (change : Option Change) (reply audit : List ℕ) → read ≡ Ok x → AcknowledgesTo opening site h m asker heading (Ok x) what change reply audit → AcknowledgesTo opening site h m asker heading read what change reply audit
   read-acknowledges read x what change reply audit is a = subst (λ (y : Result Message WireFault). AcknowledgesTo opening site h m asker heading y what change reply audit) (sym is) a
 
-  judged-told : (limit : ℕ) (x : Message) (v w : Judgement) → IsChange x → IsVerdict opening site h m asker x v → v ≡ w → IsTold opening site h m asker limit heading (Ok x) (acknowledged (rules opening h) asker (header_of x) w) (next h w)
-  judged-told limit x v w is verdict same = subst (λ (u : Judgement). IsTold opening site h m asker limit heading (Ok x) (acknowledged (rules opening h) asker (header_of x) u) (next h u)) same (change-told opening site h m asker limit heading x v is verdict)
+  judged-told : (limit : ℕ) (x : Message) (v w : Judgement) → IsChange x → IsVerdict opening site h m asker x v → v ≡ w → IsTold opening site h m asker limit heading (Ok x) (acknowledged (rules opening h) asker (action_asked x) (header_of x) w) (next h w)
+  judged-told limit x v w is verdict same = subst (λ (u : Judgement). IsTold opening site h m asker limit heading (Ok x) (acknowledged (rules opening h) asker (action_asked x) (header_of x) u) (next h u)) same (change-told opening site h m asker limit heading x v is verdict)
 
-  telling-tells : (rs : List AnyRule) (x : Message) (header : Header) (code : ℕ) (because : Because) (what : Sent) (reply audit : List ℕ) → rs ≡ rules opening h → header ≡ header_of x
-      → Tells (telling rs (audit_of asker Register code because) (coded 5 header code)) what reply audit → Tells (telling (rules opening h) (audit_of asker Register code because) (coded 5 (header_of x) code)) what reply audit
-  telling-tells rs x header code because what reply audit ruled same t =
-      subst (λ (g : Header). Tells (telling (rules opening h) (audit_of asker Register code because) (coded 5 g code)) what reply audit) same
-      (subst (λ (r : List AnyRule). Tells (telling r (audit_of asker Register code because) (coded 5 header code)) what reply audit) ruled t)
+  telling-tells : (rs : List AnyRule) (x : Message) (action : Action) (header : Header) (code : ℕ) (because : Because) (what : Sent) (reply audit : List ℕ) → rs ≡ rules opening h → action ≡ action_asked x → header ≡ header_of x
+      → Tells (telling rs (audit_of asker action code because) (coded 5 header code)) what reply audit → Tells (telling (rules opening h) (audit_of asker (action_asked x) code because) (coded 5 (header_of x) code)) what reply audit
+  telling-tells rs x action header code because what reply audit ruled asked same t =
+      subst (λ (g : Header). Tells (telling (rules opening h) (audit_of asker (action_asked x) code because) (coded 5 g code)) what reply audit) same
+      (subst (λ (a : Action). Tells (telling (rules opening h) (audit_of asker a code because) (coded 5 header code)) what reply audit) asked
+      (subst (λ (r : List AnyRule). Tells (telling r (audit_of asker action code because) (coded 5 header code)) what reply audit) ruled t))
 
-  pub accept-acknowledges : (x : Message) (j : Judged) (change : Change) (because : Because) (rs : List AnyRule) (header : Header) (what : Sent) (reply audit : List ℕ) → IsChange x → IsMessage x → IsLegal opening site h
-      → (v : Judgement) × IsVerdict opening site h m asker x v × IsJudgedAs h j v → j ≡ judged.Accept change because → rs ≡ rules opening h → header ≡ header_of x
-      → Tells (telling rs (audit_of asker Register 0 because) (coded 5 header 0)) what reply audit → AcknowledgesTo opening site h m asker heading (Ok x) what (Some change) reply audit
-  accept-acknowledges x j change because rs header what reply audit is sound legal verdict accepted ruled same t =
+  pub accept-acknowledges : (x : Message) (j : Judged) (change : Change) (because : Because) (rs : List AnyRule) (action : Action) (header : Header) (what : Sent) (reply audit : List ℕ) → IsChange x → IsMessage x → IsLegal opening site h
+      → (v : Judgement) × IsVerdict opening site h m asker x v × IsJudgedAs h j v → j ≡ judged.Accept change because → rs ≡ rules opening h → action ≡ action_asked x → header ≡ header_of x
+      → Tells (telling rs (audit_of asker action 0 because) (coded 5 header 0)) what reply audit → AcknowledgesTo opening site h m asker heading (Ok x) what (Some change) reply audit
+  accept-acknowledges x j change because rs action header what reply audit is sound legal verdict accepted ruled asked same t =
       let stands = subst (λ (k : Judged). IsJudgedAs h k verdict.0) accepted verdict.2 in
       record {
-        told = telling (rules opening h) (audit_of asker Register 0 because) (coded 5 (header_of x) 0);
+        told = telling (rules opening h) (audit_of asker (action_asked x) 0 because) (coded 5 (header_of x) 0);
         after = stands.0 ∷ h;
         is = λ limit. judged-told limit x verdict.0 (Accepts stands.0 because) is verdict.1 stands.1;
-        tells = telling-tells rs x header 0 because what reply audit ruled same t;
+        tells = telling-tells rs x action header 0 because what reply audit ruled asked same t;
         changed = (stands.0, refl, stands.2, subst (λ (u : Judgement). IsLegal opening site (next h u)) stands.1 (legal_next opening site h m asker x verdict.0 legal sound verdict.1));
       }
 
-  pub deny-acknowledges : (x : Message) (j : Judged) (code : ℕ) (because : Because) (rs : List AnyRule) (header : Header) (what : Sent) (reply audit : List ℕ) → IsChange x
-      → (v : Judgement) × IsVerdict opening site h m asker x v × IsJudgedAs h j v → j ≡ judged.Deny code because → rs ≡ rules opening h → header ≡ header_of x
-      → Tells (telling rs (audit_of asker Register code because) (coded 5 header code)) what reply audit → AcknowledgesTo opening site h m asker heading (Ok x) what None reply audit
-  deny-acknowledges x j code because rs header what reply audit is verdict denied ruled same t =
+  pub deny-acknowledges : (x : Message) (j : Judged) (code : ℕ) (because : Because) (rs : List AnyRule) (action : Action) (header : Header) (what : Sent) (reply audit : List ℕ) → IsChange x
+      → (v : Judgement) × IsVerdict opening site h m asker x v × IsJudgedAs h j v → j ≡ judged.Deny code because → rs ≡ rules opening h → action ≡ action_asked x → header ≡ header_of x
+      → Tells (telling rs (audit_of asker action code because) (coded 5 header code)) what reply audit → AcknowledgesTo opening site h m asker heading (Ok x) what None reply audit
+  deny-acknowledges x j code because rs action header what reply audit is verdict denied ruled asked same t =
       let stands = subst (λ (k : Judged). IsJudgedAs h k verdict.0) denied verdict.2 in
       record {
-        told = telling (rules opening h) (audit_of asker Register code because) (coded 5 (header_of x) code);
+        told = telling (rules opening h) (audit_of asker (action_asked x) code because) (coded 5 (header_of x) code);
         after = h;
         is = λ limit. judged-told limit x verdict.0 (Denies code because) is verdict.1 stands;
-        tells = telling-tells rs x header code because what reply audit ruled same t;
+        tells = telling-tells rs x action header code because what reply audit ruled asked same t;
         changed = refl;
       }
 
-  pub nothing-acknowledges : (x : Message) (j : Judged) (reply audit : List ℕ) → IsChange x → (v : Judgement) × IsVerdict opening site h m asker x v × IsJudgedAs h j v → j ≡ judged.Nothing → reply ≡ [] → audit ≡ []
-      → AcknowledgesTo opening site h m asker heading (Ok x) sent.Silence None reply audit
-  nothing-acknowledges x j reply audit is verdict nothing r a =
+  pub nothing-acknowledges : (x : Message) (j : Judged) (rs : List AnyRule) (action : Action) (header : Header) (what : Sent) (reply audit : List ℕ) → IsChange x
+      → (v : Judgement) × IsVerdict opening site h m asker x v × IsJudgedAs h j v → j ≡ judged.Nothing → rs ≡ rules opening h → action ≡ action_asked x → header ≡ header_of x
+      → Tells (telling rs (audit_of asker action 0 nobody) (coded 5 header 0)) what reply audit → AcknowledgesTo opening site h m asker heading (Ok x) what None reply audit
+  nothing-acknowledges x j rs action header what reply audit is verdict nothing ruled asked same t =
       let stands = subst (λ (k : Judged). IsJudgedAs h k verdict.0) nothing verdict.2 in
+      record {
+        told = telling (rules opening h) (audit_of asker (action_asked x) 0 nobody) (coded 5 (header_of x) 0);
+        after = h;
+        is = λ limit. judged-told limit x verdict.0 Ignores is verdict.1 stands;
+        tells = telling-tells rs x action header 0 nobody what reply audit ruled asked same t;
+        changed = refl;
+      }
+
+  pub unjudged-acknowledges : (x : Message) (j : Judged) (reply audit : List ℕ) → IsChange x → (v : Judgement) × IsVerdict opening site h m asker x v × IsJudgedAs h j v → j ≡ judged.Unjudged → reply ≡ [] → audit ≡ []
+      → AcknowledgesTo opening site h m asker heading (Ok x) sent.Silence None reply audit
+  unjudged-acknowledges x j reply audit is verdict unjudged r a =
+      let stands = subst (λ (k : Judged). IsJudgedAs h k verdict.0) unjudged verdict.2 in
       record {
         told = silence;
         after = h;
-        is = λ limit. judged-told limit x verdict.0 Ignores is verdict.1 stands;
+        is = λ limit. judged-told limit x verdict.0 Waits is verdict.1 stands;
         tells = silence-tells reply audit r a;
         changed = refl;
       }

@@ -1,6 +1,7 @@
 -- What is answered to bytes that come in, and what they change.
 use Rattle.std.specs.Prelude.{◌≡◌, ◌≤◌, ◌⊎◌, ℕ, Bool, false, not, ◌==◌, ◌&&◌, ◌||◌, List, [], ◌∷◌, length, codes, Option, Some, None, Result, Ok, Err, if◌then◌else◌, MatchOption, IsTrue}
 use Rattle.std.specs.Option.{option_map_or}
+use Rattle.std.specs.Result.{result_ok}
 use Rattle.std.specs.List.{list_any}
 use Rattle.slp_text.specs.Key.{key_of}
 use Rattle.slp_text.specs.Scopes.{scopes_of}
@@ -18,10 +19,10 @@ use Rattle.slp_wire.specs.declared.message.UrlEntry.{UrlEntry}
 use Rattle.service_url.specs.Types.{type_of}
 use Rattle.service_url.specs.declared.fault.UrlFault.{UrlFault}
 use Rattle.access_rules.specs.declared.rule.Action.{Action}
-use Rattle.access_rules.specs.declared.rule.Action.TheVariants.{Register, See}
+use Rattle.access_rules.specs.declared.rule.Action.TheVariants.{Register, Withdraw, See}
 use Rattle.access_rules.specs.declared.rule.Rule.{Rule as AnyRule}
 use Rattle.directory_judge.specs.History.{History, Event}
-use Rattle.directory_judge.specs.Judging.{Judgement, Accepts, Ignores, Denies, agent_type, by_step, supports}
+use Rattle.directory_judge.specs.Judging.{Judgement, Accepts, Ignores, Denies, Waits, agent_type, by_step, supports}
 use Rattle.directory_judge.specs.Meaning.{rules}
 use Rattle.directory_judge.specs.Sites.{Place}
 use Rattle.directory_judge.specs.declared.because.Because.{Because}
@@ -33,6 +34,8 @@ use Rattle.directory_state.specs.declared.query.ServiceQuery.{ServiceQuery}
 use Rattle.directory_judge.specs.Making.{content}
 use Rattle.directory_judge.specs.declared.change.Change.{Change}
 use Rattle.directory_state.specs.Folding.{StandsFor}
+use Rattle.slp_answer.specs.declared.asking.Question.{Question}
+use Rattle.slp_answer.specs.declared.asking.Question.TheVariants.{Silent, Unreadable, Asks}
 use Rattle.slp_answer.specs.declared.answer.Sent.{Sent}
 use Rattle.slp_answer.specs.declared.answer.Sent.TheVariants as sent
 use Rattle.slp_answer.specs.Auditing.{audit_text}
@@ -52,17 +55,27 @@ is_change_of bytes = option_map_or (λ h. h.function == 3 || h.function == 4) (h
 abbrev pub other_agent_type : List ℕ
 other_agent_type = codes "service:service-agent"
 
-abbrev pub query_as : Header → Result (List ℕ) UrlFault → Result (List (List ℕ)) TextFault → Option ServiceQuery
-query_as h (Ok kind) (Ok scopes) =
-    if bytes_eq kind agent_type || bytes_eq kind other_agent_type then None
-    else Some (record { kind = kind; scopes = scopes; language = key_of h.language })
-query_as h (Ok kind) (Err e) = None
-query_as h (Err e) scopes = None
+abbrev pub is_of_type : List ℕ → Option (List ℕ) → Bool
+is_of_type named (Some kind) = bytes_eq kind named
+is_of_type named None = false
 
--- The question of a request: sent to one, with no responders and no predicate, of a type and in scopes that are read. To any other nothing is answered yet.
-abbrev pub query_of : Header → ServiceRequest → Option ServiceQuery
-query_of h q =
-    if not h.flags.multicast && length q.responders == 0 && is_blank q.predicate then query_as h (type_of q.kind) (scopes_of q.scopes) else None
+-- requests to which nothing is answered yet: those sent to many, with responders or a predicate, and those for directory agents
+abbrev pub is_unanswered : Header → ServiceRequest → Bool
+is_unanswered h q =
+    h.flags.multicast || not (length q.responders == 0) || not (is_blank q.predicate) || is_of_type agent_type (result_ok (type_of q.kind))
+
+-- by the scopes that are read, if they are
+abbrev pub asked_in : Header → List ℕ → Option (List (List ℕ)) → Question
+asked_in h kind None = Unreadable
+asked_in h kind (Some scopes) = Asks (record { kind = kind; scopes = scopes; language = key_of h.language })
+
+-- by the type that is read, if it is
+abbrev pub asked_as : Header → Option (List ℕ) → Option (List (List ℕ)) → Question
+asked_as h None scopes = Unreadable
+asked_as h (Some kind) scopes = if bytes_eq kind other_agent_type then Silent else asked_in h kind scopes
+
+abbrev pub question_of : Header → ServiceRequest → Question
+question_of h q = if is_unanswered h q then Silent else asked_as h (result_ok (type_of q.kind)) (result_ok (scopes_of q.scopes))
 
 -- ---- what is answered: the bytes of the reply and of the audit line, and the code, if anything is sent
 
@@ -86,10 +99,29 @@ telling rs audit reply = record { reply = reply; audit = audit_text rs audit; co
 abbrev pub coded : ℕ → Header → ℕ → List ℕ
 coded function h code = refusal_bytes function code h.xid h.language
 
-abbrev pub acknowledged : List AnyRule → ℕ → Header → Judgement → Told
-acknowledged rs asker h (Accepts c because) = telling rs (audit_of asker Register 0 because) (coded 5 h 0)
-acknowledged rs asker h Ignores = silence
-acknowledged rs asker h (Denies code because) = telling rs (audit_of asker Register code because) (coded 5 h code)
+-- what a message that may change something asks for
+abbrev pub action_asked : Message → Action
+action_asked (message.Withdrawal h w) = Withdraw
+action_asked (message.Registration h r) = Register
+action_asked (message.ServiceRequest h q) = Register
+action_asked (message.ServiceReply h r) = Register
+action_asked (message.Acknowledgement h code) = Register
+action_asked (message.AttributeRequest h q) = Register
+action_asked (message.AttributeReply h r) = Register
+action_asked (message.DirectoryAdvert h a) = Register
+action_asked (message.TypeRequest h q) = Register
+action_asked (message.TypeReply h r) = Register
+action_asked (message.ServiceAdvert h a) = Register
+
+-- why nothing is changed, and no one had to decide
+abbrev pub nobody : Because
+nobody = by_step decider.Nobody None
+
+abbrev pub acknowledged : List AnyRule → ℕ → Action → Header → Judgement → Told
+acknowledged rs asker action h (Accepts c because) = telling rs (audit_of asker action 0 because) (coded 5 h 0)
+acknowledged rs asker action h Ignores = telling rs (audit_of asker action 0 nobody) (coded 5 h 0)
+acknowledged rs asker action h (Denies code because) = telling rs (audit_of asker action code because) (coded 5 h code)
+acknowledged rs asker action h Waits = silence
 
 -- ---- bytes that are no message that is read
 
@@ -140,17 +172,27 @@ pub data IsFound (opening : List AnyRule) (site : Place) (h : History) (m asker 
       → (reply : List ℕ) → IsCut sent items limit reply
       → t ≡ telling (rules opening h) (found_audit asker q) reply → IsFound opening site h m asker limit sent q t
 
+-- why a request is not read
+abbrev pub unreadable_audit : ℕ → Audit
+unreadable_audit asker = audit_of asker See 2 (by_step decider.Parse None)
+
+-- what is told of what is asked
+abbrev pub IsToldOf : List AnyRule → Place → History → ℕ → ℕ → ℕ → Header → Question → Told → Type 0
+IsToldOf opening site h m asker limit header Silent t = t ≡ silence
+IsToldOf opening site h m asker limit header Unreadable t = t ≡ telling (rules opening h) (unreadable_audit asker) (coded 2 header 2)
+IsToldOf opening site h m asker limit header (Asks query) t = IsFound opening site h m asker limit header query t
+
 -- what is told of a service request
 abbrev pub IsFoundOf : List AnyRule → Place → History → ℕ → ℕ → ℕ → Header → ServiceRequest → Told → Type 0
-IsFoundOf opening site h m asker limit header q t = MatchOption (query_of header q) (t ≡ silence) (λ query. IsFound opening site h m asker limit header query t)
+IsFoundOf opening site h m asker limit header q t = IsToldOf opening site h m asker limit header (question_of header q) t
 
 -- what is told of a message, and the history after it
 unfoldable pub IsTold : List AnyRule → Place → History → ℕ → ℕ → ℕ → Option Heading → Result Message WireFault → Told → History → Type 0
 IsTold opening site h m asker limit heading (Ok (message.ServiceRequest header q)) t after = (after ≡ h) × IsFoundOf opening site h m asker limit header q t
 IsTold opening site h m asker limit heading (Ok (message.Registration header r)) t after =
-    (v : Judgement) × IsVerdict opening site h m asker (message.Registration header r) v × (t ≡ acknowledged (rules opening h) asker header v) × (after ≡ next h v)
+    (v : Judgement) × IsVerdict opening site h m asker (message.Registration header r) v × (t ≡ acknowledged (rules opening h) asker Register header v) × (after ≡ next h v)
 IsTold opening site h m asker limit heading (Ok (message.Withdrawal header w)) t after =
-    (v : Judgement) × IsVerdict opening site h m asker (message.Withdrawal header w) v × (t ≡ acknowledged (rules opening h) asker header v) × (after ≡ next h v)
+    (v : Judgement) × IsVerdict opening site h m asker (message.Withdrawal header w) v × (t ≡ acknowledged (rules opening h) asker Withdraw header v) × (after ≡ next h v)
 IsTold opening site h m asker limit heading (Ok (message.ServiceReply header r)) t after = (t ≡ silence) × (after ≡ h)
 IsTold opening site h m asker limit heading (Ok (message.AttributeRequest header q)) t after = (t ≡ silence) × (after ≡ h)
 IsTold opening site h m asker limit heading (Ok (message.AttributeReply header r)) t after = (t ≡ silence) × (after ≡ h)

@@ -2,11 +2,13 @@
 use Rattle.std.specs.Prelude.{ℕ, ◌/◌, ◌%◌, ◌==◌, List, [], ◌∷◌, ◌++◌, codes, slice_get, Option, Some, None, if◌then◌else◌}
 use Rattle.std.specs.Fmt.{decimal}
 use Rattle.std.specs.Option.{option_map_or}
+use Rattle.slp_text.specs.Escapes.{escaped}
+use Rattle.slp_text.specs.declared.escapes.Place.TheVariants.{Scope}
 use Rattle.access_rules.specs.declared.rule.Action.{Action}
 use Rattle.access_rules.specs.declared.rule.Action.TheVariants.{Register, Withdraw, See}
 use Rattle.access_rules.specs.declared.rule.Rule.{Rule as AnyRule}
 use Rattle.directory_judge.specs.declared.because.Decider.{Decider}
-use Rattle.directory_judge.specs.declared.because.Decider.TheVariants.{Rule, Default, Nobody, Memory, Version, Parse, Auth, Scope, Language, Registration, Attributes, Update, Template, Full}
+use Rattle.directory_judge.specs.declared.because.Decider.TheVariants.{Rule, Default, Nobody, Memory, Version, Parse, Auth, Language, Registration, Attributes, Update, Template, Full}
 use Rattle.directory_judge.specs.declared.because.Decider.TheVariants as decider
 use Rattle.slp_answer.specs.declared.audit.Audit.{Audit}
 
@@ -23,7 +25,7 @@ decider_text rules Version = codes "version"
 decider_text rules Parse = codes "parse"
 decider_text rules Auth = codes "auth"
 decider_text rules decider.Option = codes "option"
-decider_text rules Scope = codes "scope"
+decider_text rules decider.Scope = codes "scope"
 decider_text rules Language = codes "language"
 decider_text rules Registration = codes "registration"
 decider_text rules Attributes = codes "attributes"
@@ -45,6 +47,11 @@ abbrev pub text_or_dash : Option (List ℕ) → List ℕ
 text_or_dash None = codes "-"
 text_or_dash (Some text) = text
 
+-- a scope with its escapes, or a dash
+abbrev pub scope_or_dash : Option (List ℕ) → List ℕ
+scope_or_dash None = codes "-"
+scope_or_dash (Some scope) = escaped Scope scope
+
 -- the whole line
 unfoldable pub audit_text : List AnyRule → Audit → List ℕ
 audit_text rules a =
@@ -53,4 +60,4 @@ audit_text rules a =
     ++ codes " action=" ++ action_text a.action
     ++ codes " asker=" ++ addr_text a.asker
     ++ codes " type=" ++ text_or_dash a.because.kind
-    ++ codes " scope=" ++ text_or_dash a.because.scope ++ 10 ∷ []
+    ++ codes " scope=" ++ scope_or_dash a.because.scope ++ 10 ∷ []

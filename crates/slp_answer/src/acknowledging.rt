@@ -1,13 +1,12 @@
 ghost use Rattle.std.specs.Prelude.{◌≡◌, [], true, List, Option, IfOk, OnErr};
 ghost use Rattle.slp_wire.specs.Headers.{Heading};
 ghost use Rattle.slp_wire.specs.Messages.{IsMessage, header_of};
-ghost use Rattle.access_rules.specs.declared.rule.Action.TheVariants.{Register};
 ghost use Rattle.access_rules.specs.declared.rule.Rule.{Rule as AnyRule};
 ghost use Rattle.directory_judge.specs.History.{History};
 ghost use Rattle.directory_judge.specs.Judging.{IsChange};
 ghost use Rattle.directory_state.specs.Folding.{Fold};
 ghost use Rattle.directory_state.specs.Verdicts.{IsLegal};
-ghost use Rattle.slp_answer.specs.Answering.{is_change_of, Tells, telling, audit_of, coded, AcknowledgesTo, Acknowledges};
+ghost use Rattle.slp_answer.specs.Answering.{is_change_of, action_asked, Tells, telling, audit_of, coded, AcknowledgesTo, Acknowledges};
 ghost use Rattle.std.specs.Prelude.{Ok as Read};
 
 use crate::answer::{Answer, Sent};
@@ -16,7 +15,7 @@ use crate::faulting::answer_fault;
 use crate::sending::{reply_header, send};
 use crate::understanding::understood;
 use access_rules::{Action, Addr};
-use directory_judge::{Because, Change, Judged};
+use directory_judge::{Because, Change, Decider, Judged};
 use directory_state::Directory;
 use registry_core::Registry;
 use slp_text::NoMemory;
@@ -26,6 +25,7 @@ use std::alloc::Global;
 fn acknowledge_with<R: Registry>(
     directory: &Directory<R>,
     asker: Addr,
+    action: Action,
     header: Header,
     code: u16,
     because: Because,
@@ -33,16 +33,26 @@ fn acknowledge_with<R: Registry>(
 ) -> Result<Sent, NoMemory>
     requires no_reply { answer.old.bytes.items ≡ [] }
     requires no_line { answer.old.audit.items ≡ [] }
-    ensures { IfOk result (λ what. Tells (telling directory.now.rules (audit_of asker Register code because) (coded 5 header code)) what answer.new.bytes.items answer.new.audit.items) }
+    ensures { IfOk result (λ what. Tells (telling directory.now.rules (audit_of asker action code because) (coded 5 header code)) what answer.new.bytes.items answer.new.audit.items) }
 {
     let message = Message::Acknowledgement(reply_header(header, false), code);
     let audit = Audit {
         code,
         because,
-        action: Action::Register,
+        action,
         asker,
     };
     send(directory.rules(), &message, &audit, answer)
+}
+
+// What a message asks for: a withdrawal, or a registration.
+fn action_in(message: &Message) -> Action
+    ensures { result ≡ action_asked message.now }
+{
+    match message {
+        Message::Withdrawal(_, _) => Action::Withdraw,
+        _ => Action::Register,
+    }
 }
 
 // The header of a message.
@@ -80,15 +90,25 @@ fn acknowledge_message<R: Registry>(
         → (heading : Option Heading) → IfOk result (λ r. AcknowledgesTo opening directory.now.site h moment asker heading (Read message) r.0 r.1 answer.new.bytes.items answer.new.audit.items) }
 {
     let judged = directory.judge(alloc, moment, asker, &message)?;
+    let action = action_in(&message);
     let header = into_header(message);
     match judged {
         Judged::Accept(change, because) => {
-            let sent = acknowledge_with(directory, asker, header, 0, because, answer)?;
+            let sent = acknowledge_with(directory, asker, action, header, 0, because, answer)?;
             Ok((sent, Some(change)))
         }
-        Judged::Nothing => Ok((Sent::Silence, None)),
+        Judged::Nothing => {
+            let nobody = Because {
+                decider: Decider::Nobody,
+                kind: None,
+                scope: None,
+            };
+            let sent = acknowledge_with(directory, asker, action, header, 0, nobody, answer)?;
+            Ok((sent, None))
+        }
+        Judged::Unjudged => Ok((Sent::Silence, None)),
         Judged::Deny(code, because) => {
-            let sent = acknowledge_with(directory, asker, header, code, because, answer)?;
+            let sent = acknowledge_with(directory, asker, action, header, code, because, answer)?;
             Ok((sent, None))
         }
     }

@@ -1,10 +1,12 @@
 ghost use Rattle.std.specs.Prelude.{◌≡◌, ◌<◌, ◌+◌, ◌++◌, ◌∷◌, [], ◌==◌, OnOk, OnErr, length, take, codes, if◌then◌else◌};
 ghost use Rattle.std.specs.Fmt.{decimal};
-ghost use Rattle.slp_answer.specs.Auditing.{addr_text, action_text, decider_text, name_at, text_or_dash, audit_text};
+ghost use Rattle.slp_answer.specs.Auditing.{addr_text, action_text, decider_text, name_at, text_or_dash, scope_or_dash, audit_text};
+ghost use Rattle.slp_text.specs.Escapes.{written_at, escaped};
+ghost use Rattle.slp_text.specs.declared.escapes.Place.TheVariants.{Scope};
 
 use access_rules::{Action, Addr, Rules};
 use directory_judge::{Because, Decider};
-use slp_text::NoMemory;
+use slp_text::{NoMemory, Place, is_reserved};
 
 /// What came of a message: its code, who decided and on what, what was asked for, and by whom.
 #[derive(Debug, Drop)]
@@ -148,18 +150,42 @@ fn put_kind(line: &mut Vec<u8>, because: &Because) -> Result<(), NoMemory>
     }
 }
 
+// A byte of a scope, as it is written in lists of scopes.
+fn put_byte(line: &mut Vec<u8>, byte: u8) -> Result<(), NoMemory>
+    ensures ok { OnOk result (line.new.items ≡ line.old.items ++ written_at Scope byte) }
+    ensures kept { take (length line.old.items) line.new.items ≡ line.old.items }
+{
+    if is_reserved(Place::Scope, char::from(byte)) {
+        let digits = b"0123456789ABCDEF";
+        line.extend_from_slice(&[b'\\', digits[usize::from(byte / 16)], digits[usize::from(byte % 16)]])?;
+    } else {
+        line.extend_from_slice(&[byte])?;
+    }
+    Ok(())
+}
+
+fn put_escaped(line: &mut Vec<u8>, scope: &[u8]) -> Result<(), NoMemory>
+    ensures ok { OnOk result (line.new.items ≡ line.old.items ++ escaped Scope scope.now) }
+    ensures kept { take (length line.old.items) line.new.items ≡ line.old.items }
+{
+    for byte in scope {
+        put_byte(line, *byte)?;
+    }
+    Ok(())
+}
+
 fn put_scope(line: &mut Vec<u8>, because: &Because) -> Result<(), NoMemory>
-    ensures ok { OnOk result (line.new.items ≡ line.old.items ++ text_or_dash because.now.scope) }
+    ensures ok { OnOk result (line.new.items ≡ line.old.items ++ scope_or_dash because.now.scope) }
     ensures kept { take (length line.old.items) line.new.items ≡ line.old.items }
 {
     match &because.scope {
-        Some(scope) => put(line, scope.as_str()),
+        Some(scope) => put_escaped(line, scope.as_str().as_bytes()),
         None => put(line, "-"),
     }
 }
 
 fn put_parts(line: &mut Vec<u8>, because: &Because) -> Result<(), NoMemory>
-    ensures ok { OnOk result (line.new.items ≡ line.old.items ++ (codes " type=" ++ text_or_dash because.now.kind ++ codes " scope=" ++ text_or_dash because.now.scope ++ 10 ∷ [])) }
+    ensures ok { OnOk result (line.new.items ≡ line.old.items ++ (codes " type=" ++ text_or_dash because.now.kind ++ codes " scope=" ++ scope_or_dash because.now.scope ++ 10 ∷ [])) }
     ensures kept { take (length line.old.items) line.new.items ≡ line.old.items }
 {
     put(line, " type=")?;

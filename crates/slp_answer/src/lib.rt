@@ -3,6 +3,7 @@
 
 mod acknowledging;
 mod answer;
+mod asking;
 mod audit;
 mod cutting;
 mod faulting;

@@ -1,4 +1,4 @@
-ghost use Rattle.std.specs.Prelude.{◌≡◌, ◌≤◌, [], false, ℕ, List, Some, IfOk, OnErr};
+ghost use Rattle.std.specs.Prelude.{◌≡◌, ◌<◌, ◌≤◌, [], false, ℕ, List, Some, IfOk, OnErr};
 ghost use Rattle.access_rules.specs.declared.rule.Action.TheVariants.{See};
 ghost use Rattle.access_rules.specs.declared.rule.Rule.{Rule as AnyRule};
 ghost use Rattle.directory_judge.specs.History.{History};
@@ -6,77 +6,34 @@ ghost use Rattle.directory_judge.specs.Judging.{by_step};
 ghost use Rattle.directory_judge.specs.declared.because.Decider.TheVariants as decider;
 ghost use Rattle.directory_state.specs.Folding.{Fold};
 ghost use Rattle.directory_state.specs.Verdicts.{IsLegal};
-ghost use Rattle.slp_answer.specs.Answering.{is_change_of, query_of, Told, Tells, telling, audit_of, coded, IsFoundOf, Replies};
+ghost use Rattle.slp_answer.specs.Answering.{is_change_of, Told, Tells, telling, audit_of, coded, IsFoundOf, Replies};
 ghost use Rattle.slp_answer.specs.Cutting.{IsCut};
 
 use crate::answer::{Answer, Sent};
 use crate::audit::Audit;
 use crate::cutting::fitting;
 use crate::faulting::answer_fault;
+use crate::asking::{Question, read_question};
 use crate::sending::{reply_header, send};
 use crate::understanding::{into_request, understood};
 use access_rules::{Action, Addr};
 use directory_judge::{Because, Decider};
 use directory_state::{Directory, QueryFault, ServiceQuery};
 use registry_core::Registry;
-use service_url::{ServiceType, UrlFault};
-use slp_text::{NoMemory, Row, ScopeList, TextFault, is_blank, key};
+use service_url::ServiceType;
+use slp_text::{NoMemory, Row};
 use slp_wire::{ErrorCode, Header, Message, ServiceReply, ServiceRequest, UrlEntry};
 use std::alloc::Global;
 
-/// The type for which a directory agent is asked for itself.
-const AGENT_TYPE: &str = "service:directory-agent";
-
-/// The type that only service agents answer for.
-const OTHER_AGENT_TYPE: &str = "service:service-agent";
-
-// The question of a request, where such a one is answered so far: sent to one agent, with no
-// responders and no predicate, of a type and in scopes that are read.
-fn read_query(
-    alloc: Global,
-    header: &Header,
-    request: &ServiceRequest,
-) -> Result<Option<ServiceQuery>, NoMemory>
-    ensures { IfOk result (λ q. q ≡ query_of header.now request.now) }
-{
-    if header.flags.multicast
-        || !request.responders.as_str().is_empty()
-        || !is_blank(request.predicate.as_str())
-    {
-        return Ok(None);
-    }
-    let kind = match ServiceType::parse(alloc, request.kind.as_str()) {
-        Ok(kind) => kind,
-        Err(UrlFault::NoMemory) => return Err(NoMemory),
-        Err(_) => return Ok(None),
-    };
-    let scopes = match ScopeList::parse(alloc, request.scopes.as_str()) {
-        Ok(scopes) => scopes,
-        Err(TextFault::NoMemory) => return Err(NoMemory),
-        Err(_) => return Ok(None),
-    };
-    if kind.text() == AGENT_TYPE || kind.text() == OTHER_AGENT_TYPE {
-        return Ok(None);
-    }
-    match key(alloc, header.language.as_str()) {
-        Ok(language) => Ok(Some(ServiceQuery {
-            kind,
-            scopes,
-            language,
-        })),
-        Err(_) => Err(NoMemory),
-    }
-}
-
-// What is told of a question about services of a type.
-fn seen(asker: Addr, code: u16, decider: Decider, kind: ServiceType) -> Audit
-    ensures { result ≡ audit_of asker See code (by_step decider (Some kind)) }
+// What is told of a question, of which a type may be known.
+fn seen(asker: Addr, code: u16, decider: Decider, kind: Option<ServiceType>) -> Audit
+    ensures { result ≡ audit_of asker See code (by_step decider kind) }
 {
     Audit {
         code,
         because: Because {
             decider,
-            kind: Some(kind),
+            kind,
             scope: None,
         },
         action: Action::See,
@@ -104,25 +61,24 @@ fn answer_found<R: Registry>(
     items.truncate(count);
     let reply = ServiceReply::Found(Row::wrap(items));
     let message = Message::ServiceReply(reply_header(header, overflow), reply);
-    let audit = seen(asker, 0, Decider::Nobody, kind);
+    let audit = seen(asker, 0, Decider::Nobody, Some(kind));
     send(directory.rules(), &message, &audit, answer)
 }
 
-fn answer_refused<R: Registry>(
+fn answer_code<R: Registry>(
     directory: &Directory<R>,
-    asker: Addr,
     header: Header,
-    kind: ServiceType,
+    audit: &Audit,
     answer: &mut Answer,
 ) -> Result<Sent, NoMemory>
+    requires coded { 0 < audit.now.code }
     requires no_reply { answer.old.bytes.items ≡ [] }
     requires no_line { answer.old.audit.items ≡ [] }
-    ensures { IfOk result (λ what. Tells (telling directory.now.rules (audit_of asker See 4 (by_step decider.Scope (Some kind))) (coded 2 header 4)) what answer.new.bytes.items answer.new.audit.items) }
+    ensures { IfOk result (λ what. Tells (telling directory.now.rules audit.now (coded 2 header audit.now.code)) what answer.new.bytes.items answer.new.audit.items) }
 {
-    let reply = ServiceReply::Refused(ErrorCode::new(4));
+    let reply = ServiceReply::Refused(ErrorCode::new(audit.code));
     let message = Message::ServiceReply(reply_header(header, false), reply);
-    let audit = seen(asker, 4, Decider::Scope, kind);
-    send(directory.rules(), &message, &audit, answer)
+    send(directory.rules(), &message, audit, answer)
 }
 
 fn answer_request<R: Registry>(
@@ -141,8 +97,13 @@ fn answer_request<R: Registry>(
     ensures { (opening : List AnyRule) (h : History) → Fold opening directory.now.site h directory.now → IsLegal opening directory.now.site h
         → IfOk result (λ what. (t : Told) × IsFoundOf opening directory.now.site h moment asker limit header request.now t × Tells t what answer.new.bytes.items answer.new.audit.items) }
 {
-    let Some(query) = read_query(alloc, &header, request)? else {
-        return Ok(Sent::Silence);
+    let query = match read_question(alloc, &header, request)? {
+        Question::Silent => return Ok(Sent::Silence),
+        Question::Unreadable => {
+            let audit = seen(asker, 2, Decider::Parse, None);
+            return answer_code(directory, header, &audit, answer);
+        }
+        Question::Asks(query) => query,
     };
     let found = directory.services(alloc, moment, asker, &query);
     let ServiceQuery {
@@ -152,7 +113,10 @@ fn answer_request<R: Registry>(
     } = query;
     match found {
         Ok(items) => answer_found(directory, asker, header, kind, items, limit, answer),
-        Err(QueryFault::Scope) => answer_refused(directory, asker, header, kind, answer),
+        Err(QueryFault::Scope) => {
+            let audit = seen(asker, 4, Decider::Scope, Some(kind));
+            answer_code(directory, header, &audit, answer)
+        }
         Err(_) => Err(NoMemory),
     }
 }

@@ -1,0 +1,101 @@
+ghost use Rattle.std.specs.Prelude.{◌≡◌, ◌==◌, ◌||◌, not, length, IfOk};
+ghost use Rattle.std.specs.Option.{option_copied};
+ghost use Rattle.std.specs.Result.{result_ok};
+ghost use Rattle.directory_judge.specs.Judging.{agent_type};
+ghost use Rattle.slp_text.specs.Scopes.{scopes_of};
+ghost use Rattle.slp_text.specs.Words.{is_blank as is_blank_text};
+ghost use Rattle.service_url.specs.Types.{type_of};
+ghost use Rattle.slp_answer.specs.Answering.{is_of_type, question_of};
+
+use directory_state::ServiceQuery;
+use service_url::{ServiceType, UrlFault};
+use slp_text::{NoMemory, ScopeList, TextFault, is_blank, key};
+use slp_wire::{Header, ServiceRequest};
+use std::alloc::Global;
+
+/// What a service request asks.
+#[derive(Debug, Drop)]
+pub enum Question {
+    /// Nothing that a directory answers.
+    Silent,
+    /// Its type or its scopes are not read.
+    Unreadable,
+    Asks(ServiceQuery),
+}
+
+/// The type for which a directory agent is asked for itself.
+const AGENT_TYPE: &str = "service:directory-agent";
+
+/// The type that only service agents answer for.
+const OTHER_AGENT_TYPE: &str = "service:service-agent";
+
+fn read_kind(alloc: Global, text: &str) -> Result<Option<ServiceType>, NoMemory>
+    ensures { IfOk result (λ k. k ≡ result_ok (type_of text.now)) }
+{
+    match ServiceType::parse(alloc, text) {
+        Ok(kind) => Ok(Some(kind)),
+        Err(UrlFault::NoMemory) => Err(NoMemory),
+        Err(_) => Ok(None),
+    }
+}
+
+fn read_scopes(alloc: Global, text: &str) -> Result<Option<ScopeList>, NoMemory>
+    ensures { IfOk result (λ l. l ≡ result_ok (scopes_of text.now)) }
+{
+    match ScopeList::parse(alloc, text) {
+        Ok(scopes) => Ok(Some(scopes)),
+        Err(TextFault::NoMemory) => Err(NoMemory),
+        Err(_) => Ok(None),
+    }
+}
+
+// Whether a type is that of a directory agent.
+fn is_agent(kind: Option<&ServiceType>) -> bool
+    ensures { result ≡ is_of_type agent_type (option_copied kind.entry) }
+{
+    match kind {
+        Some(kind) => kind.text() == AGENT_TYPE,
+        None => false,
+    }
+}
+
+/// What a service request asks. Requests that are sent to many, that name responders or have a
+/// predicate, and those for directory agents are not answered yet.
+pub fn read_question(
+    alloc: Global,
+    header: &Header,
+    request: &ServiceRequest,
+) -> Result<Question, NoMemory>
+    ensures { IfOk result (λ q. q ≡ question_of header.now request.now) }
+{
+    let kind = read_kind(alloc, request.kind.as_str())?;
+    if is_odd(header, request) || is_agent(kind.as_ref()) {
+        return Ok(Question::Silent);
+    }
+    let Some(kind) = kind else {
+        return Ok(Question::Unreadable);
+    };
+    if kind.text() == OTHER_AGENT_TYPE {
+        return Ok(Question::Silent);
+    }
+    let Some(scopes) = read_scopes(alloc, request.scopes.as_str())? else {
+        return Ok(Question::Unreadable);
+    };
+    match key(alloc, header.language.as_str()) {
+        Ok(language) => Ok(Question::Asks(ServiceQuery {
+            kind,
+            scopes,
+            language,
+        })),
+        Err(_) => Err(NoMemory),
+    }
+}
+
+// Whether a request is sent to many, or names responders or has a predicate.
+fn is_odd(header: &Header, request: &ServiceRequest) -> bool
+    ensures { result ≡ (header.now.flags.multicast || not (length request.now.responders == 0) || not (is_blank_text request.now.predicate)) }
+{
+    header.flags.multicast
+        || !request.responders.as_str().is_empty()
+        || !is_blank(request.predicate.as_str())
+}
