@@ -1,11 +1,12 @@
 pub mod OneByOne
 pub mod Unique
-pub mod Addresses
 pub mod Known
+pub mod Kept
 pub mod Standing
 pub mod Stood
 pub mod Pieces
 pub mod Reading
 pub mod Taking
+pub mod Renewed
 pub mod Turning
 pub mod Streams

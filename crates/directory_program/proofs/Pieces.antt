@@ -4,12 +4,13 @@ use Rattle.std.specs.Io.KnownBytes.{Appends}
 use Rattle.directory_program.specs.Lines.{HasNoLf}
 use Rattle.directory_program.specs.Commands.{longest_line}
 use Rattle.directory_program.specs.Running.{RunsUpTo, RunsPart}
-use Rattle.directory_program.specs.Standing.{TurnsTo, TurnFails}
+use Rattle.directory_program.specs.Standing.{TurnsTo}
 use Rattle.directory_program.specs.Feeding.{Stood, Failed, Went}
 use Rattle.directory_program.specs.declared.place.Place.{Place}
 use Rattle.directory_program.specs.declared.fault.RunFault.{RunFault}
 use Rattle.directory_program.specs.declared.fault.RunFault.TheVariants.{Read, Write, Line as AtLine, NoMemory}
 use Rattle.directory_program.proofs.Known.{Appends-append, Appends-keeps}
+use Rattle.directory_program.proofs.Standing.{FailsAs}
 use Rattle.directory_program.proofs.Stood.{Stood-more, Stood-turn, Stood-part, Stood-fault, Stood-long}
 
 -- where the bytes so far are the piece's first, the rest of the piece may follow
@@ -30,7 +31,7 @@ pub Went-memory : (w v : Option (List ℕ)) (read out line : List ℕ) (p : Plac
 Went-memory w v read out line p done tail piece t e =
     (t.0, t.1, subst (λ (s : List ℕ). RunsPart s (out ++ t.0)) (split_rest read done tail piece e) (Stood-part (read ++ done) (out ++ t.0) line p tail t.2))
 
-pub Went-turn_fails : (w v u : Option (List ℕ)) (read out line : List ℕ) (p : Place) (done xs tail piece : List ℕ) (e : RunFault) → Went w v (read ++ done) out line p → piece ≡ done ++ (xs ++ 10 ∷ tail) → HasNoLf xs → length (line ++ xs) ≤ longest_line → TurnFails p (line ++ xs) v u e → Failed w u (read ++ piece) out e
+pub Went-turn_fails : (w v u : Option (List ℕ)) (read out line : List ℕ) (p : Place) (done xs tail piece : List ℕ) (e : RunFault) → Went w v (read ++ done) out line p → piece ≡ done ++ (xs ++ 10 ∷ tail) → HasNoLf xs → length (line ++ xs) ≤ longest_line → FailsAs p.block (p.number + 1) (line ++ xs) v u e → Failed w u (read ++ piece) out e
 Went-turn_fails w v u read out line p done xs tail piece Read t is free short f = f
 Went-turn_fails w v u read out line p done xs tail piece Write t is free short f = tt
 Went-turn_fails w v u read out line p done xs tail piece NoMemory t is free short f =

@@ -1,5 +1,5 @@
 -- What a read does to a run.
-use Rattle.std.proofs.Common.{◌≡◌, ℕ, List, [], ◌∷◌, ◌++◌, length, take, Option, Some, None, Result, Ok, Err, refl, ap, subst, ◌∙◌, inl, inr, arith, length-append}
+use Rattle.std.proofs.Common.{◌≡◌, ℕ, List, [], ◌∷◌, ◌++◌, length, take, Option, Some, None, Result, Ok, Err, refl, sym, ap, subst, ◌∙◌, inl, inr, arith, length-append}
 use Rattle.std.specs.Prelude.{◌⊎◌}
 use Rattle.std.specs.Io.KnownBytes.{Appends, Keeps, Consumes, IsAtEnd}
 use Rattle.std.specs.List.{flat_map}
@@ -8,9 +8,11 @@ use Rattle.directory_state.proofs.Folding.{AreLive-nil}
 use Rattle.directory_program.specs.Holding.{Holds}
 use Rattle.directory_program.specs.Lines.{Line, ended}
 use Rattle.directory_program.specs.Opening.{opening_session}
-use Rattle.directory_program.specs.Running.{RunsUpTo, RunsWhole, beginning}
+use Rattle.directory_program.specs.Running.{RunsUpTo, RunsWhole, IsUnfinished, beginning}
+use Rattle.directory_program.specs.Standing.{IsOpen}
 use Rattle.directory_program.specs.Feeding.{Stood, Failed, Ends}
 use Rattle.directory_program.specs.Gives.{FaultGives, Gives, KnownFault, KnownGives}
+use Rattle.directory_program.specs.declared.place.Block.{Block}
 use Rattle.directory_program.specs.declared.place.Place.{Place}
 use Rattle.directory_program.specs.declared.fault.RunFault.{RunFault}
 use Rattle.directory_program.specs.declared.fault.RunFault.TheVariants.{Read, Write, Line as AtLine, NoMemory}
@@ -25,16 +27,28 @@ Holds-opening = record {
   asker = refl;
   stream = refl;
   limit = refl;
+  late = refl;
 }
 
-pub Stood-begin : (p : Place) → p.number ≡ 0 → p.session ≡ opening_session → Stood [] [] [] p
-Stood-begin p n s = record {
+pub Stood-begin : (p : Place) → p.number ≡ 0 → p.block ≡ None → p.session ≡ opening_session → Stood [] [] [] p
+Stood-begin p n b s = record {
   lines = [];
   text = refl;
   each = tt;
   unended = tt;
   short = omega arith;
-  stands = record { commands = []; reads = refl; world = beginning; prints = (refl, refl); holds = rw s Holds-opening; number = n };
+  stands = record {
+    before = [];
+    unended = [];
+    commands = [];
+    all = refl;
+    reads = refl;
+    world = beginning;
+    prints = (refl, refl);
+    holds = rw s Holds-opening;
+    is_open = subst (λ (v : Option Block). IsOpen [] 0 v) (sym b) refl;
+    number = n;
+  };
 }
 
 no_lines : (ls : List Line) (line : List ℕ) → [] ≡ flat_map ended ls ++ line → length ls ≡ 0
@@ -74,9 +88,22 @@ Gives-failed r n w v u read out Write c a h = tt
 Gives-failed r n w v u read out NoMemory c a h = (read, out ++ h.0, c, Appends-append w v u out h.0 a h.1, h.2)
 Gives-failed r n w v u read out (AtLine k) c a h = (read, out ++ h.0, c, Appends-append w v u out h.0 a h.1, inl h.2)
 
+unfinished : (b : Option Block) (ls : List Line) (k : ℕ) → IsOpen ls k b → IsUnfinished ls
+unfinished None ls k h = inl h
+unfinished (Some b) ls k h = inr (h.0, h.1, h.2)
+
 Stood-whole : (read out line : List ℕ) (p : Place) → Stood read out line p → RunsWhole read out
-Stood-whole read out line p s =
-    (s.stands.commands, s.lines, line, s.text, s.stands.reads, s.unended, (s.stands.world, s.stands.prints))
+Stood-whole read out line p s = (
+  s.stands.commands,
+  s.stands.before,
+  s.stands.unended,
+  line,
+  rw (← s.stands.all) s.text,
+  s.stands.reads,
+  unfinished p.block s.stands.unended (length s.stands.before) s.stands.is_open,
+  s.unended,
+  (s.stands.world, s.stands.prints),
+)
 
 pub Gives-read : (r n w u : Option (List ℕ)) (read out line : List ℕ) (p : Place) → Consumes r n read → Appends w u out → Stood read out line p → FaultGives r n w u Read
 Gives-read r n w u read out line p c a s = (read, out, c, a, Stood-whole read out line p s)

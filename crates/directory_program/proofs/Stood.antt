@@ -1,5 +1,5 @@
 -- What bytes more do to where a run stands.
-use Rattle.std.proofs.Common.{◌≡◌, ◌≢◌, ℕ, ◌+◌, ◌<◌, ◌≤◌, false, List, [], ◌∷◌, ◌++◌, length, None, refl, sym, ap, ◌∙◌, arith, append_assoc, length-append}
+use Rattle.std.proofs.Common.{◌≡◌, ◌≢◌, ℕ, ◌+◌, ◌<◌, ◌≤◌, false, List, [], ◌∷◌, ◌++◌, length, Option, Some, None, refl, sym, ap, ◌∙◌, arith, append_assoc, length-append}
 use Rattle.std.specs.Prelude.{◌==◌}
 use Rattle.std.proofs.lemmas.List.{append-nil}
 use Rattle.std.proofs.lemmas.Bool.{ne_eqb}
@@ -7,12 +7,13 @@ use Rattle.std.proofs.lemmas.Grind.{flat_map-append}
 use borrow.Author.Tests.{lt-ltb}
 use Rattle.directory_program.specs.Lines.{Line, onto, lines_of, ended, HasNoLf}
 use Rattle.directory_program.specs.Commands.{order_of, longest_line}
+use Rattle.directory_program.proofs.OneByOne.{lines_of-last, lines_of-ended, lines_of-append, All-append}
 use Rattle.directory_program.specs.Running.{Run, RunsUpTo, RunsPart}
 use Rattle.directory_program.specs.Standing.{TurnsTo}
 use Rattle.directory_program.specs.Feeding.{Stood}
+use Rattle.directory_program.specs.declared.place.Block.{Block}
 use Rattle.directory_program.specs.declared.place.Place.{Place}
-use Rattle.directory_program.proofs.OneByOne.{lines_of-last, lines_of-ended, lines_of-append, All-append}
-use Rattle.directory_program.proofs.Standing.{Stands-turn, Stands-fault}
+use Rattle.directory_program.proofs.Standing.{IsAtFault, Stands-turn, Stands-fault, Stands-open, Stands-closed}
 
 -- more of the line that is begun
 pub Stood-more : (read out line : List ℕ) (p : Place) (xs : List ℕ) → Stood read out line p → HasNoLf xs → length (line ++ xs) ≤ longest_line → Stood (read ++ xs) out (line ++ xs) p
@@ -43,17 +44,17 @@ lines_of-read read out line p more s = rw (s.text, append_assoc) (lines_of-appen
 pub Stood-part : (read out line : List ℕ) (p : Place) (more : List ℕ) → Stood read out line p → RunsPart (read ++ more) out
 Stood-part read out line p more s = (
   s.stands.commands,
-  s.lines,
-  lines_of (line ++ more),
-  lines_of-read read out line p more s,
+  s.stands.before,
+  s.stands.unended ++ lines_of (line ++ more),
+  lines_of-read read out line p more s ∙ rw (s.stands.all, append_assoc) refl,
   s.stands.reads,
   (s.stands.world, s.stands.prints),
 )
 
 -- the line that ends here is at fault
-pub Stood-fault : (read out line : List ℕ) (p : Place) (more : List ℕ) → Stood read out line p → order_of line ≡ None → RunsUpTo (read ++ 10 ∷ more) (p.number + 1) out
-Stood-fault read out line p more s none =
-    let r = Stands-fault s.lines out p line (lines_of more) s.stands none in
+pub Stood-fault : (read out line : List ℕ) (p : Place) (more : List ℕ) → Stood read out line p → IsAtFault p.block line → RunsUpTo (read ++ 10 ∷ more) (p.number + 1) out
+Stood-fault read out line p more s f =
+    let r = Stands-fault s.lines out p line (lines_of more) s.stands f in
     let e : lines_of (read ++ 10 ∷ more) ≡ s.lines ++ line ∷ lines_of more = lines_of-read read out line p (10 ∷ more) s ∙ ap (λ v. s.lines ++ v) (lines_of-ended line more s.unended) in
     (r.0, rw e r.1, r.2)
 
@@ -73,13 +74,17 @@ lines_of-begun x (y ∷ l) more h =
     let off : (x == 10) ≡ false = ne_eqb x 10 h.0 in
     (r.0, r.1, rw (off, r.2) refl)
 
-lines_of-within : (a more : List ℕ) → HasNoLf a → 0 < length a → (tail : List ℕ) × (rest : List Line) × (lines_of (a ++ more) ≡ (a ++ tail) ∷ rest)
-lines_of-within [] more h some = absurd (omega arith)
-lines_of-within (x ∷ l) more h some = lines_of-begun x l more h
-
 too_long-order : (l : List ℕ) → longest_line < length l → order_of l ≡ None
 unfolding order_of
 too_long-order l h = rw (lt-ltb _ _ h) refl
+
+too_long-fault : (block : Option Block) (l : List ℕ) → longest_line < length l → IsAtFault block l
+too_long-fault None l h = (too_long-order l h, λ e. absurd (omega (arith, ap length e)))
+too_long-fault (Some b) l h = λ k. absurd (omega (arith, k.0))
+
+lines_of-within : (a more : List ℕ) → HasNoLf a → 0 < length a → (tail : List ℕ) × (rest : List Line) × (lines_of (a ++ more) ≡ (a ++ tail) ∷ rest)
+lines_of-within [] more h some = absurd (omega arith)
+lines_of-within (x ∷ l) more h some = lines_of-begun x l more h
 
 -- the line that is begun is too long, whatever else is read
 pub Stood-long : (read out line : List ℕ) (p : Place) (xs more : List ℕ) → Stood read out line p → HasNoLf xs → longest_line < length (line ++ xs) → RunsUpTo ((read ++ xs) ++ more) (p.number + 1) out
@@ -87,7 +92,7 @@ Stood-long read out line p xs more s free long =
     let first = lines_of-within (line ++ xs) more (All-append (λ x. x ≢ 10) line xs s.unended free) (omega arith) in
     let whole = line ++ xs ++ first.0 in
     let size : longest_line < length whole = rw length-append (omega arith) in
-    let r = Stands-fault s.lines out p whole first.1 s.stands (too_long-order whole size) in
+    let r = Stands-fault s.lines out p whole first.1 s.stands (too_long-fault p.block whole size) in
     let e : lines_of ((read ++ xs) ++ more) ≡ s.lines ++ whole ∷ first.1 = rw append_assoc (lines_of-read read out line p (xs ++ more) s ∙ ap (λ v. s.lines ++ v) (ap lines_of (sym (append_assoc line xs more)) ∙ first.2)) in
     (r.0, rw e r.1, r.2)
 
@@ -99,17 +104,30 @@ ends-last read out [] p s some = absurd (omega arith)
 ends-last read out (x ∷ l) p s some =
     ap lines_of (sym (append-nil read)) ∙ (lines_of-read read out (x ∷ l) p [] s ∙ ap (λ v. s.lines ++ v) (ap lines_of (append-nil (x ∷ l)) ∙ lines_of-last (x ∷ l) s.unended))
 
--- all is read, and its last line was ended by LF
-pub Stood-end : (read out : List ℕ) (p : Place) → Stood read out [] p → Run read out
-Stood-end read out p s = (s.stands.commands, rw (ends-empty read out p s) s.stands.reads, (s.stands.world, s.stands.prints))
+-- all is read, and the run stands outside a block
+pub Stood-closed : (read out : List ℕ) (p : Place) → Stood read out [] p → p.block ≡ None → Run read out
+Stood-closed read out p s e =
+    let r = Stands-closed s.lines out p s.stands e in
+    (r.0, rw (ends-empty read out p s) r.1, r.2)
+
+-- all is read, and the run stands within a block
+pub Stood-open : (read out : List ℕ) (p : Place) (b : Block) → Stood read out [] p → p.block ≡ Some b → RunsUpTo read b.begun out
+Stood-open read out p b s e =
+    let r = Stands-open s.lines out p b s.stands e in
+    (r.0, rw (ends-empty read out p s) r.1, r.2)
 
 -- all is read, and the last line was taken without its LF
-pub Stood-last : (read out line : List ℕ) (p : Place) (now : List ℕ) (q : Place) → Stood read out line p → 0 < length line → TurnsTo p line now q → Run read (out ++ now)
-Stood-last read out line p now q s some t =
-    let r = Stands-turn s.lines out p line now q s.stands t in
-    (r.commands, rw (ends-last read out line p s some) r.reads, (r.world, r.prints))
+pub Stood-closed_last : (read out line : List ℕ) (p : Place) (now : List ℕ) (q : Place) → Stood read out line p → 0 < length line → TurnsTo p line now q → q.block ≡ None → Run read (out ++ now)
+Stood-closed_last read out line p now q s some t e =
+    let r = Stands-closed (s.lines ++ line ∷ []) (out ++ now) q (Stands-turn s.lines out p line now q s.stands t) e in
+    (r.0, rw (ends-last read out line p s some) r.1, r.2)
 
-pub Stood-fault_last : (read out line : List ℕ) (p : Place) → Stood read out line p → 0 < length line → order_of line ≡ None → RunsUpTo read (p.number + 1) out
-Stood-fault_last read out line p s some none =
-    let r = Stands-fault s.lines out p line [] s.stands none in
+pub Stood-open_last : (read out line : List ℕ) (p : Place) (now : List ℕ) (q : Place) (b : Block) → Stood read out line p → 0 < length line → TurnsTo p line now q → q.block ≡ Some b → RunsUpTo read b.begun (out ++ now)
+Stood-open_last read out line p now q b s some t e =
+    let r = Stands-open (s.lines ++ line ∷ []) (out ++ now) q b (Stands-turn s.lines out p line now q s.stands t) e in
+    (r.0, rw (ends-last read out line p s some) r.1, r.2)
+
+pub Stood-fault_last : (read out line : List ℕ) (p : Place) → Stood read out line p → 0 < length line → IsAtFault p.block line → RunsUpTo read (p.number + 1) out
+Stood-fault_last read out line p s some f =
+    let r = Stands-fault s.lines out p line [] s.stands f in
     (r.0, rw (ends-last read out line p s some) r.1, r.2)

@@ -7,8 +7,7 @@ use Rattle.slp_stream.specs.Cutting.{Front, Wanting, Whole, Bad, front_of, IsEnd
 use Rattle.slp_stream.specs.Framing.{Frames, answer_at, answered, left_at, left_after}
 use Rattle.slp_stream.specs.declared.fault.FrameFault.{FrameFault}
 use Rattle.slp_stream.proofs.Given.{Leads, gave_message, gave_none, leads_on, leads_to_end}
-use Rattle.directory_program.specs.Commands.{Tcp}
-use Rattle.directory_program.specs.Holding.{Holds, Acts, Meets, Drains}
+use Rattle.directory_program.specs.Holding.{Holds, TakesPiece, Meets, Drains}
 use Rattle.directory_program.specs.Running.{World, Answers, AnswersAll, Pieces, bad_length, closed, end_told, end_refused, longest_on_stream, new_stream}
 use Rattle.directory_program.specs.declared.session.Session.{Session}
 
@@ -94,9 +93,9 @@ Drained-bad s f ms said t g e after d given left = λ w h.
 -- ---- what a piece makes of a session
 
 -- the piece was fed, and what waits then was answered apart from the session
-pub Acts-fed : (s : Session) (bytes now : List ℕ) (n : Frames) (t : Session) (f g : Frames) (u : Session) → n ≡ new_stream → s.stream.refused ≡ None → f ≡ record s.stream { waiting = s.stream.waiting ++ bytes } → Drains (record s { stream = n }) f now t g → u ≡ record t { stream = g } → Acts s (Tcp bytes) now u
-Acts-fed s bytes now n t f g u new none fed drains is = λ w h.
-    let away : Holds (record w { stream = new_stream }) (record s { stream = n }) = record { legal = h.legal; fold = h.fold; moment = h.moment; asker = h.asker; stream = new; limit = ap (λ (x : Frames). x.limit) new } in
+pub TakesPiece-fed : (s : Session) (bytes now : List ℕ) (n : Frames) (t : Session) (f g : Frames) (u : Session) → n ≡ new_stream → s.stream.refused ≡ None → f ≡ record s.stream { waiting = s.stream.waiting ++ bytes } → Drains (record s { stream = n }) f now t g → u ≡ record t { stream = g } → TakesPiece s bytes now u
+TakesPiece-fed s bytes now n t f g u new none fed drains is = λ w h.
+    let away : Holds (record w { stream = new_stream }) (record s { stream = n }) = record { legal = h.legal; fold = h.fold; moment = h.moment; asker = h.asker; stream = new; limit = ap (λ (x : Frames). x.limit) new; late = h.late } in
     let d = drains (record w { stream = new_stream }) away in
     let limit : f.limit ≡ longest_on_stream = ap (λ (x : Frames). x.limit) fed ∙ h.limit in
     let waiting : f.waiting ≡ w.stream.waiting ++ bytes = ap (λ (x : Frames). x.waiting) fed ∙ ap (λ (x : Frames). x.waiting ++ bytes) h.stream in
@@ -114,5 +113,5 @@ Acts-fed s bytes now n t f g u new none fed drains is = λ w h.
         subst (λ (n : ℕ). now ≡ d.4 ++ end_told (front_of n d.1)) limit d.6,
         refl,
       ),
-      rw is (record { legal = d.8.legal; fold = d.8.fold; moment = d.8.moment; asker = d.8.asker; stream = same; limit = ap (λ (x : Frames). x.limit) same }),
+      rw is (record { legal = d.8.legal; fold = d.8.fold; moment = d.8.moment; asker = d.8.asker; stream = same; limit = ap (λ (x : Frames). x.limit) same; late = d.8.late }),
     )

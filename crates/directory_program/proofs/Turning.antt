@@ -1,24 +1,44 @@
 -- What each order makes of a session.
-use Rattle.std.proofs.Common.{◌≡◌, ℕ, List, [], ◌∷◌, ◌++◌, Option, Some, None, codes, refl, ap, ◌∙◌, inl, inr}
+use Rattle.std.proofs.Common.{◌≡◌, ℕ, ◌+◌, Bool, true, false, List, [], ◌∷◌, ◌++◌, Option, Some, None, Result, Ok, Err, codes, refl, sym, ap, subst, ◌∙◌, inl, inr}
 use Rattle.std.specs.Option.{option_map, option_map_or}
 use Rattle.hex.specs.Hex.{encode_lower}
+use Rattle.site_config.specs.Configuring.{config_of}
+use Rattle.site_config.specs.declared.config.Config.{Config}
+use Rattle.site_config.specs.declared.fault.ConfigFault.{ConfigFault}
+use Rattle.site_config.specs.declared.fault.ConfigFault.TheVariants.{Range}
 use Rattle.slp_answer.specs.Answering.{Told}
-use Rattle.directory_program.specs.Commands.{Blank, At, From, Open}
-use Rattle.directory_program.specs.Holding.{Holds, Takes, Acts, Meets}
-use Rattle.directory_program.specs.Running.{World, refused, new_stream}
+use Rattle.directory_program.specs.Commands.{Single, Blank, At, From, Udp, Open, Tcp, Tidy}
+use Rattle.directory_program.specs.Holding.{Holds, Takes, TakesPiece, Acts, Meets, ConfiguresTo, config_told}
+use Rattle.directory_program.specs.Running.{World, Configures, refused, new_stream, longest_reply, begun, swept, place_of}
+use Rattle.directory_program.specs.Standing.{Closes, Turns, TurnsTo, TurnsOutside, TurnsInside}
+use Rattle.directory_program.specs.declared.place.Block.{Block}
+use Rattle.directory_program.specs.declared.place.Place.{Place}
 use Rattle.directory_program.specs.declared.session.Session.{Session}
 
-pub Acts-blank : (s t : Session) → t ≡ s → Acts s Blank [] t
+pub Acts-blank : (s t : Session) → t ≡ s → Acts s (Single Blank) [] t
 Acts-blank s t e = λ w h. (w, (refl, refl), rw e h)
 
-pub Acts-at : (s t : Session) (m : ℕ) → t ≡ record s { moment = m } → Acts s (At m) [] t
-Acts-at s t m e = λ w h. (record w { moment = m }, (refl, refl), rw e (record { legal = h.legal; fold = h.fold; moment = refl; asker = h.asker; stream = h.stream; limit = h.limit }))
+pub Acts-at : (s t : Session) (m : ℕ) → t ≡ record s { moment = m } → Acts s (Single (At m)) [] t
+Acts-at s t m e = λ w h. (record w { moment = m }, (refl, refl), rw e (record { legal = h.legal; fold = h.fold; moment = refl; asker = h.asker; stream = h.stream; limit = h.limit; late = h.late }))
 
-pub Acts-from : (s t : Session) (a : ℕ) → t ≡ record s { asker = a } → Acts s (From a) [] t
-Acts-from s t a e = λ w h. (record w { asker = a }, (refl, refl), rw e (record { legal = h.legal; fold = h.fold; moment = h.moment; asker = refl; stream = h.stream; limit = h.limit }))
+pub Acts-from : (s t : Session) (a : ℕ) → t ≡ record s { asker = a } → Acts s (Single (From a)) [] t
+Acts-from s t a e = λ w h. (record w { asker = a }, (refl, refl), rw e (record { legal = h.legal; fold = h.fold; moment = h.moment; asker = refl; stream = h.stream; limit = h.limit; late = h.late }))
 
-pub Acts-open : (s t : Session) → t ≡ record s { stream = new_stream } → Acts s Open [] t
-Acts-open s t e = λ w h. (record w { stream = new_stream }, (refl, refl), rw e (record { legal = h.legal; fold = h.fold; moment = h.moment; asker = h.asker; stream = refl; limit = refl }))
+pub Acts-open : (s t : Session) → t ≡ record s { stream = new_stream } → Acts s (Single Open) [] t
+Acts-open s t e = λ w h. (record w { stream = new_stream }, (refl, refl), rw e (record { legal = h.legal; fold = h.fold; moment = h.moment; asker = h.asker; stream = refl; limit = refl; late = h.late }))
+
+-- from now on it is too late for another site
+Holds-begun : (w : World) (s : Session) → Holds w s → Holds (begun w) (record s { late = true })
+Holds-begun w s h = record { legal = h.legal; fold = h.fold; moment = h.moment; asker = h.asker; stream = h.stream; limit = h.limit; late = refl }
+
+pub Acts-udp : (s t : Session) (bytes now : List ℕ) → Meets longest_reply (record s { late = true }) bytes now t → Acts s (Single (Udp bytes)) now t
+Acts-udp s t bytes now meets = λ w h. meets (begun w) (Holds-begun w s h)
+
+pub Acts-tcp : (s t : Session) (bytes now : List ℕ) → TakesPiece (record s { late = true }) bytes now t → Acts s (Single (Tcp bytes)) now t
+Acts-tcp s t bytes now takes = λ w h. takes (begun w) (Holds-begun w s h)
+
+pub Acts-tidy : (s t : Session) → ((w : World) → Holds w s → Holds (swept w) t) → Acts s (Single Tidy) (codes "# sweep" ++ 10 ∷ []) t
+Acts-tidy s t tidied = λ w h. (swept w, (refl, refl), tidied w h)
 
 mapped : (xs z : List ℕ) (code : Option ℕ) → option_map_or (λ d. d) (option_map (λ _. xs) code) z ≡ option_map_or (λ _. xs) code z
 mapped xs z None = refl
@@ -38,3 +58,26 @@ pub Meets-refused : (limit : ℕ) (s : Session) (bytes : List ℕ) (t : Session)
 Meets-refused limit s bytes t same = λ w h.
     let e = same w h in
     (w, inr (ap (refused bytes) (ap (λ (u : Session). u.asker) e ∙ h.asker), refl), rw e h)
+
+configured : (read : Result Config ConfigFault) (told : Result (Unit {0}) ConfigFault) (w : World) (t : Session) → ConfiguresTo w read told t → (v : World) × Configures false w read (config_told told) v × Holds v t
+configured (Ok c) told w t k = (record w { place = place_of c; history = [] }, (ap config_told k.0, refl), k.1)
+configured (Err e) told w t k = (w, (ap config_told k.0, refl), k.1)
+
+-- the block is a configuration
+pub Closes-configured : (s : Session) (kept : Option (List ℕ)) (told : Result (Unit {0}) ConfigFault) (t : Session) → s.late ≡ false → ((w : World) → Holds w s → ConfiguresTo w (option_map_or config_of kept (Err Range)) told t) → Closes s kept (config_told told) t
+Closes-configured s kept told t early does = λ w h.
+    let k = configured (option_map_or config_of kept (Err Range)) told w t (does w h) in
+    (k.0, subst (λ (b : Bool). Configures b w (option_map_or config_of kept (Err Range)) (config_told told) k.0) (sym early ∙ h.late) k.1, k.2)
+
+-- the block comes too late
+pub Closes-late : (s : Session) (kept : Option (List ℕ)) (t : Session) → s.late ≡ true → t ≡ s → Closes s kept (codes "! late" ++ 10 ∷ []) t
+Closes-late s kept t late e = λ w h.
+    (w, subst (λ (b : Bool). Configures b w (option_map_or config_of kept (Err Range)) (codes "! late" ++ 10 ∷ []) w) (sym late ∙ h.late) (refl, refl), rw e h)
+
+pub TurnsTo-outside : (p : Place) (l now : List ℕ) (q : Place) → p.block ≡ None → q.number ≡ p.number + 1 → TurnsOutside p.session l (p.number + 1) now q.session q.block → TurnsTo p l now q
+TurnsTo-outside p l now q off number turns =
+    record { number = number; turns = subst (λ (b : Option Block). Turns b p l now q) (sym off) turns }
+
+pub TurnsTo-inside : (p : Place) (l now : List ℕ) (q : Place) (b : Block) → p.block ≡ Some b → q.number ≡ p.number + 1 → TurnsInside p.session l b now q.session q.block → TurnsTo p l now q
+TurnsTo-inside p l now q b within number turns =
+    record { number = number; turns = subst (λ (o : Option Block). Turns o p l now q) (sym within) turns }

@@ -1,7 +1,43 @@
 -- The lines of a script are read in one way.
-use Rattle.std.proofs.Common.{◌≡◌, ℕ, ◌+◌, List, [], ◌∷◌, ◌++◌, length, Some, None, refl, sym, ap, ◌∙◌, arith, append_assoc, length-append}
+use Rattle.std.proofs.Common.{◌≡◌, ℕ, ◌+◌, ◌≤◌, List, [], ◌∷◌, ◌++◌, length, Some, None, refl, sym, ap, ◌∙◌, arith, append_assoc, length-append}
+use Rattle.std.specs.Prelude.{IsUtf8}
 use Rattle.directory_program.specs.Lines.{Line}
-use Rattle.directory_program.specs.Commands.{Command, Single, Spells, Reads, order_of, IsStuck, AtLine, StopsAt}
+use Rattle.directory_program.specs.Commands.{Order, Command, Single, Configure, Spells, Reads, order_of, config_line, dot, longest_line, IsBody, IsStuck, AtLine, AtBody, AtEnd, StopsAt}
+
+config-order : order_of config_line ≡ None
+unfolding order_of
+config-order = refl
+
+-- the first block of one list of lines
+body-unique : (a b rest more : List Line) → IsBody a → IsBody b → a ++ dot ∷ rest ≡ b ++ dot ∷ more → (a ≡ b) × (rest ≡ more)
+body-unique [] [] rest more h k e = (refl, cc)
+body-unique [] (y ∷ b) rest more h k e = absurd (k.0.no_dot (cc))
+body-unique (x ∷ a) [] rest more h k e = absurd (h.0.no_dot (cc))
+body-unique (x ∷ a) (y ∷ b) rest more h k e =
+    let r = body-unique a b rest more h.1 k.1 cc in
+    let first : x ≡ y = cc in
+    (cc, r.1)
+
+dot-utf8 : IsUtf8 dot
+unfolding lib.Utf8.encode
+dot-utf8 = (46 ∷ [], (refl, refl))
+
+-- a body with an end isn't one with a line at fault
+body-fault : (a b : List Line) (l : Line) (rest more : List Line) → IsBody a → IsBody b → ((length l ≤ longest_line) × IsUtf8 l → ⊥) → a ++ dot ∷ rest ≡ b ++ l ∷ more → ⊥
+body-fault [] [] l rest more h k f e = f (let same : l ≡ dot = cc in rw same (omega arith, dot-utf8))
+body-fault [] (y ∷ b) l rest more h k f e = k.0.no_dot cc
+body-fault (x ∷ a) [] l rest more h k f e = let same : l ≡ x = cc in f (rw same (h.0.short, h.0.utf8))
+body-fault (x ∷ a) (y ∷ b) l rest more h k f e = body-fault a b l rest more h.1 k.1 f cc
+
+-- nor one that ends without
+body-end : (a b rest : List Line) → IsBody b → a ++ dot ∷ rest ≡ b → ⊥
+body-end [] [] rest k e = cc
+body-end [] (y ∷ b) rest k e = k.0.no_dot cc
+body-end (x ∷ a) [] rest k e = cc
+body-end (x ∷ a) (y ∷ b) rest k e = body-end a b rest k.1 cc
+
+single-config : (l : Line) (o : Order) → order_of l ≡ Some o → l ≡ config_line → ⊥
+single-config l o is e = let h : order_of config_line ≡ Some o = rw (← e) is in let n = config-order in cc
 
 -- the first command of one list of lines
 Spells-unique : (front rest : List Line) (c : Command) (ahead more : List Line) (d : Command) → Spells front c → Spells ahead d → front ++ rest ≡ ahead ++ more → (c ≡ d) × (rest ≡ more)
@@ -10,9 +46,21 @@ Spells-unique front rest (Single o) ahead more (Single p) s t e =
     let same : s.0 ≡ t.0 = cc in
     let one : Some o ≡ Some p = sym s.2 ∙ (ap order_of same ∙ t.2) in
     (cc, cc)
+Spells-unique front rest (Single o) ahead more (Configure b) s t e =
+    let h : s.0 ∷ rest ≡ config_line ∷ ((b ++ dot ∷ []) ++ more) = rw (s.1, t.0) at e in
+    absurd (single-config s.0 o s.2 cc)
+Spells-unique front rest (Configure a) ahead more (Single p) s t e =
+    let h : config_line ∷ ((a ++ dot ∷ []) ++ rest) ≡ t.0 ∷ more = rw (s.0, t.1) at e in
+    absurd (single-config t.0 p t.2 cc)
+Spells-unique front rest (Configure a) ahead more (Configure b) s t e =
+    let h : config_line ∷ ((a ++ dot ∷ []) ++ rest) ≡ config_line ∷ ((b ++ dot ∷ []) ++ more) = rw (s.0, t.0) at e in
+    let g : a ++ dot ∷ rest ≡ b ++ dot ∷ more = sym (append_assoc a (dot ∷ []) rest) ∙ ((cc) ∙ append_assoc b (dot ∷ []) more) in
+    let r = body-unique a b rest more s.1 t.1 g in
+    (ap Configure r.0, r.1)
 
 not_empty : (front rest : List Line) (c : Command) → Spells front c → [] ≡ front ++ rest → ⊥
 not_empty front rest (Single o) s e = let h : [] ≡ s.0 ∷ rest = rw s.1 at e in cc
+not_empty front rest (Configure a) s e = let h : [] ≡ config_line ∷ ((a ++ dot ∷ []) ++ rest) = rw s.0 at e in cc
 
 -- lines are read in one way
 pub Reads-unique : (ls : List Line) (cs ds : List Command) → Reads ls cs → Reads ls ds → cs ≡ ds
@@ -26,15 +74,31 @@ Reads-unique ls (c ∷ cs) (d ∷ ds) r s =
     let head = one.0 in
     cc
 
--- lines that begin with a command don't begin with a fault
 Stuck-not : (front rest : List Line) (c : Command) (ls : List Line) (k : ℕ) → Spells front c → IsStuck ls k → front ++ rest ≡ ls → ⊥
-Stuck-not front rest (Single o) ls k s (AtLine l more all none one) e =
+Stuck-not front rest (Single o) ls k s (AtLine l more all none no_config one) e =
     let h : s.0 ∷ rest ≡ l ∷ more = rw (s.1, all) at e in
     let same : s.0 ≡ l = cc in
     let x : Some o ≡ None = sym s.2 ∙ (ap order_of same ∙ none) in cc
+Stuck-not front rest (Single o) ls k s (AtBody body l more all is fault one) e =
+    let h : s.0 ∷ rest ≡ config_line ∷ (body ++ l ∷ more) = rw (s.1, all) at e in
+    single-config s.0 o s.2 cc
+Stuck-not front rest (Single o) ls k s (AtEnd body all is one) e =
+    let h : s.0 ∷ rest ≡ config_line ∷ body = rw (s.1, all) at e in
+    single-config s.0 o s.2 cc
+Stuck-not front rest (Configure a) ls k s (AtLine l more all none no_config one) e =
+    let h : config_line ∷ ((a ++ dot ∷ []) ++ rest) ≡ l ∷ more = rw (s.0, all) at e in
+    no_config cc
+Stuck-not front rest (Configure a) ls k s (AtBody body l more all is fault one) e =
+    let h : config_line ∷ ((a ++ dot ∷ []) ++ rest) ≡ config_line ∷ (body ++ l ∷ more) = rw (s.0, all) at e in
+    body-fault a body l rest more s.1 is fault (sym (append_assoc a (dot ∷ []) rest) ∙ cc)
+Stuck-not front rest (Configure a) ls k s (AtEnd body all is one) e =
+    let h : config_line ∷ ((a ++ dot ∷ []) ++ rest) ≡ config_line ∷ body = rw (s.0, all) at e in
+    body-end a body rest is (sym (append_assoc a (dot ∷ []) rest) ∙ cc)
 
 nothing_stuck : (ls : List Line) (k : ℕ) → IsStuck ls k → ls ≡ [] → ⊥
-nothing_stuck ls k (AtLine l more all none one) e = let h : [] ≡ l ∷ more = sym e ∙ all in cc
+nothing_stuck ls k (AtLine l more all none no_config one) e = let h : [] ≡ l ∷ more = sym e ∙ all in cc
+nothing_stuck ls k (AtBody body l more all is fault one) e = let h : [] ≡ config_line ∷ (body ++ l ∷ more) = sym e ∙ all in cc
+nothing_stuck ls k (AtEnd body all is one) e = let h : [] ≡ config_line ∷ body = sym e ∙ all in cc
 
 stopped : (cs ds : List Command) (ls before stuck : List Line) (k : ℕ) → Reads ls cs → Reads before ds → ls ≡ before ++ stuck → IsStuck stuck k → ⊥
 stopped [] [] ls before stuck k r s e h = nothing_stuck stuck k h (let g : [] ≡ [] ++ stuck = sym r ∙ (e ∙ ap (λ v. v ++ stuck) s) in sym g)
@@ -46,19 +110,47 @@ stopped (c ∷ cs) (d ∷ ds) ls before stuck k r s e h =
     let one = Spells-unique r.0 r.1 c s.0 (s.1 ++ stuck) d r.3 s.3 (sym r.2 ∙ (e ∙ (ap (λ v. v ++ stuck) s.2 ∙ append_assoc s.0 s.1 stuck))) in
     stopped cs ds r.1 s.1 stuck k r.4 s.4 one.1 h
 
--- lines that are read to the end have none at fault
+-- a script has no line at fault
 pub Reads-not_stopped : (ls : List Line) (cs ds : List Command) (n : ℕ) → Reads ls cs → StopsAt ls ds n → ⊥
 Reads-not_stopped ls cs ds n r s = stopped cs ds ls s.before s.stuck s.place r s.reads s.all s.is_stuck
 
 -- how many lines a command has
 abbrev width : Command → ℕ
 width (Single o) = 1
+width (Configure body) = length body + 2
 
 Spells-width : (front : List Line) (c : Command) → Spells front c → length front ≡ width c
 Spells-width front (Single o) s = ap length s.1
+Spells-width front (Configure body) s = ap length s.0 ∙ omega (arith, length-append body (dot ∷ []))
+
+fault-unique : (a b : List Line) (l m : Line) (rest more : List Line) → IsBody a → IsBody b → ((length l ≤ longest_line) × IsUtf8 l → ⊥) → ((length m ≤ longest_line) × IsUtf8 m → ⊥) → a ++ l ∷ rest ≡ b ++ m ∷ more → length a ≡ length b
+fault-unique [] [] l m rest more h k f g e = refl
+fault-unique [] (y ∷ b) l m rest more h k f g e = let same : l ≡ y = cc in absurd (f (rw same (k.0.short, k.0.utf8)))
+fault-unique (x ∷ a) [] l m rest more h k f g e = let same : m ≡ x = cc in absurd (g (rw same (h.0.short, h.0.utf8)))
+fault-unique (x ∷ a) (y ∷ b) l m rest more h k f g e = let r = fault-unique a b l m rest more h.1 k.1 f g cc in omega arith
+
+fault-end : (a b : List Line) (l : Line) (rest : List Line) → IsBody b → ((length l ≤ longest_line) × IsUtf8 l → ⊥) → a ++ l ∷ rest ≡ b → ⊥
+fault-end [] [] l rest k f e = cc
+fault-end [] (y ∷ b) l rest k f e = let same : l ≡ y = cc in f (rw same (k.0.short, k.0.utf8))
+fault-end (x ∷ a) [] l rest k f e = cc
+fault-end (x ∷ a) (y ∷ b) l rest k f e = fault-end a b l rest k.1 f cc
 
 Stuck-unique : (ls : List Line) (k j : ℕ) → IsStuck ls k → IsStuck ls j → k ≡ j
-Stuck-unique ls k j (AtLine l more all none one) (AtLine m other is nothing first) = one ∙ sym first
+Stuck-unique ls k j (AtLine l more all none no_config one) (AtLine m other is nothing no_block first) = one ∙ sym first
+Stuck-unique ls k j (AtLine l more all none no_config one) (AtBody body m other is good fault first) = absurd (no_config (let h : l ∷ more ≡ config_line ∷ (body ++ m ∷ other) = sym all ∙ is in cc))
+Stuck-unique ls k j (AtLine l more all none no_config one) (AtEnd body is good first) = absurd (no_config (let h : l ∷ more ≡ config_line ∷ body = sym all ∙ is in cc))
+Stuck-unique ls k j (AtBody body l more all good fault one) (AtLine m other is nothing no_block first) = absurd (no_block (let h : config_line ∷ (body ++ l ∷ more) ≡ m ∷ other = sym all ∙ is in cc))
+Stuck-unique ls k j (AtBody body l more all good fault one) (AtBody body2 m other is good2 fault2 first) =
+    let h : config_line ∷ (body ++ l ∷ more) ≡ config_line ∷ (body2 ++ m ∷ other) = sym all ∙ is in
+    let r = fault-unique body body2 l m more other good good2 fault fault2 cc in omega arith
+Stuck-unique ls k j (AtBody body l more all good fault one) (AtEnd body2 is good2 first) =
+    let h : config_line ∷ (body ++ l ∷ more) ≡ config_line ∷ body2 = sym all ∙ is in
+    absurd (fault-end body body2 l more good2 fault cc)
+Stuck-unique ls k j (AtEnd body all good one) (AtLine m other is nothing no_block first) = one ∙ sym first
+Stuck-unique ls k j (AtEnd body all good one) (AtBody body2 m other is good2 fault first) =
+    let h : config_line ∷ (body2 ++ m ∷ other) ≡ config_line ∷ body = sym is ∙ all in
+    absurd (fault-end body2 body m other good fault cc)
+Stuck-unique ls k j (AtEnd body all good one) (AtEnd body2 is good2 first) = one ∙ sym first
 
 same_stop : (cs ds : List Command) (before stuck : List Line) (k : ℕ) (ahead left : List Line) (j : ℕ) → Reads before cs → Reads ahead ds → before ++ stuck ≡ ahead ++ left → IsStuck stuck k → IsStuck left j → (cs ≡ ds) × (length before + k ≡ length ahead + j)
 same_stop [] [] before stuck k ahead left j r s e h i =

@@ -1,10 +1,11 @@
 -- What lines spell.
-use Rattle.std.specs.Prelude.{◌≡◌, ℕ, ◌+◌, ◌-◌, ◌*◌, ◌^◌, nat_lt, nat_le, Bool, ◌==◌, ◌&&◌, if◌then◌else◌, List, [], ◌∷◌, ◌++◌, map, take, drop, length, codes, Option, Some, None, Result, Ok, Err}
+use Rattle.std.specs.Prelude.{◌≡◌, ◌≢◌, ◌≤◌, IsUtf8, ℕ, ◌+◌, nat_lt, nat_le, ◌==◌, if◌then◌else◌, List, [], ◌∷◌, ◌++◌, take, drop, length, codes, Option, Some, None, Result, Ok, Err}
 use Rattle.std.specs.Option.{option_map, option_and_then, option_or}
-use Rattle.std.specs.List.{slice_split}
+use Rattle.std.specs.List.{AllByRecursion}
 use Rattle.std.specs.Cmp.Lexicographic.{pointwise}
 use Rattle.hex.specs.Hex.{decode_of}
 use Rattle.hex.specs.declared.error.FromHexError.{FromHexError}
+use Rattle.access_rules.specs.Addresses.{number_of, address_of}
 use Rattle.directory_program.specs.Lines.{Line}
 
 -- the bytes of a line, without its LF
@@ -28,43 +29,17 @@ pub data Order : Type 0 where
   Open : Order
   -- these bytes came on the stream
   Tcp : List ℕ → Order
+  -- what is dead is swept
+  Tidy : Order
 
 pub data Command : Type 0 where
   Single : Order → Command
+  -- the site is another one, by a configuration of these lines
+  Configure : List Line → Command
 
 -- what follows a word, in a line that begins with it
 abbrev pub behind : List ℕ → Line → Option (List ℕ)
 behind word l = if pointwise ◌==◌ (take (length word) l) word then Some (drop (length word) l) else None
-
--- digits behind the value v, below 2^32
-abbrev pub number_from : ℕ → List ℕ → Option ℕ
-number_from v [] = Some v
-number_from v (x ∷ xs) =
-    if nat_le 48 x && nat_le x 57 && nat_lt (v * 10 + (x - 48)) (2 ^ 32) then number_from (v * 10 + (x - 48)) xs else None
-
--- decimal digits, at least one; leading zeros are allowed
-abbrev pub number_of : List ℕ → Option ℕ
-number_of [] = None
-number_of (x ∷ xs) = number_from 0 (x ∷ xs)
-
-abbrev pub within_octet : ℕ → Option ℕ
-within_octet n = if nat_le n 255 then Some n else None
-
--- a number of at most 255
-abbrev pub octet_of : List ℕ → Option ℕ
-octet_of digits = option_and_then within_octet (number_of digits)
-
--- the address of four octets, the first of them the highest
-abbrev pub address_in : List (Option ℕ) → Option ℕ
-address_in (Some a ∷ Some b ∷ Some c ∷ Some d ∷ []) = Some (((a * 256 + b) * 256 + c) * 256 + d)
-address_in _ = None
-
-abbrev pub is_dot : ℕ → Bool
-is_dot b = b == 46
-
--- four octets with a dot between each two
-abbrev pub address_of : List ℕ → Option ℕ
-address_of text = address_in (map octet_of (slice_split is_dot text))
 
 abbrev pub within_datagram : Result (List ℕ) FromHexError → Option Order
 within_datagram (Ok bytes) = if nat_le (length bytes) longest_datagram then Some (Udp bytes) else None
@@ -94,6 +69,16 @@ from_word = codes "from "
 abbrev pub udp_word : List ℕ
 udp_word = codes "udp "
 
+abbrev pub sweep_line : List ℕ
+sweep_line = codes "sweep"
+
+-- the line that begins a configuration, and the one that ends it
+abbrev pub config_line : List ℕ
+config_line = codes "config"
+
+abbrev pub dot : List ℕ
+dot = codes "."
+
 -- the order that a line is, if it is one
 unfoldable pub order_of : Line → Option Order
 order_of l =
@@ -107,11 +92,27 @@ order_of l =
     (option_and_then (λ text. within_datagram (decode_of text)) (behind udp_word l))
     (option_or
     (alone open_line Open l)
-    (option_and_then (λ text. as_piece (decode_of text)) (behind tcp_word l)))))
+    (option_or
+    (alone sweep_line Tidy l)
+    (option_and_then (λ text. as_piece (decode_of text)) (behind tcp_word l))))))
+
+-- a line that may stand in a block
+pub record IsBodyLine (l : Line) : Type 0 where
+  pub short : length l ≤ longest_line
+  pub utf8 : IsUtf8 l
+  pub no_dot : l ≢ dot
+
+abbrev pub IsBody : List Line → Type 0
+IsBody body = AllByRecursion IsBodyLine body
+
+-- the first line of a block, and some of its lines
+abbrev pub opened : List Line → List Line
+opened body = config_line ∷ body
 
 -- these lines are this command
 abbrev pub Spells : List Line → Command → Type 0
 Spells ls (Single order) = (l : Line) × (ls ≡ l ∷ []) × (order_of l ≡ Some order)
+Spells ls (Configure body) = (ls ≡ opened body ++ dot ∷ []) × IsBody body
 
 -- these lines are these commands, one after the other
 abbrev pub Reads : List Line → List Command → Type 0
@@ -120,8 +121,12 @@ Reads ls (c ∷ cs) = (front rest : List Line) × (ls ≡ front ++ rest) × Spel
 
 -- where a command would begin, the k-th of these lines is the first at fault
 pub data IsStuck (ls : List Line) (k : ℕ) : Type 0 where
-  -- the line is no order
-  AtLine : (l : Line) (rest : List Line) → ls ≡ l ∷ rest → order_of l ≡ None → k ≡ 1 → IsStuck ls k
+  -- the line is no order, and begins no block
+  AtLine : (l : Line) (rest : List Line) → ls ≡ l ∷ rest → order_of l ≡ None → l ≢ config_line → k ≡ 1 → IsStuck ls k
+  -- a line of a block is too long or no text
+  AtBody : (body : List Line) (l : Line) (rest : List Line) → ls ≡ opened body ++ l ∷ rest → IsBody body → ¬ ((length l ≤ longest_line) × IsUtf8 l) → k ≡ length body + 2 → IsStuck ls k
+  -- the lines end within a block
+  AtEnd : (body : List Line) → ls ≡ opened body → IsBody body → k ≡ 1 → IsStuck ls k
 
 -- the lines spell these commands, and then the n-th line of all, counted from 1, is the first at fault
 pub record StopsAt (ls : List Line) (cs : List Command) (n : ℕ) : Type 0 where

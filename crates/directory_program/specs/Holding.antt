@@ -1,5 +1,6 @@
 -- Which history a session stands for, and what a datagram does to it.
-use Rattle.std.specs.Prelude.{◌≡◌, ℕ, List, ◌++◌, Option}
+use Rattle.std.specs.Prelude.{◌≡◌, ℕ, List, [], ◌∷◌, ◌++◌, codes, Option, MatchOption, Result, Ok, Err}
+use Rattle.std.specs.Fmt.{decimal}
 use Rattle.std.specs.Option.{option_map}
 use Rattle.hex.specs.Hex.{encode_lower}
 use Rattle.access_rules.specs.Opening.{opening_rules}
@@ -9,36 +10,42 @@ use Rattle.directory_state.specs.Verdicts.{IsLegal}
 use Rattle.slp_answer.specs.Answering.{Told, IsAnswer}
 use Rattle.slp_stream.specs.Cutting.{front_of, IsCut}
 use Rattle.slp_stream.specs.Framing.{Frames}
-use Rattle.directory_program.specs.Commands.{Order, Single}
-use Rattle.directory_program.specs.Running.{World, Answers, AnswersAll, Does, end_told, end_refused, longest_on_stream}
-use Rattle.directory_program.specs.Sites.{opening_place}
+use Rattle.directory_program.specs.Commands.{Command}
+use Rattle.directory_program.specs.Running.{World, Answers, AnswersAll, Pieces, Does, closed, fault_number, place_of, end_told, end_refused, longest_on_stream}
+use Rattle.site_config.specs.declared.config.Config.{Config}
+use Rattle.site_config.specs.declared.fault.ConfigFault.{ConfigFault}
 use Rattle.directory_program.specs.declared.session.Session.{Session}
 
 -- the session is one to which this happened
 pub record Holds (w : World) (s : Session) : Type 0 where
-  pub legal : IsLegal opening_rules opening_place w.history
-  pub fold : Fold opening_rules opening_place w.history s.directory
+  pub legal : IsLegal opening_rules w.place w.history
+  pub fold : Fold opening_rules w.place w.history s.directory
   pub moment : s.moment ≡ w.moment
   pub asker : s.asker ≡ w.asker
   pub stream : s.stream ≡ w.stream
   pub limit : s.stream.limit ≡ longest_on_stream
+  pub late : s.late ≡ w.late
 
 -- what came of a message, answered in at most so many bytes: the digits of the reply, if one is sent, the audit line, and the session after it
 pub record Takes (limit : ℕ) (w : World) (bytes : List ℕ) (digits : Option (List ℕ)) (audit : List ℕ) (s : Session) : Type 0 where
   pub told : Told
   pub after : History
-  pub is : IsAnswer opening_rules opening_place w.history w.moment w.asker limit bytes told after
+  pub is : IsAnswer opening_rules w.place w.history w.moment w.asker limit bytes told after
   pub shown : digits ≡ option_map (λ _. encode_lower told.reply) told.code
   pub audited : audit ≡ told.audit
   pub holds : Holds (record w { history = after }) s
 
--- what an order may write and make of a session, whatever happened to it before
-abbrev pub Acts : Session → Order → List ℕ → Session → Type 0
-Acts s o now t = (w : World) → Holds w s → (v : World) × Does w (Single o) now v × Holds v t
+-- what a command may write and make of a session, whatever happened to it before
+abbrev pub Acts : Session → Command → List ℕ → Session → Type 0
+Acts s c now t = (w : World) → Holds w s → (v : World) × Does w c now v × Holds v t
 
 -- what a message that is answered in at most so many bytes may write and make of a session
 abbrev pub Meets : ℕ → Session → List ℕ → List ℕ → Session → Type 0
 Meets limit s bytes now t = (w : World) → Holds w s → (v : World) × Answers limit w bytes now v × Holds v t
+
+-- what a piece of the stream may write and make of a session
+abbrev pub TakesPiece : Session → List ℕ → List ℕ → Session → Type 0
+TakesPiece s bytes now t = (w : World) → Holds w s → (v : World) × MatchOption w.stream.refused (Pieces w bytes now v) (λ _. (now ≡ closed) × (v ≡ w)) × Holds v t
 
 -- what the messages that wait in a framer may write and make of a session, which does not hold the framer, and what they leave of the framer
 abbrev pub Drains : Session → Frames → List ℕ → Session → Frames → Type 0
@@ -48,3 +55,16 @@ Drains s f now t g = (w : World) → Holds w s
     × (now ≡ said ++ end_told (front_of f.limit rest))
     × (g ≡ record { limit = f.limit; waiting = rest; refused = end_refused (front_of f.limit rest) })
     × Holds u t
+
+-- what is written of a configuration
+abbrev pub fault_told : ConfigFault → List ℕ
+fault_told e = codes "! config " ++ decimal (fault_number e) ++ 10 ∷ []
+
+abbrev pub config_told : Result (Unit {0}) ConfigFault → List ℕ
+config_told (Ok x) = codes "# config" ++ 10 ∷ []
+config_told (Err e) = fault_told e
+
+-- what came of a configuration, and the session after it: that of the new site, or the one that it was
+abbrev pub ConfiguresTo : World → Result Config ConfigFault → Result (Unit {0}) ConfigFault → Session → Type 0
+ConfiguresTo w (Ok c) told s = (told ≡ Ok tt) × Holds (record w { place = place_of c; history = [] }) s
+ConfiguresTo w (Err e) told s = (told ≡ Err e) × Holds w s

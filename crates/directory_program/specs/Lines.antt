@@ -1,6 +1,6 @@
 -- The lines of a text.
-use Rattle.std.specs.Prelude.{◌≢◌, ℕ, List, [], ◌∷◌, ◌++◌, ◌==◌, if◌then◌else◌}
-use Rattle.std.specs.List.{AllByRecursion}
+use Rattle.std.specs.Prelude.{ℕ, List, [], ◌∷◌, ◌++◌, ◌==◌, if◌then◌else◌}
+use Rattle.slp_text.specs.Words.{Lacks}
 
 -- a line, without its LF
 abbrev pub Line : Type 0
@@ -19,10 +19,6 @@ lines_of (x ∷ xs) = if x == 10 then [] ∷ lines_of xs else onto x (lines_of x
 -- a line and its LF
 abbrev pub ended : Line → List ℕ
 ended l = l ++ 10 ∷ []
-
--- no byte of this value
-abbrev pub Lacks : ℕ → List ℕ → Type 0
-Lacks b l = AllByRecursion (λ x. x ≢ b) l
 
 abbrev pub HasNoLf : List ℕ → Type 0
 HasNoLf l = Lacks 10 l

@@ -1,19 +1,26 @@
 -- What a script may make the program write.
-use Rattle.std.specs.Prelude.{◌≡◌, ◌⊎◌, ℕ, ◌==◌, List, [], ◌∷◌, ◌++◌, length, codes, Option, Some, None, MatchOption, if◌then◌else◌}
+use Rattle.std.specs.Prelude.{◌≡◌, ◌⊎◌, ℕ, Bool, true, false, ◌==◌, Result, Ok, Err, List, [], ◌∷◌, ◌++◌, length, codes, Option, Some, None, MatchOption, if◌then◌else◌}
 use Rattle.std.specs.List.{flat_map}
 use Rattle.std.specs.Option.{option_map_or}
 use Rattle.hex.specs.Hex.{encode_lower}
 use Rattle.access_rules.specs.Opening.{opening_rules}
-use Rattle.directory_judge.specs.History.{History}
+use Rattle.directory_judge.specs.History.{History, Sweep, now}
 use Rattle.slp_answer.specs.Answering.{Told, IsAnswer}
 use Rattle.slp_answer.specs.Refusing.{refused_reply, refused_line}
 use Rattle.slp_stream.specs.Cutting.{Front, Wanting, Whole, Bad, front_of, IsCut}
 use Rattle.slp_stream.specs.Framing.{Frames}
 use Rattle.slp_stream.specs.declared.fault.FrameFault.{FrameFault}
 use Rattle.slp_stream.specs.declared.fault.FrameFault.TheVariants.{TooLong, TooShort, NoMemory}
-use Rattle.directory_program.specs.Commands.{Blank, At, From, Udp, Open, Tcp, Command, Single, Reads, StopsAt}
+use Rattle.directory_program.specs.Commands.{Blank, At, From, Udp, Open, Tcp, Tidy, Command, Single, Configure, Reads, StopsAt, opened, IsBody}
 use Rattle.directory_program.specs.Lines.{Line, lines_of, ended, HasNoLf}
 use Rattle.directory_program.specs.Sites.{opening_place}
+use Rattle.site_config.specs.Configuring.{config_of}
+use Rattle.site_config.specs.declared.config.Config.{Config}
+use Rattle.site_config.specs.declared.fault.ConfigFault.{ConfigFault}
+use Rattle.site_config.specs.declared.fault.ConfigFault.TheVariants.{Toml, Missing, Range}
+use Rattle.site_config.specs.declared.fault.ConfigFault.TheVariants as config
+use Rattle.directory_judge.specs.Sites.{Place}
+use Rattle.std.specs.Fmt.{decimal}
 
 -- the bytes of a reply that is sent as a datagram
 abbrev pub longest_reply : ℕ
@@ -27,16 +34,19 @@ longest_on_stream = 65535
 abbrev pub new_stream : Frames
 new_stream = record { limit = longest_on_stream; waiting = []; refused = None }
 
--- what happened so far, the moment that was set, from where messages come, and what came of the stream and is no whole message
+-- The site and what happened to it, the moment that was set, from where messages come, what came of the stream and is no whole message, and whether
+-- it is too late for another site.
 pub record World : Type 0 where
+  pub place : Place
   pub history : History
   pub moment : ℕ
   pub asker : ℕ
   pub stream : Frames
+  pub late : Bool
 
--- nothing happened, it is moment 0, messages come from 10.0.0.1, and a stream is open
+-- nothing happened to the opening site, it is moment 0, messages come from 10.0.0.1, and a stream is open
 abbrev pub beginning : World
-beginning = record { history = []; moment = 0; asker = 167772161; stream = new_stream }
+beginning = record { place = opening_place; history = []; moment = 0; asker = 167772161; stream = new_stream; late = false }
 
 -- what is written for a datagram: the digits of the reply or a dash, and then the audit line, if any
 abbrev pub answered : Told → List ℕ
@@ -50,7 +60,7 @@ refused bytes asker =
 -- what a message may be answered with, in at most so many bytes, and what it leaves
 abbrev pub Answers : ℕ → World → List ℕ → List ℕ → World → Type 0
 Answers limit w bytes out v =
-    ((t : Told) × (after : History) × IsAnswer opening_rules opening_place w.history w.moment w.asker limit bytes t after × (out ≡ answered t) × (v ≡ record w { history = after }))
+    ((t : Told) × (after : History) × IsAnswer opening_rules w.place w.history w.moment w.asker limit bytes t after × (out ≡ answered t) × (v ≡ record w { history = after }))
     ⊎ ((out ≡ refused bytes w.asker) × (v ≡ w))
 
 -- messages that came on a stream, one after the other
@@ -86,14 +96,45 @@ Pieces w bytes out v =
     × (out ≡ said ++ end_told (front_of longest_on_stream rest))
     × (v ≡ record u { stream = record { limit = longest_on_stream; waiting = rest; refused = end_refused (front_of longest_on_stream rest) } })
 
+-- from now on it is too late for another site
+abbrev pub begun : World → World
+begun w = record w { late = true }
+
+-- a sweep, at the moment that was set or the clock
+abbrev pub swept : World → World
+swept w = record w { history = record { moment = now w.history w.moment; act = Sweep } ∷ w.history; late = true }
+
+-- the number of a fault of a configuration
+abbrev pub fault_number : ConfigFault → ℕ
+fault_number Toml = 1
+fault_number Missing = 2
+fault_number Range = 3
+fault_number config.NoMemory = 4
+
+-- the text of a block: its lines, each with its LF
+abbrev pub text_of : List Line → List ℕ
+text_of body = flat_map ended body
+
+-- the site of a configuration
+abbrev pub place_of : Config → Place
+place_of c = record { scopes = c.scopes; capacity = c.capacity; boot = 1 }
+
+-- what a configuration may write, and what it leaves: a new site, unless it is refused or too late
+abbrev pub Configures : Bool → World → Result Config ConfigFault → List ℕ → World → Type 0
+Configures true w read out v = (out ≡ codes "! late" ++ 10 ∷ []) × (v ≡ w)
+Configures false w (Ok c) out v = (out ≡ codes "# config" ++ 10 ∷ []) × (v ≡ record w { place = place_of c; history = [] })
+Configures false w (Err e) out v = (out ≡ codes "! config " ++ decimal (fault_number e) ++ 10 ∷ []) × (v ≡ w)
+
 -- what a command may write, and what it leaves
 abbrev pub Does : World → Command → List ℕ → World → Type 0
 Does w (Single Blank) out v = (out ≡ []) × (v ≡ w)
 Does w (Single (At m)) out v = (out ≡ []) × (v ≡ record w { moment = m })
 Does w (Single (From a)) out v = (out ≡ []) × (v ≡ record w { asker = a })
-Does w (Single (Udp bytes)) out v = Answers longest_reply w bytes out v
+Does w (Single (Udp bytes)) out v = Answers longest_reply (begun w) bytes out v
 Does w (Single Open) out v = (out ≡ []) × (v ≡ record w { stream = new_stream })
-Does w (Single (Tcp bytes)) out v = MatchOption w.stream.refused (Pieces w bytes out v) (λ _. (out ≡ closed) × (v ≡ w))
+Does w (Single (Tcp bytes)) out v = MatchOption w.stream.refused (Pieces (begun w) bytes out v) (λ _. (out ≡ closed) × (v ≡ begun w))
+Does w (Single Tidy) out v = (out ≡ codes "# sweep" ++ 10 ∷ []) × (v ≡ swept w)
+Does w (Configure body) out v = Configures w.late w (config_of (text_of body)) out v
 
 -- what these commands may write one after the other, and what they leave
 abbrev pub Prints : World → List Command → List ℕ → World → Type 0
@@ -116,6 +157,10 @@ RunsUpTo script n out = (cs : List Command) × StopsAt (lines_of script) cs n ×
 abbrev pub RunsPart : List ℕ → List ℕ → Type 0
 RunsPart read out = (cs : List Command) × (before rest : List Line) × (lines_of read ≡ before ++ rest) × Reads before cs × IsOutput cs out
 
--- these are all commands of what was read, up to a line that is begun, and this is an output of theirs
+-- a block that is begun, or nothing
+abbrev pub IsUnfinished : List Line → Type 0
+IsUnfinished ls = (ls ≡ []) ⊎ ((body : List Line) × (ls ≡ opened body) × IsBody body)
+
+-- these are all commands of what was read, up to a block and a line that are begun, and this is an output of theirs
 abbrev pub RunsWhole : List ℕ → List ℕ → Type 0
-RunsWhole read out = (cs : List Command) × (before : List Line) × (line : List ℕ) × (read ≡ flat_map ended before ++ line) × Reads before cs × HasNoLf line × IsOutput cs out
+RunsWhole read out = (cs : List Command) × (before unended : List Line) × (line : List ℕ) × (read ≡ flat_map ended (before ++ unended) ++ line) × Reads before cs × IsUnfinished unended × HasNoLf line × IsOutput cs out

@@ -1,33 +1,100 @@
 -- Where a run stands between two lines.
-use Rattle.std.specs.Prelude.{◌≡◌, ℕ, ◌+◌, List, length, Option, Some, None, ⊤}
+use Rattle.std.specs.Prelude.{◌≡◌, ◌≢◌, ◌⊎◌, ℕ, ◌+◌, ◌≤◌, nat_le, List, [], ◌++◌, length, Option, Some, None, Err, IsUtf8, string_bytes, if◌then◌else◌, ⊤}
+use Rattle.std.specs.Option.{option_map, option_map_or}
+use Rattle.site_config.specs.Configuring.{config_of, longest_text}
+use Rattle.site_config.specs.declared.fault.ConfigFault.TheVariants.{Range}
 use Rattle.std.specs.Io.KnownBytes.{Keeps}
-use Rattle.directory_program.specs.Commands.{Command, Order, Reads, order_of}
+use Rattle.directory_program.specs.Commands.{Command, Order, Single, Reads, order_of, opened, IsBody, IsBodyLine, config_line, dot, longest_line}
 use Rattle.directory_program.specs.Holding.{Holds, Acts}
-use Rattle.directory_program.specs.Lines.{Line}
-use Rattle.directory_program.specs.Running.{World, Prints, beginning}
+use Rattle.directory_program.specs.Lines.{Line, ended}
+use Rattle.directory_program.specs.Running.{World, Prints, Configures, beginning, text_of}
+use Rattle.directory_program.specs.declared.place.Block.{Block}
 use Rattle.directory_program.specs.declared.place.Place.{Place}
+use Rattle.directory_program.specs.declared.session.Session.{Session}
 use Rattle.directory_program.specs.declared.fault.RunFault.{RunFault}
 use Rattle.directory_program.specs.declared.fault.RunFault.TheVariants.{Read, Write, Line as AtLine, NoMemory}
 
+-- what is kept of the text of a block: nothing where it is longer than a configuration may be
+abbrev pub kept_text : List Line → Option (List ℕ)
+kept_text body = if nat_le (length (text_of body)) longest_text then Some (text_of body) else None
+
+-- these are the lines of the block that is open, behind k lines
+abbrev pub IsOpen : List Line → ℕ → Option Block → Type 0
+IsOpen ls k None = ls ≡ []
+IsOpen ls k (Some b) = (body : List Line) × (ls ≡ opened body) × IsBody body × (b.begun ≡ k + 1) × (option_map string_bytes b.text ≡ kept_text body)
+
 -- the lines brought the run here, and this was written
 pub record Stands (ls : List Line) (out : List ℕ) (p : Place) : Type 0 where
+  pub before : List Line
+  pub unended : List Line
   pub commands : List Command
-  pub reads : Reads ls commands
+  pub all : ls ≡ before ++ unended
+  pub reads : Reads before commands
   pub world : World
   pub prints : Prints beginning commands out world
   pub holds : Holds world p.session
+  pub is_open : IsOpen unended (length before) p.block
   pub number : p.number ≡ length ls
 
--- one line more, which is an order
+-- one more line of a block, or its end, where this is kept of its text so far
+abbrev pub lengthened : Option (List ℕ) → Line → Option (List ℕ)
+lengthened None l = None
+lengthened (Some text) l = if nat_le (length (text ++ ended l)) longest_text then Some (text ++ ended l) else None
+
+-- what the end of a block may write and make of a session, where this is kept of its text: one that is too long is out of its range
+abbrev pub Closes : Session → Option (List ℕ) → List ℕ → Session → Type 0
+Closes s kept now t = (w : World) → Holds w s → (v : World) × Configures w.late w (option_map_or config_of kept (Err Range)) now v × Holds v t
+
+-- a block that is just begun
+abbrev pub Begins : ℕ → Option Block → Type 0
+Begins number None = ⊥
+Begins number (Some b) = (b.begun ≡ number) × (option_map string_bytes b.text ≡ Some [])
+
+-- a block with one line more
+abbrev pub Lengthens : Block → Line → Option Block → Type 0
+Lengthens b l None = ⊥
+Lengthens b l (Some c) = (c.begun ≡ b.begun) × (option_map string_bytes c.text ≡ lengthened (option_map string_bytes b.text) l)
+
+-- what a line of this number outside a block may write and make of a session, and the block that it begins
+abbrev pub TurnsOutside : Session → Line → ℕ → List ℕ → Session → Option Block → Type 0
+TurnsOutside s l number now t block =
+    ((order : Order) × (order_of l ≡ Some order) × Acts s (Single order) now t × (block ≡ None))
+    ⊎ ((l ≡ config_line) × (now ≡ []) × (t ≡ s) × Begins number block)
+
+-- what a line inside a block may write and make of a session, and what of the block is open behind it
+abbrev pub TurnsInside : Session → Line → Block → List ℕ → Session → Option Block → Type 0
+TurnsInside s l b now t block =
+    ((l ≡ dot) × Closes s (option_map string_bytes b.text) now t × (block ≡ None))
+    ⊎ (IsBodyLine l × (now ≡ []) × (t ≡ s) × Lengthens b l block)
+
+-- what a line may write and leave, by the block that is open
+abbrev pub Turns : Option Block → Place → Line → List ℕ → Place → Type 0
+Turns None p l now q = TurnsOutside p.session l (p.number + 1) now q.session q.block
+Turns (Some b) p l now q = TurnsInside p.session l b now q.session q.block
+
+-- one line more
 pub record TurnsTo (p : Place) (l : Line) (now : List ℕ) (q : Place) : Type 0 where
   pub number : q.number ≡ p.number + 1
-  pub order : Order
-  pub says : order_of l ≡ Some order
-  pub acts : Acts p.session order now q.session
+  pub turns : Turns p.block p l now q
 
--- what a line that was not carried out leaves of what was written
+-- what a line outside a block that was not carried out leaves of what was written
+abbrev pub OutsideFails : Line → ℕ → Option (List ℕ) → Option (List ℕ) → RunFault → Type 0
+OutsideFails l number old new (AtLine n) = (n ≡ number) × (order_of l ≡ None) × (l ≢ config_line) × Keeps old new
+OutsideFails l number old new NoMemory = Keeps old new
+OutsideFails l number old new Write = ⊤
+OutsideFails l number old new Read = ⊥
+
+-- the same inside a block
+abbrev pub InsideFails : Line → ℕ → Option (List ℕ) → Option (List ℕ) → RunFault → Type 0
+InsideFails l number old new (AtLine n) = (n ≡ number) × (¬ ((length l ≤ longest_line) × IsUtf8 l)) × Keeps old new
+InsideFails l number old new NoMemory = Keeps old new
+InsideFails l number old new Write = ⊤
+InsideFails l number old new Read = ⊥
+
+-- the same, by the block that is open
+abbrev pub TurnFailsBy : Option Block → Place → Line → Option (List ℕ) → Option (List ℕ) → RunFault → Type 0
+TurnFailsBy None p l old new e = OutsideFails l (p.number + 1) old new e
+TurnFailsBy (Some b) p l old new e = InsideFails l (p.number + 1) old new e
+
 abbrev pub TurnFails : Place → Line → Option (List ℕ) → Option (List ℕ) → RunFault → Type 0
-TurnFails p l old new (AtLine n) = (n ≡ p.number + 1) × (order_of l ≡ None) × Keeps old new
-TurnFails p l old new NoMemory = Keeps old new
-TurnFails p l old new Write = ⊤
-TurnFails p l old new Read = ⊥
+TurnFails p l old new e = TurnFailsBy p.block p l old new e

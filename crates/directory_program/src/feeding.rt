@@ -1,13 +1,13 @@
-ghost use Rattle.std.specs.Prelude.{◌≡◌, ◌≤◌, ◌<◌, ◌+◌, ◌^◌, ◌++◌, ◌⊎◌, ℕ, List, length, vec_len, OnOk, IfErr};
+ghost use Rattle.std.specs.Prelude.{◌≡◌, ◌≤◌, ◌<◌, ◌+◌, ◌^◌, ◌++◌, ◌⊎◌, ℕ, List, length, vec_len, MatchOption, OnOk, IfErr};
 ghost use Rattle.directory_program.specs.Commands.{longest_line};
 ghost use Rattle.directory_program.specs.Feeding.{Stood, Fed, Ends};
 ghost use Rattle.directory_program.specs.declared.fault.RunFault.TheVariants.{Line as AtLine, NoMemory as Lacking};
 
-use crate::cutting::cut;
 use crate::fault::RunFault;
 use crate::place::Place;
 use crate::script::LONGEST_LINE;
 use slp_answer::Answer;
+use slp_text::cut;
 use std::alloc::Global;
 use std::io::Write;
 
@@ -53,7 +53,18 @@ pub fn feed<W: Write>(
     Ok(())
 }
 
-/// Takes the end of a script, which ends its last line too.
+// A script may not end within a block.
+fn ending(place: &Place) -> Result<(), RunFault>
+    ensures { MatchOption place.now.block (result ≡ Ok tt) (λ block. result ≡ Err (AtLine block.begun)) }
+{
+    match &place.block {
+        Some(block) => Err(RunFault::Line(block.begun)),
+        None => Ok(()),
+    }
+}
+
+/// Takes the end of a script, which ends its last line too. Within a block it is a fault of the line
+/// that began it.
 pub fn finish<W: Write>(
     place: &mut Place,
     line: &[u8],
@@ -65,8 +76,9 @@ pub fn finish<W: Write>(
     requires room { place.old.number + 1 < 2 ^ 64 }
     ensures { (read out : List ℕ) → Stood read out line.now place.old → Ends (W.contents writer.old) (W.contents writer.new) read out result }
 {
-    if !line.is_empty() {
-        place.turn(alloc, line, answer, writer)?;
+    if line.is_empty() {
+        return ending(place);
     }
-    Ok(())
+    place.turn(alloc, line, answer, writer)?;
+    ending(place)
 }

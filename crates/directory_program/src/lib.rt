@@ -1,7 +1,6 @@
 //! The directory programs: so far the replay of a script of messages.
 #![tactic(auto)]
 
-mod cutting;
 mod fault;
 mod feeding;
 pub mod laws;
@@ -19,8 +18,8 @@ mod streaming;
 mod tests;
 
 pub use fault::RunFault;
-pub use place::Place;
+pub use place::{Block, Place};
 pub use program::replay_run;
 pub use running::{READS, Replay};
-pub use script::{LONGEST_DATAGRAM, LONGEST_LINE, Said, number, read_line};
+pub use script::{LONGEST_DATAGRAM, LONGEST_LINE, Said, read_line};
 pub use session::Session;

@@ -1,6 +1,10 @@
-ghost use Rattle.std.specs.Prelude.{◌≡◌, ◌<◌, ◌+◌, ◌^◌, ℕ, List, MatchResult};
-ghost use Rattle.std.specs.Io.KnownBytes.{Appends};
-ghost use Rattle.directory_program.specs.Standing.{TurnsTo, TurnFails};
+ghost use Rattle.std.specs.Prelude.{◌≡◌, ◌≤◌, ◌<◌, ◌+◌, ◌^◌, ◌⊎◌, ℕ, List, OnOk, IfOk, MatchResult, string_bytes, length};
+ghost use Rattle.std.specs.Io.KnownBytes.{Appends, Keeps};
+ghost use Rattle.std.specs.Option.{option_map, option_copied};
+ghost use Rattle.directory_program.specs.Commands.{longest_line};
+ghost use Rattle.directory_program.specs.Holding.{fault_told, config_told};
+ghost use Rattle.directory_program.specs.Standing.{Closes, lengthened, TurnsOutside, TurnsInside, OutsideFails, InsideFails, TurnsTo, TurnFails};
+ghost use Rattle.directory_program.specs.declared.fault.RunFault.TheVariants.{Write as Unwritten, NoMemory as Lacking};
 
 use crate::fault::RunFault;
 use crate::meeting::meet;
@@ -8,17 +12,168 @@ use crate::script::{Said, read_line};
 use crate::session::{LONGEST_ON_STREAM, LONGEST_REPLY, Session};
 use crate::streaming::take_piece;
 use access_rules::Addr;
+use site_config::{ConfigFault, LONGEST_CONFIG};
 use slp_answer::Answer;
 use slp_stream::Framer;
+use slp_text::NoMemory;
 use std::alloc::Global;
-use std::io::Write;
+use std::io::{self, Write};
+
+/// The block that is open.
+#[derive(Drop)]
+pub struct Block {
+    /// The line that began it.
+    pub begun: u64,
+    /// Its lines so far, each with its LF; nothing where they are longer than a configuration may be.
+    pub text: Option<String>,
+}
 
 /// Where a run stands between two lines.
 #[derive(Drop)]
 pub struct Place {
     /// The lines so far.
     pub number: u64,
+    pub block: Option<Block>,
     pub session: Session,
+}
+
+// What is kept of a block's text with one line more.
+fn lengthen_text(text: Option<String>, line: &str) -> Result<Option<String>, NoMemory>
+    ensures { IfOk result (λ t. option_map string_bytes t ≡ lengthened (option_map string_bytes text) line.now) }
+{
+    let Some(mut text) = text else {
+        return Ok(None);
+    };
+    if line.len() >= LONGEST_CONFIG - text.len().min(LONGEST_CONFIG) {
+        return Ok(None);
+    }
+    text.push_str(line)?;
+    text.push('\n')?;
+    Ok(Some(text))
+}
+
+// Writes why a configuration is refused.
+fn print_fault<W: Write>(fault: ConfigFault, writer: &mut W) -> io::Result<()>
+    ensures { OnOk result (Appends (W.contents writer.old) (W.contents writer.new) (fault_told fault)) }
+{
+    match fault {
+        ConfigFault::Toml => writer.write_all(b"! config 1\n"),
+        ConfigFault::Missing => writer.write_all(b"! config 2\n"),
+        ConfigFault::Range => writer.write_all(b"! config 3\n"),
+        ConfigFault::NoMemory => writer.write_all(b"! config 4\n"),
+    }
+}
+
+// Writes what came of a configuration.
+fn print_told<W: Write>(told: Result<(), ConfigFault>, writer: &mut W) -> io::Result<()>
+    ensures { OnOk result (Appends (W.contents writer.old) (W.contents writer.new) (config_told told)) }
+{
+    match told {
+        Ok(()) => writer.write_all(b"# config\n"),
+        Err(fault) => print_fault(fault, writer),
+    }
+}
+
+// Ends a block of which this text is kept.
+fn close<W: Write>(
+    session: &mut Session,
+    alloc: Global,
+    text: Option<&str>,
+    writer: &mut W,
+) -> Result<(), RunFault>
+    ensures { MatchResult result
+        (λ _. (now : List ℕ) × Appends (W.contents writer.old) (W.contents writer.new) now × Closes session.old (option_copied text.entry) now session.new)
+        (λ e. (e ≡ Unwritten) ⊎ ((e ≡ Lacking) × Keeps (W.contents writer.old) (W.contents writer.new))) }
+{
+    let written = if session.late {
+        writer.write_all(b"! late\n")
+    } else {
+        print_told(session.configure(alloc, text)?, writer)
+    };
+    match written {
+        Ok(()) => Ok(()),
+        Err(_) => Err(RunFault::Write),
+    }
+}
+
+// Carries out a line outside a block: the block that it begins, if it begins one, at this number.
+fn turn_outside<W: Write>(
+    session: &mut Session,
+    alloc: Global,
+    line: &[u8],
+    number: u64,
+    answer: &mut Answer,
+    writer: &mut W,
+) -> Result<Option<Block>, RunFault>
+    requires short { length line.now ≤ longest_line }
+    ensures { MatchResult result
+        (λ block. (now : List ℕ) × Appends (W.contents writer.old) (W.contents writer.new) now × TurnsOutside session.old line.now number now session.new block)
+        (OutsideFails line.now number (W.contents writer.old) (W.contents writer.new)) }
+{
+    match read_line(alloc, line)? {
+        Said::Blank => {}
+        Said::At(moment) => session.moment = moment,
+        Said::From(asker) => session.asker = Addr(asker),
+        Said::Udp(bytes) => {
+            session.late = true;
+            meet(
+                session,
+                alloc,
+                bytes.as_slice(),
+                LONGEST_REPLY,
+                answer,
+                writer,
+            )?;
+        }
+        Said::Open => session.stream = Framer::new(alloc, LONGEST_ON_STREAM),
+        Said::Tcp(bytes) => {
+            session.late = true;
+            take_piece(session, alloc, bytes.as_slice(), answer, writer)?;
+        }
+        Said::Tidy => {
+            session.tidy();
+            if writer.write_all(b"# sweep\n").is_err() {
+                return Err(RunFault::Write);
+            }
+        }
+        Said::Opens => {
+            let text = Some(String::new(alloc));
+            return Ok(Some(Block {
+                begun: number,
+                text,
+            }));
+        }
+        Said::Wrong => return Err(RunFault::Line(number)),
+    }
+    Ok(None)
+}
+
+// Takes a line of a block, or its end: what of the block is still open.
+fn turn_inside<W: Write>(
+    session: &mut Session,
+    alloc: Global,
+    line: &[u8],
+    number: u64,
+    block: Block,
+    writer: &mut W,
+) -> Result<Option<Block>, RunFault>
+    requires short { length line.now ≤ longest_line }
+    ensures { MatchResult result
+        (λ left. (now : List ℕ) × Appends (W.contents writer.old) (W.contents writer.new) now × TurnsInside session.old line.now block now session.new left)
+        (InsideFails line.now number (W.contents writer.old) (W.contents writer.new)) }
+{
+    let Block { begun, text } = block;
+    if line == b".".as_slice() {
+        close(session, alloc, text.as_deref(), writer)?;
+        return Ok(None);
+    }
+    match str::from_utf8(line) {
+        Ok(line) => {
+            let text = lengthen_text(text, line)?;
+            Ok(Some(Block { begun, text }))
+        }
+        Err(_) => Err(RunFault::Line(number)),
+    }
 }
 
 impl Place {
@@ -30,30 +185,18 @@ impl Place {
         answer: &mut Answer,
         writer: &mut W,
     ) -> Result<(), RunFault>
-        requires { self.old.number + 1 < 2 ^ 64 }
+        requires short { length line.now ≤ longest_line }
+        requires room { self.old.number + 1 < 2 ^ 64 }
         ensures { MatchResult result
             (λ _. (now : List ℕ) × Appends (W.contents writer.old) (W.contents writer.new) now × TurnsTo self.old line.now now self.new)
             (TurnFails self.old line.now (W.contents writer.old) (W.contents writer.new)) }
     {
-        match read_line(alloc, line)? {
-            Said::Blank => {}
-            Said::At(moment) => self.session.moment = moment,
-            Said::From(asker) => self.session.asker = Addr(asker),
-            Said::Udp(bytes) => meet(
-                &mut self.session,
-                alloc,
-                bytes.as_slice(),
-                LONGEST_REPLY,
-                answer,
-                writer,
-            )?,
-            Said::Open => self.session.stream = Framer::new(alloc, LONGEST_ON_STREAM),
-            Said::Tcp(bytes) => {
-                take_piece(&mut self.session, alloc, bytes.as_slice(), answer, writer)?
-            }
-            Said::Wrong => return Err(RunFault::Line(self.number + 1)),
-        }
-        self.number += 1;
+        let number = self.number + 1;
+        self.block = match self.block.take() {
+            None => turn_outside(&mut self.session, alloc, line, number, answer, writer)?,
+            Some(block) => turn_inside(&mut self.session, alloc, line, number, block, writer)?,
+        };
+        self.number = number;
         Ok(())
     }
 }

@@ -103,6 +103,49 @@ fn a_registration_has_a_lifetime_and_a_language(rt: HostRuntime) -> Result<(), F
 }
 
 #[test]
+fn requests_name_any_type_and_any_scopes(rt: HostRuntime) -> Result<(), Fail> {
+    let alloc = rt.alloc();
+    for (message, want) in [
+        // the type `http`
+        (
+            "0201000025000000000000010002656e0000000468747470000744454641554c5400000000",
+            "> 0202000014000000000000010002656e00000000\n# allow code=0 by=none action=see asker=10.0.0.1 type=http scope=-\n",
+        ),
+        // what is no type
+        (
+            "0201000024000000000000010002656e00000003613a62000744454641554c5400000000",
+            "> 0202000012000000000000010002656e0002\n# deny code=2 by=parse action=see asker=10.0.0.1 type=- scope=-\n",
+        ),
+        // the scope list `a,b`, of which none is supported
+        (
+            "020100002c000000000000010002656e0000000f736572766963653a7072696e7465720003612c6200000000",
+            "> 0202000012000000000000010002656e0004\n# deny code=4 by=scope action=see asker=10.0.0.1 type=service:printer scope=-\n",
+        ),
+        // what is no scope list
+        (
+            "020100002b000000000000010002656e0000000f736572766963653a7072696e7465720002613b00000000",
+            "> 0202000012000000000000010002656e0002\n# deny code=2 by=parse action=see asker=10.0.0.1 type=- scope=-\n",
+        ),
+    ] {
+        let script = format!(in alloc; "udp {message}\n")?;
+        assert_eq!(rt; output(alloc, script.as_str())?.as_slice(), want.as_bytes(), "{message}");
+    }
+    Ok(())
+}
+
+#[test]
+fn a_withdrawal_ends_a_service_once(rt: HostRuntime) -> Result<(), Fail> {
+    let alloc = rt.alloc();
+    let withdrawal = "0204000038000000000000030002656e000744454641554c540000000017736572766963653a7072696e7465723a6c70723a2f2f61000000";
+    let script = format!(in alloc; "udp {REGISTRATION}\nudp {withdrawal}\nudp {withdrawal}\nudp {REQUEST}\n")?;
+    let first = "> 0205000012000000000000030002656e0000\n# allow code=0 by=rule:all-withdraw action=withdraw asker=10.0.0.1 type=service:printer:lpr scope=default\n";
+    let second = "> 0205000012000000000000030002656e0000\n# allow code=0 by=none action=withdraw asker=10.0.0.1 type=- scope=-\n";
+    let want = format!(in alloc; "{ACCEPTED}{first}{second}{NOTHING_FOUND}")?;
+    assert_eq!(rt; output(alloc, script.as_str())?.as_slice(), want.as_bytes());
+    Ok(())
+}
+
+#[test]
 fn what_is_not_answered_yet_is_silent(rt: HostRuntime) -> Result<(), Fail> {
     let alloc = rt.alloc();
     for message in [
@@ -111,18 +154,15 @@ fn what_is_not_answered_yet_is_silent(rt: HostRuntime) -> Result<(), Fail> {
         // a function that there is not, of another version too
         "020c000030000000000000010002656e0000000f736572766963653a7072696e746572000744454641554c5400000000",
         "030c000030000000000000010002656e0000000f736572766963653a7072696e746572000744454641554c5400000000",
-        // a reply, an acknowledgement, a withdrawal
+        // a reply, an acknowledgement, a withdrawal that is sent to many, one of tags
         "0202000014000000000000010002656e00000000",
         "0205000012000000000000020002656e0000",
-        "0204000038000000000000030002656e000744454641554c540000000017736572766963653a7072696e7465723a6c70723a2f2f61000000",
+        "0204000038200000000000030002656e000744454641554c540000000017736572766963653a7072696e7465723a6c70723a2f2f61000000",
+        "0204000039000000000000030002656e000744454641554c540000000017736572766963653a7072696e7465723a6c70723a2f2f6100000178",
         // sent to many
         "0201000030200000000000010002656e0000000f736572766963653a7072696e746572000744454641554c5400000000",
         // a registration that is not fresh
         "020300004e000000000000020002656e00012c0017736572766963653a7072696e7465723a6c70723a2f2f61000013736572766963653a7072696e7465723a6c7072000744454641554c54000000",
-        // the type `http`
-        "0201000025000000000000010002656e0000000468747470000744454641554c5400000000",
-        // the scope list `a,b`
-        "020100002c000000000000010002656e0000000f736572766963653a7072696e7465720003612c6200000000",
     ] {
         let script = format!(in alloc; "udp {message}\nudp {REQUEST}\n")?;
         let want = format!(in alloc; "> -\n{NOTHING_FOUND}")?;
@@ -379,6 +419,92 @@ fn the_clock_does_not_go_back(rt: HostRuntime) -> Result<(), Fail> {
 }
 
 #[test]
+fn a_site_is_told_what_came_of_it(rt: HostRuntime) -> Result<(), Fail> {
+    let alloc = rt.alloc();
+    let listen = "listen = [\"127.0.0.1:427\", \"127.0.0.2:427\"]";
+    let short = "config\nscopes = \"DEFAULT\"\ncapacity = 16\n.\n";
+    let empty = format!(in alloc; "config\nscopes = \"DEFAULT\"\n{listen}\ncapacity = 0\n.\n")?;
+    let bad = "config\nscopes = \n.\n";
+    let good = format!(in alloc; "config\nscopes = \"DEFAULT\"\n{listen}\ncapacity = 16\n.\n")?;
+    let script = format!(in alloc; "{short}{empty}{bad}{good}udp {REQUEST}\n{good}")?;
+    let want = format!(in alloc;
+        "! config 2\n! config 3\n! config 1\n# config\n{NOTHING_FOUND}! late\n"
+    )?;
+    assert_eq!(rt; output(alloc, script.as_str())?.as_slice(), want.as_bytes());
+    Ok(())
+}
+
+#[test]
+fn messages_and_sweeps_make_it_late_for_a_site(rt: HostRuntime) -> Result<(), Fail> {
+    let alloc = rt.alloc();
+    let message = format!(in alloc; "udp {REQUEST}\nconfig\nat x\n\n.\nat 1\n")?;
+    let found = format!(in alloc; "{NOTHING_FOUND}! late\n")?;
+    for (script, want) in [
+        (
+            "sweep\nconfig\nat x\n.\nsweep\n",
+            "# sweep\n! late\n# sweep\n",
+        ),
+        ("udp \nconfig\n.\n", "> -\n! late\n"),
+        ("tcp \nconfig\nconfig\n.", "! late\n"),
+        (message.as_str(), found.as_str()),
+    ] {
+        assert_eq!(rt;
+            output(alloc, script)?.as_slice(),
+            want.as_bytes(),
+            "{script}"
+        );
+    }
+    Ok(())
+}
+
+#[test]
+fn other_lines_leave_time_for_a_site(rt: HostRuntime) -> Result<(), Fail> {
+    let script = "open\nat 1\nfrom 1.2.3.4\n\nconfig\n.\nconfig\n.\n";
+    assert_eq!(rt;
+        output(rt.alloc(), script)?.as_slice(),
+        b"! config 2\n! config 2\n".as_slice()
+    );
+    Ok(())
+}
+
+#[test]
+fn the_text_of_a_site_has_a_limit(rt: HostRuntime) -> Result<(), Fail> {
+    let alloc = rt.alloc();
+    let mut line = String::from_str(alloc, "#")?;
+    for _ in 0..131_070 {
+        line.push('#')?;
+    }
+    let mut body = String::from_str(alloc, "config\n")?;
+    for _ in 0..8 {
+        body.push_str(line.as_str())?;
+        body.push('\n')?;
+    }
+    let script = format!(in alloc; "{body}.\n{body}\n.\n")?;
+    assert_eq!(rt;
+        output(alloc, script.as_str())?.as_slice(),
+        b"! config 2\n! config 3\n".as_slice()
+    );
+    Ok(())
+}
+
+#[test]
+fn a_line_of_a_block_is_a_text(rt: HostRuntime) -> Result<(), Fail> {
+    let alloc = rt.alloc();
+    for script in [
+        b"at 1\nconfig\n\xff\n.\n".as_slice(),
+        b"sweep\nconfig\n\xff".as_slice(),
+    ] {
+        let mut out = Vec::new(alloc);
+        let mut reader = script;
+        assert_eq!(rt;
+            Replay::new(alloc).run(alloc, &mut reader, &mut out),
+            Err(RunFault::Line(3))
+        );
+    }
+    Ok(())
+}
+
+#[test]
 fn the_program_answers_its_status(rt: HostRuntime) -> Result<(), Fail> {
     let alloc = rt.alloc();
     let words = vec![in alloc; String::from_str(alloc, "x")?]?;
@@ -387,6 +513,10 @@ fn the_program_answers_its_status(rt: HostRuntime) -> Result<(), Fail> {
         (&none, "at 5\n", 0, ""),
         (&none, "at 5\nat x\n", 3, "! line 2\n"),
         (&none, "\n\r\n", 3, "! line 2\n"),
+        (&none, ".\n", 3, "! line 1\n"),
+        (&none, "config", 3, "! line 1\n"),
+        (&none, "at 5\nconfig\nat x\n", 3, "! line 2\n"),
+        (&none, "sweep\nconfig\nsweep", 3, "# sweep\n! line 2\n"),
         (&words, "at x\n", 64, "usage: slpreplay\n"),
     ] {
         let mut out = Vec::new(alloc);

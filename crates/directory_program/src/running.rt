@@ -79,6 +79,7 @@ impl Replay {
         let mut chunk = vec![in alloc; 0u8; CHUNK]?;
         let mut place = Place {
             number: 0,
+            block: None,
             session: Session::open(alloc)?,
         };
         run_through(

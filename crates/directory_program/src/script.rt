@@ -1,8 +1,8 @@
-ghost use Rattle.std.specs.Prelude.{◌≡◌, ◌≤◌, ◌<◌, [], ◌∷◌, None, length, IfOk, IfSome};
-ghost use Rattle.directory_program.specs.Commands.{number_of, octet_of, address_in, address_of, behind, at_word, from_word, longest_line};
+ghost use Rattle.std.specs.Prelude.{◌≡◌, ◌≤◌, ◌<◌, None, length, IfOk};
+ghost use Rattle.directory_program.specs.Commands.{behind, at_word, from_word, longest_line};
 ghost use Rattle.directory_program.specs.Saying.{Says};
 
-use crate::cutting::cut;
+use access_rules::{Addr, number};
 use hex::FromHexError;
 use slp_text::NoMemory;
 use std::alloc::Global;
@@ -28,59 +28,12 @@ pub enum Said {
     Open,
     /// These bytes came on the stream.
     Tcp(Vec<u8>),
+    /// What is dead is swept.
+    Tidy,
+    /// A configuration begins.
+    Opens,
     /// The line is no order.
     Wrong,
-}
-
-/// The number that decimal digits are, below 2^32.
-pub fn number(digits: &[u8]) -> Option<u32>
-    ensures { result ≡ number_of digits.now }
-{
-    if digits.is_empty() {
-        return None;
-    }
-    let mut value = 0u32;
-    for x in digits {
-        if *x < b'0' || *x > b'9' {
-            return None;
-        }
-        let next = u64::from(value) * 10 + u64::from(*x - b'0');
-        if next >= 1 << 32 {
-            return None;
-        }
-        value = next as u32;
-    }
-    Some(value)
-}
-
-fn octet(digits: &[u8]) -> Option<u32>
-    ensures value { result ≡ octet_of digits.now }
-    ensures small { IfSome result (λ n. n < 256) }
-{
-    let value = number(digits)?;
-    if value > 255 {
-        return None;
-    }
-    Some(value)
-}
-
-// The address of four octets, the first of them the highest.
-fn joined(a: &[u8], b: &[u8], c: &[u8], d: &[u8]) -> Option<u32>
-    ensures { result ≡ address_in (octet_of a.now ∷ octet_of b.now ∷ octet_of c.now ∷ octet_of d.now ∷ []) }
-{
-    let high = octet(a)? * 256 + octet(b)?;
-    let low = octet(c)? * 256 + octet(d)?;
-    Some(high * 65536 + low)
-}
-
-// The address that four octets are, with a dot between each two.
-fn address(text: &[u8]) -> Option<u32>
-    ensures { result ≡ address_of text.now }
-{
-    let (a, rest) = cut(text, b'.')?;
-    let (b, rest) = cut(rest, b'.')?;
-    let (c, d) = cut(rest, b'.')?;
-    joined(a, b, c, d)
 }
 
 // What a line says that begins with neither `at` nor `from`.
@@ -101,6 +54,12 @@ fn read_message(alloc: Global, line: &[u8]) -> Result<Said, NoMemory>
     }
     if line == b"open".as_slice() {
         return Ok(Said::Open);
+    }
+    if line == b"sweep".as_slice() {
+        return Ok(Said::Tidy);
+    }
+    if line == b"config".as_slice() {
+        return Ok(Said::Opens);
     }
     if let Some(text) = line.strip_prefix(b"tcp ") {
         return match hex::decode(alloc, text) {
@@ -130,8 +89,8 @@ pub fn read_line(alloc: Global, line: &[u8]) -> Result<Said, NoMemory>
         });
     }
     if let Some(text) = line.strip_prefix(b"from ") {
-        return Ok(match address(text) {
-            Some(from) => Said::From(from),
+        return Ok(match Addr::parse(text) {
+            Some(from) => Said::From(from.0),
             None => Said::Wrong,
         });
     }

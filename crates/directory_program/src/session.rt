@@ -1,5 +1,7 @@
 ghost use Rattle.std.specs.Prelude.{◌≡◌, ◌≤◌, IfOk, MatchResult, string_bytes};
-ghost use Rattle.std.specs.Option.{option_map};
+ghost use Rattle.std.specs.Option.{option_map, option_map_or, option_copied};
+ghost use Rattle.site_config.specs.Configuring.{config_of};
+ghost use Rattle.site_config.specs.declared.fault.ConfigFault.TheVariants.{Range};
 ghost use Rattle.std.specs.FinMap as fin;
 ghost use Rattle.hex.specs.Hex.{encode_lower};
 ghost use Rattle.registry_core.specs.Entries.{of_list};
@@ -10,6 +12,7 @@ use access_rules::{Addr, Rules};
 use directory_judge::{Change, Site};
 use directory_state::Directory;
 use registry_core::{ListRegistry, RegistryFault};
+use site_config::{Config, ConfigFault};
 use slp_answer::{Answer, Sent, acknowledge, is_change, reply};
 use slp_stream::Framer;
 use slp_text::{NoMemory, ScopeList};
@@ -42,6 +45,8 @@ pub struct Session {
     pub moment: u32,
     pub asker: Addr,
     pub stream: Framer,
+    /// Whether it is too late for another site.
+    pub late: bool,
 }
 
 // The site of one scope, `DEFAULT`.
@@ -70,8 +75,8 @@ impl Session {
     ghost use Rattle.directory_judge.specs.History.{History};
     ghost use Rattle.slp_answer.specs.Answering.{Told, Tells, HandsOut, IsAnswer};
     ghost use Rattle.directory_program.specs.Opening.{opening_session};
-    ghost use Rattle.directory_program.specs.Holding.{Holds, Takes};
-    ghost use Rattle.directory_program.specs.Running.{World};
+    ghost use Rattle.directory_program.specs.Holding.{Holds, Takes, ConfiguresTo};
+    ghost use Rattle.directory_program.specs.Running.{World, swept};
 
     /// The setup with which a run begins: the scope `DEFAULT`, room for 16 entries, and rules that
     /// allow everything to everyone.
@@ -86,7 +91,49 @@ impl Session {
             moment: 0,
             asker: FIRST_ASKER,
             stream: Framer::new(alloc, LONGEST_ON_STREAM),
+            late: false,
         })
+    }
+
+    /// Begins anew on the site of a configuration, without entries and at clock 0. The rules are the
+    /// opening ones; the moment, the asker and the stream stay. A refused text changes nothing, and
+    /// one that is not kept is out of its range.
+    pub fn configure(
+        &mut self,
+        alloc: Global,
+        text: Option<&str>,
+    ) -> Result<Result<(), ConfigFault>, NoMemory>
+        ensures { (w : World) → Holds w self.old → IfOk result (λ told. ConfiguresTo w (option_map_or config_of (option_copied text.entry) (Err Range)) told self.new) }
+    {
+        let Some(text) = text else {
+            return Ok(Err(ConfigFault::Range));
+        };
+        let config = match Config::from_text(alloc, text) {
+            Ok(config) => config,
+            Err(ConfigFault::NoMemory) => return Err(NoMemory),
+            Err(fault) => return Ok(Err(fault)),
+        };
+        let Config {
+            scopes,
+            capacity,
+            ..
+        } = config;
+        let site = Site::new(scopes, capacity, BOOT);
+        let Ok(registry) = ListRegistry::new(alloc, capacity) else {
+            return Err(NoMemory);
+        };
+        let rules = Arc::new(alloc, Rules::opening(alloc)?)?;
+        self.directory = Directory::open(alloc, registry, &site, rules)?;
+        Ok(Ok(()))
+    }
+
+    /// Sweeps at the moment that was set, or at the clock where that is greater.
+    pub fn tidy(&mut self)
+        ensures { (w : World) → Holds w self.old → Holds (swept w) self.new }
+    {
+        let now = self.directory.now(self.moment);
+        self.directory.apply(Change::Sweep(now));
+        self.late = true;
     }
 
     /// Answers a message in at most `limit` bytes, and makes the change that it asks for. What is
@@ -124,9 +171,9 @@ impl Session {
         requires datagram { 1400 ≤ limit }
         requires stream { limit ≤ 65535 }
         ensures { (w : World) → Holds w self.now → IfOk result (λ r. (t : Told) × (after : History)
-            × IsAnswer opening_rules opening_place w.history w.moment w.asker limit bytes.now t after
+            × IsAnswer opening_rules w.place w.history w.moment w.asker limit bytes.now t after
             × Tells t r.0 answer.new.bytes.items answer.new.audit.items
-            × HandsOut opening_rules opening_place w.history r.1 after) }
+            × HandsOut opening_rules w.place w.history r.1 after) }
     {
         if is_change(bytes) {
             return acknowledge(

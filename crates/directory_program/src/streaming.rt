@@ -1,7 +1,6 @@
 ghost use Rattle.std.specs.Prelude.{◌≡◌, ◌⊎◌, ℕ, List, None, MatchResult, OnOk};
 ghost use Rattle.std.specs.Io.KnownBytes.{Appends, Keeps};
-ghost use Rattle.directory_program.specs.Commands.{Tcp as TcpOrder};
-ghost use Rattle.directory_program.specs.Holding.{Acts, Drains};
+ghost use Rattle.directory_program.specs.Holding.{TakesPiece, Drains};
 ghost use Rattle.directory_program.specs.Running.{bad_length};
 ghost use Rattle.directory_program.specs.declared.fault.RunFault.TheVariants.{Write as Unwritten, NoMemory as Lacking};
 
@@ -61,7 +60,7 @@ pub fn take_piece<W: Write>(
     writer: &mut W,
 ) -> Result<(), RunFault>
     ensures { MatchResult result
-        (λ _. (now : List ℕ) × Appends (W.contents writer.old) (W.contents writer.new) now × Acts session.old (TcpOrder bytes.now) now session.new)
+        (λ _. (now : List ℕ) × Appends (W.contents writer.old) (W.contents writer.new) now × TakesPiece session.old bytes.now now session.new)
         (λ e. (e ≡ Unwritten) ⊎ ((e ≡ Lacking) × Keeps (W.contents writer.old) (W.contents writer.new))) }
 {
     match session.stream.feed(bytes) {

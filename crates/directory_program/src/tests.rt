@@ -1,4 +1,4 @@
-use crate::{LONGEST_DATAGRAM, LONGEST_LINE, Said, number, read_line};
+use crate::{LONGEST_DATAGRAM, LONGEST_LINE, Said, read_line};
 use std::alloc::Global;
 use std::test::Fail;
 
@@ -13,8 +13,6 @@ fn orders_are_read(rt: HostRuntime) -> Result<(), Fail> {
     assert!(rt; matches!(said(&rt, b"at 0")?, Said::At(0)));
     assert!(rt; matches!(said(&rt, b"at 007")?, Said::At(7)));
     assert!(rt; matches!(said(&rt, b"at 4294967295")?, Said::At(4294967295)));
-    assert_eq!(rt; number(b"0012"), Some(12));
-    assert_eq!(rt; number(b""), None);
     assert!(rt; matches!(said(&rt, b"from 010.0.0.1")?, Said::From(0x0a00_0001)));
     assert!(rt; matches!(said(&rt, b"from 255.255.255.255")?, Said::From(0xffff_ffff)));
     assert!(rt; matches!(&said(&rt, b"udp ")?, Said::Udp(bytes) if bytes.is_empty()));
@@ -26,6 +24,8 @@ fn orders_are_read(rt: HostRuntime) -> Result<(), Fail> {
     assert!(rt;
         matches!(&said(&rt, b"tcp aB00")?, Said::Tcp(bytes) if bytes.as_slice() == b"\xab\x00".as_slice())
     );
+    assert!(rt; matches!(said(&rt, b"sweep")?, Said::Tidy));
+    assert!(rt; matches!(said(&rt, b"config")?, Said::Opens));
     Ok(())
 }
 
@@ -61,6 +61,13 @@ fn other_lines_are_wrong(rt: HostRuntime) -> Result<(), Fail> {
         "tcp 0",
         "tcp 0g",
         "tcp  00",
+        "sweep ",
+        "sweeps",
+        "Sweep",
+        "config ",
+        "confi",
+        "Config",
+        ".",
         "\r",
         " ",
         "at 5é",

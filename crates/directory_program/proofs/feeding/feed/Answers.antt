@@ -10,6 +10,7 @@ use Rattle.directory_program.specs.declared.place.Place.{Place}
 use Rattle.directory_program.specs.Feeding.{Went, Failed}
 use Rattle.directory_program.proofs.Known.{Appends-none}
 use Rattle.directory_program.proofs.Pieces.{Went-long, Went-memory, Went-turn_fails, Went-turned, Went-rest}
+use Rattle.directory_program.proofs.Standing.{fails_as}
 use Rattle.directory_program.proofs.feeding.feed.Goals as goal
 
 lengthen_fails : (w v : Option (List ℕ)) (read out line : List ℕ) (p : Place) (done xs tail piece : List ℕ) (e : RunFault) → Went w v (read ++ done) out line p → piece ≡ done ++ (xs ++ tail) → HasNoLf xs → (e ≡ NoMemory) ⊎ ((e ≡ AtLine (p.number + 1)) × (longest_line < length (line ++ xs))) → Failed w v (read ++ piece) out e
@@ -39,7 +40,7 @@ returns-in_err-turn-clause-fed g c = λ read out s.
     let t = c.loop-front.invariant.stood read out s in
     let p = err_from_is_err_and c.from_residual-in_err-turn.result c.from_residual-in_err-turn.ensures.1 in
     let whole : c.as_slice.result.now ≡ c.loop-front.line.items ++ c.in-Some.front.now = c.as_slice.ensures.value ∙ c.in_ok-lengthen.ensures.items in
-    rw (p.1, p.2) (Went-turn_fails _ _ _ read out _ c.loop-front.place t.0 c.in-Some.front.now c.in-Some.back.now c.args.piece.now _ t.2 (rw (← c.in-Some.ensures.0) t.1) c.in-Some.ensures.1 c.in_ok-lengthen.ensures.short (rw (← whole) c.in_err-turn.ensures))
+    rw (p.1, p.2) (Went-turn_fails _ _ _ read out _ c.loop-front.place t.0 c.in-Some.front.now c.in-Some.back.now c.args.piece.now _ t.2 (rw (← c.in-Some.ensures.0) t.1) c.in-Some.ensures.1 c.in_ok-lengthen.ensures.short (fails_as _ c.loop-front.place _ _ _ _ (rw (← whole) c.in_err-turn.ensures)))
 
 pub loop-front-preserved : goal.loop-front-preserved
 loop-front-preserved g c =

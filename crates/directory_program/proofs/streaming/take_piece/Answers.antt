@@ -4,7 +4,7 @@ use Rattle.slp_stream.specs.Framing.{Frames, Refuses}
 use Rattle.slp_stream.specs.declared.fault.FrameFault.{FrameFault}
 use Rattle.directory_program.specs.declared.fault.RunFault.{RunFault}
 use Rattle.directory_program.specs.declared.fault.RunFault.TheVariants.{Write, NoMemory}
-use Rattle.directory_program.proofs.Streams.{Acts-fed}
+use Rattle.directory_program.proofs.Streams.{TakesPiece-fed}
 use Rattle.directory_program.proofs.streaming.take_piece.Goals as goal
 
 unrefused : (f : Frames) (refused : Option FrameFault) → f.refused ≡ refused → Refuses f (Ok tt) → f.refused ≡ None
@@ -20,4 +20,4 @@ returns-in-Ok g c =
     let none = unrefused c.args.session.now.stream c.args.session.now.stream.refused refl c.in-Ok.ensures.faults in
     let fresh = c.replace-stream.ensures.after ∙ c.new-fresh.ensures in
     let fed = c.replace-stream.ensures.value ∙ c.in-Ok.ensures.fed in
-    told_as _ _ _ c.drain-told.result (λ h. (h.0, h.1, Acts-fed c.args.session.now c.args.bytes.now h.0 c.replace-stream.new.dest c.drain-told.new.session c.replace-stream.result c.drain-told.new.stream _ fresh none fed h.2 refl)) c.drain-told.ensures
+    told_as _ _ _ c.drain-told.result (λ h. (h.0, h.1, TakesPiece-fed c.args.session.now c.args.bytes.now h.0 c.replace-stream.new.dest c.drain-told.new.session c.replace-stream.result c.drain-told.new.stream _ fresh none fed h.2 refl)) c.drain-told.ensures

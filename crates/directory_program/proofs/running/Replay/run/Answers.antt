@@ -24,7 +24,7 @@ returns-in_err-open-clause-known g c =
     rw (p.1, p.2) (KnownGives-lacks (g.R.Read.remaining c.args.reader.now) (g.W.Write.contents c.args.writer.now))
 
 pub run_through-requires-clause-begun : goal.run_through-requires-clause-begun
-run_through-requires-clause-begun g c = Stood-begin _ refl c.in_ok-open.ensures
+run_through-requires-clause-begun g c = Stood-begin _ refl refl c.in_ok-open.ensures
 
 pub returns-clause-gives : goal.returns-clause-gives
 returns-clause-gives g c = c.run_through.ensures

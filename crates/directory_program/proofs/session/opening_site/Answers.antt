@@ -1,0 +1,16 @@
+use Rattle.std.proofs.Common.{◌≡◌, List, ℕ, [], ◌∷◌, Ok, Result, sym, ap, ◌∙◌, codes}
+use Rattle.slp_text.specs.Key.{key_of}
+use Rattle.slp_text.specs.Scopes.{scopes_of}
+use Rattle.slp_text.specs.declared.faults.TextFault.{TextFault}
+use Rattle.slp_text.proofs.KeyRows.{default_scopes}
+use Rattle.directory_judge.specs.Sites.{Place}
+use Rattle.directory_program.proofs.session.opening_site.Goals as goal
+
+same_list : (a b : List (List ℕ)) → ◌≡◌ {A = Result (List (List ℕ)) TextFault} (Ok a) (Ok b) → a ≡ b
+same_list a b h = cc
+
+pub returns-in-Ok : goal.returns-in-Ok
+returns-in-Ok c =
+    let read : scopes_of (codes "DEFAULT") ≡ Ok c.in-Ok.scopes = c.in-Ok.ensures in
+    let same : c.in-Ok.scopes ≡ key_of (codes "DEFAULT") ∷ [] = same_list c.in-Ok.scopes (key_of (codes "DEFAULT") ∷ []) (sym read ∙ default_scopes) in
+    c.new.ensures ∙ ap (λ (ks : List (List ℕ)). record { scopes = ks; capacity = 16; boot = 1 }) same
