@@ -68,9 +68,11 @@ pub fn read_scopes(alloc: Global, text: &str) -> Result<Option<ScopeList>, NoMem
 pub fn names_nothing(text: &str) -> bool
     ensures { result ≡ names_no_tag text.now }
 {
-    text.as_bytes()
-        .iter()
-        .all(|b| *b == b' ' || *b == b'\t' || *b == b'\n' || *b == b'\r' || *b == b',')
+    text.as_bytes().iter().all(|b| *b == b' '
+        || *b == b'\t'
+        || *b == b'\n'
+        || *b == b'\r'
+        || *b == b',')
 }
 
 /// Whether a type is that of a directory agent.

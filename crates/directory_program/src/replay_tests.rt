@@ -128,7 +128,11 @@ fn requests_name_any_type_and_any_scopes(rt: HostRuntime) -> Result<(), Fail> {
         ),
     ] {
         let script = format!(in alloc; "udp {message}\n")?;
-        assert_eq!(rt; output(alloc, script.as_str())?.as_slice(), want.as_bytes(), "{message}");
+        assert_eq!(rt;
+            output(alloc, script.as_str())?.as_slice(),
+            want.as_bytes(),
+            "{message}"
+        );
     }
     Ok(())
 }
@@ -136,10 +140,15 @@ fn requests_name_any_type_and_any_scopes(rt: HostRuntime) -> Result<(), Fail> {
 #[test]
 fn a_withdrawal_ends_a_service_once(rt: HostRuntime) -> Result<(), Fail> {
     let alloc = rt.alloc();
-    let withdrawal = "0204000038000000000000030002656e000744454641554c540000000017736572766963653a7072696e7465723a6c70723a2f2f61000000";
-    let script = format!(in alloc; "udp {REGISTRATION}\nudp {withdrawal}\nudp {withdrawal}\nudp {REQUEST}\n")?;
-    let first = "> 0205000012000000000000030002656e0000\n# allow code=0 by=rule:all-withdraw action=withdraw asker=10.0.0.1 type=service:printer:lpr scope=default\n";
-    let second = "> 0205000012000000000000030002656e0000\n# allow code=0 by=none action=withdraw asker=10.0.0.1 type=- scope=-\n";
+    let withdrawal =
+        "0204000038000000000000030002656e000744454641554c540000000017736572766963653a7072696e7465723a6c70723a2f2f61000000";
+    let script = format!(in alloc;
+        "udp {REGISTRATION}\nudp {withdrawal}\nudp {withdrawal}\nudp {REQUEST}\n"
+    )?;
+    let first =
+        "> 0205000012000000000000030002656e0000\n# allow code=0 by=rule:all-withdraw action=withdraw asker=10.0.0.1 type=service:printer:lpr scope=default\n";
+    let second =
+        "> 0205000012000000000000030002656e0000\n# allow code=0 by=none action=withdraw asker=10.0.0.1 type=- scope=-\n";
     let want = format!(in alloc; "{ACCEPTED}{first}{second}{NOTHING_FOUND}")?;
     assert_eq!(rt; output(alloc, script.as_str())?.as_slice(), want.as_bytes());
     Ok(())

@@ -157,7 +157,11 @@ fn put_byte(line: &mut Vec<u8>, byte: u8) -> Result<(), NoMemory>
 {
     if is_reserved(Place::Scope, char::from(byte)) {
         let digits = b"0123456789ABCDEF";
-        line.extend_from_slice(&[b'\\', digits[usize::from(byte / 16)], digits[usize::from(byte % 16)]])?;
+        line.extend_from_slice(&[
+            b'\\',
+            digits[usize::from(byte / 16)],
+            digits[usize::from(byte % 16)],
+        ])?;
     } else {
         line.extend_from_slice(&[byte])?;
     }

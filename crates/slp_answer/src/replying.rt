@@ -10,10 +10,10 @@ ghost use Rattle.slp_answer.specs.Answering.{is_change_of, Told, Tells, telling,
 ghost use Rattle.slp_answer.specs.Cutting.{IsCut};
 
 use crate::answer::{Answer, Sent};
+use crate::asking::{Question, read_question};
 use crate::audit::Audit;
 use crate::cutting::fitting;
 use crate::faulting::answer_fault;
-use crate::asking::{Question, read_question};
 use crate::sending::{reply_header, send};
 use crate::understanding::{into_request, understood};
 use access_rules::{Action, Addr};
