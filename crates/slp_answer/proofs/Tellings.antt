@@ -1,5 +1,5 @@
 -- What is told of a message, by what it is.
-use Rattle.std.proofs.Common.{◌≡◌, ℕ, Bool, true, false, List, [], ◌∷◌, Option, Some, None, Result, Ok, Err, refl, sym, ap, subst, ◌∙◌}
+use Rattle.std.proofs.Common.{◌≡◌, ℕ, true, false, List, [], ◌∷◌, Option, Some, None, Result, Ok, Err, refl, sym, ap, subst, ◌∙◌}
 use Rattle.std.proofs.lemmas.Option.{none-some, same_Some}
 use Rattle.slp_wire.specs.Headers.{Heading}
 use Rattle.slp_wire.specs.Messages.{IsMessage, header_of}
@@ -10,7 +10,7 @@ use Rattle.slp_wire.specs.declared.message.Message.TheVariants as message
 use Rattle.slp_wire.specs.declared.message.ServiceRequest.{ServiceRequest}
 use Rattle.access_rules.specs.declared.rule.Action.{Action}
 use Rattle.access_rules.specs.declared.rule.Rule.{Rule as AnyRule}
-use Rattle.directory_judge.specs.History.{History, Event}
+use Rattle.directory_judge.specs.History.{History}
 use Rattle.directory_judge.specs.Judging.{Judgement, Accepts, Ignores, Waits, Denies, IsChange}
 use Rattle.directory_judge.specs.Meaning.{rules}
 use Rattle.directory_judge.specs.Sites.{Place}

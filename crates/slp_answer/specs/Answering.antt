@@ -1,12 +1,11 @@
 -- What is answered to bytes that come in, and what they change.
-use Rattle.std.specs.Prelude.{◌≡◌, ◌≤◌, ◌⊎◌, ℕ, Bool, false, not, ◌==◌, ◌&&◌, ◌||◌, List, [], ◌∷◌, length, codes, Option, Some, None, Result, Ok, Err, if◌then◌else◌, MatchOption, IsTrue}
+use Rattle.std.specs.Prelude.{◌≡◌, ℕ, Bool, false, not, ◌==◌, ◌||◌, List, [], ◌∷◌, length, codes, Option, Some, None, Result, Ok, Err, if◌then◌else◌, MatchOption, IsTrue}
 use Rattle.std.specs.Option.{option_map_or}
 use Rattle.std.specs.Result.{result_ok}
 use Rattle.std.specs.List.{list_any}
 use Rattle.slp_text.specs.Key.{key_of}
 use Rattle.slp_text.specs.Scopes.{scopes_of}
 use Rattle.slp_text.specs.Words.{bytes_eq, is_blank}
-use Rattle.slp_text.specs.declared.faults.TextFault.{TextFault}
 use Rattle.slp_wire.specs.Headers.{Heading, heading_of, refusal_bytes, reply_function_of}
 use Rattle.slp_wire.specs.Reading.{reading}
 use Rattle.slp_wire.specs.declared.fault.WireFault.{WireFault}
@@ -17,7 +16,6 @@ use Rattle.slp_wire.specs.declared.message.Message.TheVariants as message
 use Rattle.slp_wire.specs.declared.message.ServiceRequest.{ServiceRequest}
 use Rattle.slp_wire.specs.declared.message.UrlEntry.{UrlEntry}
 use Rattle.service_url.specs.Types.{type_of}
-use Rattle.service_url.specs.declared.fault.UrlFault.{UrlFault}
 use Rattle.access_rules.specs.declared.rule.Action.{Action}
 use Rattle.access_rules.specs.declared.rule.Action.TheVariants.{Register, Withdraw, See}
 use Rattle.access_rules.specs.declared.rule.Rule.{Rule as AnyRule}

@@ -1,5 +1,5 @@
 -- What bytes that come in are read as.
-use Rattle.std.specs.Prelude.{◌≡◌, ℕ, Bool, ◌==◌, ◌||◌, List, Option, Some, None, Result, Ok, Err}
+use Rattle.std.specs.Prelude.{◌≡◌, ℕ, Bool, ◌==◌, ◌||◌, List, Option, Some, None, Ok, Err}
 use Rattle.slp_wire.specs.Messages.{IsMessage, function_of}
 use Rattle.slp_wire.specs.Reading.{reading}
 use Rattle.slp_wire.specs.declared.fault.WireFault.{WireFault}

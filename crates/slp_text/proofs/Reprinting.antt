@@ -1,6 +1,6 @@
 -- Scope lists that are printed are read again.
-use Rattle.std.proofs.Common.{◌≡◌, ◌≢◌, ◌<◌, ◌+◌, ◌*◌, ℕ, Bool, true, false, cond, List, [], ◌∷◌, ◌++◌, map, length, Result, Ok, Err, Option, Some, None, refl, sym, ap, ap₂, subst, ◌∙◌, append-nil, append_assoc, chars, encode_utf8_all, arith}
-use Rattle.std.specs.Prelude.{◌/◌, ◌%◌, not, ◌&&◌, ◌==◌, filter, flat_map, nat_lt, IsUtf8}
+use Rattle.std.proofs.Common.{◌≡◌, ◌<◌, ◌+◌, ◌*◌, ℕ, Bool, true, false, cond, List, [], ◌∷◌, ◌++◌, map, Result, Ok, Err, Some, None, refl, sym, ap, ap₂, subst, ◌∙◌, chars, encode_utf8_all, arith}
+use Rattle.std.specs.Prelude.{◌/◌, ◌%◌, ◌&&◌, ◌==◌, filter, flat_map, IsUtf8}
 use Rattle.std.specs.List.{AllByRecursion, slice_split, onto_first}
 use Rattle.std.specs.Option.{option_map_or}
 use Rattle.std.proofs.lemmas.Bool.{and_parts}
@@ -10,7 +10,7 @@ use lib.Utf8.{scalar, scalars}
 use Rattle.caseless.specs.Caseless.{default_case_fold}
 use Rattle.ucd_case.specs.CaseFolding.{full_fold}
 use Rattle.slp_text.specs.Escapes.{Plain, Slash, Digit, is_escapable, is_refused, is_reserved, digit_of, capital_digit, unescaped_from, unescaped_at, written_at, escaped}
-use Rattle.slp_text.specs.Key.{is_white, squeeze}
+use Rattle.slp_text.specs.Key.{squeeze}
 use Rattle.slp_text.specs.Reading.{read_map, read_then, read_all}
 use Rattle.slp_text.specs.Scopes.{is_comma, is_some_text, folded, scopes_of, joined, printed}
 use Rattle.slp_text.specs.Sets.{set_of}

@@ -3,7 +3,6 @@ use Rattle.slp_text.specs.Key.{key_of}
 use Rattle.slp_text.specs.Scopes.{scopes_of}
 use Rattle.slp_text.specs.declared.faults.TextFault.{TextFault}
 use Rattle.slp_text.proofs.KeyRows.{default_scopes}
-use Rattle.directory_judge.specs.Sites.{Place}
 use Rattle.directory_program.proofs.session.opening_site.Goals as goal
 
 same_list : (a b : List (List ℕ)) → ◌≡◌ {A = Result (List (List ℕ)) TextFault} (Ok a) (Ok b) → a ≡ b

@@ -1,6 +1,6 @@
 use Rattle.std.proofs.Common.{sym, ◌∙◌}
 use Rattle.directory_state.proofs.Judged.{IfOk-more}
-use Rattle.slp_answer.proofs.Questions.{silent-found, unreadable-found, services-found, found-supported}
+use Rattle.slp_answer.proofs.Questions.{silent-found, services-found, found-supported}
 use Rattle.slp_answer.proofs.replying.answer_request.Goals as goal
 
 pub returns-in-Silent : goal.returns-in-Silent
