@@ -1,6 +1,7 @@
 pub mod Escapes
 pub mod Key
 pub mod Named
+pub mod Parts
 pub mod Reading
 pub mod Runs
 pub mod Scopes

@@ -1,12 +1,10 @@
 -- The scopes that a text names, before they are a set, and one of them as it is written.
-use Rattle.std.specs.Prelude.{ℕ, Bool, List, [], ◌∷◌, map, filter, chars, encode_utf8_all, Result, if◌then◌else◌}
+use Rattle.std.specs.Prelude.{ℕ, Bool, List, ◌∷◌, map, filter, chars, encode_utf8_all, Result, if◌then◌else◌}
 use Rattle.std.specs.List.{slice_split}
-use Rattle.slp_text.specs.Escapes.{unescaped_from, unescaped_at, is_escapable, is_refused, escaped}
+use Rattle.slp_text.specs.Escapes.{unescaped_at, escaped}
 use Rattle.slp_text.specs.Reading.{read_map, read_all}
 use Rattle.slp_text.specs.Scopes.{is_comma, is_some_text, folded}
-use Rattle.slp_text.specs.Steps.{point_of}
 use Rattle.slp_text.specs.declared.escapes.Place.TheVariants.{Scope}
-use Rattle.slp_text.specs.declared.escapes.Stage.{Stage}
 use Rattle.slp_text.specs.declared.faults.TextFault.{TextFault}
 
 -- keys that are not empty, in the order of their parts
@@ -15,10 +13,6 @@ keys_of parts = filter is_some_text (map folded parts)
 
 unfoldable pub named_of : List ℕ → Result (List (List ℕ)) TextFault
 named_of text = read_map keys_of (read_all (unescaped_at Scope) (slice_split is_comma (chars text)))
-
--- what the end of a part reads as at a stage
-abbrev pub scope_end : Stage → Result (List ℕ) TextFault
-scope_end s = unescaped_from is_escapable (is_refused Scope) (point_of s) []
 
 -- a scope as it is written, behind a comma where others have begun
 abbrev pub scope_written : Bool → List ℕ → List ℕ

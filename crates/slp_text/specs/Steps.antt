@@ -1,7 +1,8 @@
 -- Reading of escapes, one character or byte at a time.
-use Rattle.std.specs.Prelude.{◌≡◌, ℕ, List, ◌++◌, ◌+◌, ◌*◌, ◌<◌, Bool, ◌==◌, Result, Ok, Err, if◌then◌else◌}
+use Rattle.std.specs.Prelude.{◌≡◌, ℕ, List, [], ◌++◌, ◌+◌, ◌*◌, ◌<◌, Bool, ◌==◌, Result, Ok, Err, if◌then◌else◌}
 use Rattle.std.specs.Option.{option_map_or}
-use Rattle.slp_text.specs.Escapes.{Point, Plain, Slash, Digit, digit_of}
+use Rattle.slp_text.specs.Escapes.{Point, Plain, Slash, Digit, digit_of, is_escapable, is_refused, unescaped_from}
+use Rattle.slp_text.specs.declared.escapes.Place.{Place}
 use Rattle.slp_text.specs.declared.escapes.Stage.{Stage}
 use Rattle.slp_text.specs.declared.escapes.Stage.TheVariants as stage
 use Rattle.slp_text.specs.declared.escapes.Step.{Step}
@@ -23,6 +24,10 @@ abbrev pub step_of : (ℕ → Bool) → Bool → Stage → ℕ → Result (Step 
 step_of allowed refused stage.Plain c = if c == 92 then Ok (Within stage.Slash) else (if refused then Err Reserved else Ok (Read c))
 step_of allowed refused stage.Slash c = option_map_or (λ d. Ok (Within (stage.Digit d))) (digit_of c) (Err BadEscape)
 step_of allowed refused (stage.Digit d) c = option_map_or (escape_of allowed d) (digit_of c) (Err BadEscape)
+
+-- what the end of a part of a list reads as at a stage
+abbrev pub part_end : Place → Stage → Result (List ℕ) TextFault
+part_end place s = unescaped_from is_escapable (is_refused place) (point_of s) []
 
 -- a first digit is below 16
 abbrev pub IsStage : Stage → Type 0

@@ -1,5 +1,5 @@
 -- Lists of tags, in which `*` stands for any run of characters (RFC 2608, section 10.3).
-use Rattle.std.specs.Prelude.{ℕ, Bool, true, false, ◌==◌, ◌&&◌, List, [], ◌∷◌, ◌++◌, map, filter, flat_map, chars, encode_utf8, Option, Some, None, Result, if◌then◌else◌}
+use Rattle.std.specs.Prelude.{ℕ, Bool, true, false, ◌==◌, ◌&&◌, List, [], ◌∷◌, map, filter, flat_map, chars, encode_utf8, Option, Some, None, Result, if◌then◌else◌}
 use Rattle.std.specs.List.{list_any, slice_split}
 use Rattle.caseless.specs.Caseless.{default_case_fold}
 use Rattle.slp_text.specs.Escapes.{unescaped_at}
@@ -20,24 +20,19 @@ is_star c = c == 42
 abbrev pub wild : ℕ
 wild = 0x110000
 
--- pieces of a part, with a raw `*` between each two
-abbrev pub with_wild : List (List ℕ) → List ℕ
-with_wild [] = []
-with_wild (p ∷ []) = p
-with_wild (p ∷ q ∷ ps) = p ++ wild ∷ with_wild (q ∷ ps)
+abbrev pub starred : ℕ → ℕ
+starred c = if is_star c then wild else c
 
 abbrev pub part_bytes : ℕ → Part
 part_bytes c = if c == wild then None ∷ [] else map Some (encode_utf8 c)
 
--- The part that its pieces make, folded and squeezed as a whole: white space goes at its two ends alone.
-abbrev pub part_of : List (List ℕ) → Part
-part_of pieces = flat_map part_bytes (squeeze (with_wild (map default_case_fold pieces)))
+-- The part of unescaped characters, folded and squeezed as a whole: white space goes at its two ends alone.
+abbrev pub part_of : List ℕ → Part
+part_of cs = flat_map part_bytes (squeeze (default_case_fold cs))
 
--- The parts of a list of tags, in their order: what stands between commas, its pieces between stars unescaped, without the empty parts.
+-- The parts of a list of tags, in their order: what stands between commas, unescaped, without the empty parts.
 unfoldable pub tags_of : List ℕ → Result (List Part) TextFault
-tags_of text =
-    read_map (λ parts. filter is_some_text (map part_of parts))
-    (read_all (λ part. read_all (unescaped_at Tag) (slice_split is_star part)) (slice_split is_comma (chars text)))
+tags_of text = read_map (λ parts. filter is_some_text (map part_of parts)) (read_all (unescaped_at Tag) (slice_split is_comma (map starred (chars text))))
 
 -- all that a text ends with
 abbrev pub ends_of : List ℕ → List (List ℕ)

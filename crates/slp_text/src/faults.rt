@@ -52,3 +52,11 @@ impl<T: Drop> From<AllocFailed<T>> for TextFault {
         TextFault::NoMemory
     }
 }
+
+impl From<NoMemory> for TextFault {
+    ghost from_gives = { λ _ e. e ≡ Lacking };
+
+    fn from(_e: NoMemory) -> TextFault {
+        TextFault::NoMemory
+    }
+}

@@ -4,12 +4,13 @@ ghost use Rattle.std.specs.Option.{option_copied};
 ghost use Rattle.std.proofs.Common.{rules};
 ghost use Rattle.std.specs.Cmp.Rules.{comparing};
 ghost use Rattle.slp_text.specs.Key.{key_of};
-ghost use Rattle.slp_text.specs.Named.{named_of, scope_end, scope_written};
+ghost use Rattle.slp_text.specs.Named.{named_of, scope_written};
 ghost use Rattle.slp_text.specs.Reading.{read_map, IsFault, IsReading};
 ghost use Rattle.slp_text.specs.Scopes.{is_some_text, scopes_of, common_of, printed};
 ghost use Rattle.slp_text.specs.Sets.{set_of};
-ghost use Rattle.slp_text.specs.Steps.{BeginsWith};
+ghost use Rattle.slp_text.specs.Steps.{BeginsWith, part_end};
 ghost use Rattle.slp_text.specs.Words.{bytes_eq, texts_eq, IsAscending};
+ghost use Rattle.slp_text.specs.declared.escapes.Place.TheVariants.{Scope};
 ghost use Rattle.slp_text.specs.declared.escapes.Stage.TheVariants.{Plain};
 ghost use Rattle.slp_text.specs.declared.faults.TextFault.TheVariants.{NoMemory as Lacking};
 
@@ -51,7 +52,7 @@ fn copies(alloc: Global, keys: &[Key]) -> Result<Vec<Key>, NoMemory>
 // Adds the key of a part at whose end reading stands at a stage, unless the key is empty.
 fn take_part(alloc: Global, stage: Stage, part: &str, keys: &mut Vec<Key>) -> Result<(), TextFault>
     ensures ok { IfOk result (λ _. (stage ≡ Plain) × (keys.new.items ≡ keys.old.items ++ filter is_some_text (key_of part.now ∷ []))) }
-    ensures err { IfErr result (λ e. IsFault e (scope_end stage)) }
+    ensures err { IfErr result (λ e. IsFault e (part_end Scope stage)) }
 {
     if !matches!(stage, Stage::Plain) {
         return Err(TextFault::BadEscape);

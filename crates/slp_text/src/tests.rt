@@ -1,6 +1,6 @@
 use crate::{
-    Key, Place, Row, ScopeList, Text, TextFault, cut, escape_into, is_blank, key, unescape,
-    unescape_any,
+    Key, Place, Row, ScopeList, TagList, Text, TextFault, cut, escape_into, is_blank, key,
+    unescape, unescape_any,
 };
 use std::test::Fail;
 
@@ -110,6 +110,52 @@ fn scopes_are_found_and_shared(rt: HostRuntime) -> Result<(), Fail> {
             .common(alloc, &ScopeList::parse(alloc, "x")?)?
             .is_empty()
     );
+    Ok(())
+}
+
+#[test]
+fn a_part_of_a_tag_list_selects_what_it_matches(rt: HostRuntime) -> Result<(), Fail> {
+    let alloc = rt.alloc();
+    for (text, tag, want) in [
+        ("", "color", true),
+        (" , ,", "color", true),
+        ("color", "COLOR", true),
+        ("color", "colors", false),
+        ("size, Col*", "color", true),
+        ("*or", "color", true),
+        ("*o*o*", "color", true),
+        ("*o*o*o*", "color", false),
+        ("c*r", "cr", true),
+        ("*", "", true),
+        ("a *", "a b", true),
+        ("a *", "ab", false),
+        (" * a", "x a", true),
+        ("\\2A", "*", true),
+        ("\\2a", "x", false),
+        ("x\\5F\\09 y", "x_ y", true),
+        ("STRAß*", "strasse", true),
+        ("ﬁ", "fi", true),
+    ] {
+        let tags = TagList::parse(alloc, text)?;
+        let made = key(alloc, tag)?;
+        assert_eq!(rt; tags.selects(&made), want);
+        assert_eq!(rt; tags.copy(alloc)?.selects(&made), want);
+    }
+    for (text, want) in [("", true), (" ,\\09,", true), ("*", false), ("a,", false)] {
+        assert_eq!(rt; TagList::parse(alloc, text)?.is_empty(), want);
+    }
+    Ok(())
+}
+
+#[test]
+fn tag_lists_answer_the_first_fault(rt: HostRuntime) -> Result<(), Fail> {
+    let alloc = rt.alloc();
+    for text in ["a\\41", "a\\", "a\\,b", "\\*", "a\\2*", "b\\zz_", "\\2ﬀ"] {
+        assert!(rt; matches!(TagList::parse(alloc, text), Err(TextFault::BadEscape)));
+    }
+    for text in ["a_b", "(a)", "a=b", "*,_\\zz", "a\u{1}", "x,a~"] {
+        assert!(rt; matches!(TagList::parse(alloc, text), Err(TextFault::Reserved)));
+    }
     Ok(())
 }
 
