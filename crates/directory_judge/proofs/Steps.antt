@@ -1,11 +1,12 @@
 -- What each step of judging comes to.
 use Rattle.std.proofs.Common.{◌≡◌, ◌≢◌, ℕ, ◌+◌, Bool, true, false, cond, List, [], ◌∷◌, length, Option, Some, None, Result, Ok, Err, refl, sym, ap, ap₂, subst, ◌∙◌}
-use Rattle.std.specs.Prelude.{IfOk, filter, is_none, nat_le, slice_get, unwrap_or, not, ◌==◌, ◌&&◌, ◌||◌}
+use Rattle.std.specs.Prelude.{IfOk, is_some, filter, is_none, nat_le, slice_get, unwrap_or, ◌==◌, ◌&&◌, ◌||◌}
 use Rattle.std.specs.List.{list_any}
 use Rattle.std.specs.Option.{option_map, option_or}
 use Rattle.std.specs.Result.{result_ok}
 use Rattle.std.specs.FinMap as fin
 use Rattle.slp_text.specs.Scopes.{scopes_of, common_of}
+use Rattle.slp_text.specs.Tags.{Part, tags_of}
 use Rattle.service_url.specs.Urls.{url_of}
 use Rattle.slp_wire.specs.declared.header.Header.{Header}
 use Rattle.slp_wire.specs.declared.message.Registration.{Registration}
@@ -15,7 +16,7 @@ use Rattle.registry_core.specs.declared.entry.Entry.{Entry}
 use Rattle.registry_core.specs.Entries.{Pair, Entries, pair_of, is_of_url}
 use Rattle.directory_judge.specs.History.{Putting, Put}
 use Rattle.directory_judge.specs.Making.{Content, Stores, Withdraws, content, entry_of}
-use Rattle.directory_judge.specs.Judging.{Grounds, Judgement, Accepts, Ignores, Waits, Denies, names_nothing, judged_within, judged_from, judgement_to, entries_in, first_of, is_kept, concerned, judged_concerned, judged_stored, release, withdrawing, by_step, by_rule, denial_of, denied_new, denied_old, no_room, pair_in, putting, allowance, judged_taken, IsJudged}
+use Rattle.directory_judge.specs.Judging.{Grounds, Judgement, Accepts, Ignores, Waits, Denies, names_tags, judged_within, judged_from, judgement_to, entries_in, first_of, is_kept, concerned, judged_concerned, judged_stored, release, withdrawing, by_step, by_rule, denial_of, denied_new, denied_old, no_room, pair_in, putting, allowance, judged_taken, IsJudged}
 use Rattle.directory_judge.specs.declared.because.Because.{Because}
 use Rattle.directory_judge.specs.declared.because.Decider.TheVariants as decider
 use Rattle.directory_judge.specs.declared.change.Change.{Change}
@@ -138,12 +139,18 @@ within-some : (g : Grounds) (url : List ℕ) (scopes : List (List ℕ)) → scop
 within-some g url [] some = absurd (some refl)
 within-some g url (s ∷ ss) some = refl
 
-or_false : (a b : Bool) → a ≡ false → b ≡ true → (a || not b) ≡ false
-or_false a b x y = ap₂ (λ p q. p || not q) x y
+or_false : (a b : Bool) → a ≡ false → b ≡ false → (a || b) ≡ false
+or_false a b x y = ap₂ (λ p q. p || q) x y
 
-pub judged-asked : (g : Grounds) (h : Header) (w : Withdrawal) (url : List ℕ) (asked scopes : List (List ℕ)) → h.flags.multicast ≡ false → names_nothing w.tags ≡ true
-    → result_ok (url_of w.entry.url) ≡ Some url → result_ok (scopes_of w.scopes) ≡ Some asked → scopes ≡ common_of g.site.scopes asked → scopes ≢ []
+judged_from-tags : (g : Grounds) (url : List ℕ) (tags : Option (List Part)) (scopes : Option (List (List ℕ))) → is_some tags ≡ true → judged_from g (Some url) tags scopes ≡ judged_from g (Some url) (Some []) scopes
+judged_from-tags g url None scopes h = cc
+judged_from-tags g url (Some tags) None h = refl
+judged_from-tags g url (Some tags) (Some scopes) h = refl
+
+pub judged-asked : (g : Grounds) (h : Header) (w : Withdrawal) (url : List ℕ) (asked scopes : List (List ℕ)) → h.flags.multicast ≡ false → names_tags (result_ok (tags_of w.tags)) ≡ false
+    → result_ok (url_of w.entry.url) ≡ Some url → is_some (result_ok (tags_of w.tags)) ≡ true → result_ok (scopes_of w.scopes) ≡ Some asked → scopes ≡ common_of g.site.scopes asked → scopes ≢ []
     → judgement_to g h w ≡ judged_stored g url scopes
-judged-asked g h w url asked scopes one no_tag url_is scopes_is common some =
-    ap (λ b. cond b Waits (judged_from g (result_ok (url_of w.entry.url)) (result_ok (scopes_of w.scopes)))) (or_false h.flags.multicast (names_nothing w.tags) one no_tag)
-    ∙ ap₂ (judged_from g) url_is scopes_is ∙ ap (judged_within g url) (sym common) ∙ within-some g url scopes some
+judged-asked g h w url asked scopes one no_tag url_is tags_are scopes_is common some =
+    let tags = result_ok (tags_of w.tags) in
+    ap (λ b. cond b Waits (judged_from g (result_ok (url_of w.entry.url)) tags (result_ok (scopes_of w.scopes)))) (or_false h.flags.multicast (names_tags tags) one no_tag)
+    ∙ ap₂ (λ u s. judged_from g u tags s) url_is scopes_is ∙ judged_from-tags g url tags (Some asked) tags_are ∙ ap (judged_within g url) (sym common) ∙ within-some g url scopes some

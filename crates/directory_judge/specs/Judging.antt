@@ -1,14 +1,14 @@
 -- How registrations and withdrawals are judged: the first step whose fault is there, else they are accepted (RFC 2608, sections 7, 9.3 and 10.6).
 use Rattle.std.specs.Prelude.{◌≡◌, ℕ, ◌≤◌, Bool, true, false, not, ◌==◌, ◌&&◌, ◌||◌, List, [], ◌∷◌, map, filter, find, length, codes, slice_get, Option, Some, None, is_none, nat_le, unwrap_or, Result, Ok, Err, if◌then◌else◌}
 use Rattle.std.specs.Option.{option_or, option_map, option_map_or}
-use Rattle.std.specs.List.{list_any, list_all}
+use Rattle.std.specs.List.{list_any}
 use Rattle.std.specs.Ordering.{match_ordering}
 use Rattle.std.specs.Result.{result_ok}
 use Rattle.std.specs.FinMap as fin
-use Rattle.slp_text.specs.Key.{key_of, is_white}
+use Rattle.slp_text.specs.Key.{key_of}
 use Rattle.slp_text.specs.Scopes.{scopes_of, common_of}
+use Rattle.slp_text.specs.Tags.{Part, tags_of}
 use Rattle.slp_text.specs.Words.{bytes_eq, bytes_cmp, is_blank}
-use Rattle.slp_text.specs.declared.faults.TextFault.{TextFault}
 use Rattle.slp_wire.specs.declared.header.Header.{Header}
 use Rattle.slp_wire.specs.declared.message.Message.{Message}
 use Rattle.slp_wire.specs.declared.message.Message.TheVariants as message
@@ -92,13 +92,15 @@ is_agent None = false
 abbrev pub is_ignored : Header → Registration → Bool
 is_ignored h r = not h.flags.fresh || h.flags.multicast || not (is_blank r.attributes) || is_agent (result_ok (type_of r.kind))
 
--- nothing but white space and commas
-abbrev pub names_nothing : List ℕ → Bool
-names_nothing text = list_all (λ b. is_white b || b == 44) text
+-- the list of tags has a part
+abbrev pub names_tags : Option (List Part) → Bool
+names_tags None = false
+names_tags (Some []) = false
+names_tags (Some (p ∷ ps)) = true
 
 -- withdrawals of which nothing comes yet: those of tags, and those sent to many
 abbrev pub is_unjudged : Header → Withdrawal → Bool
-is_unjudged h w = h.flags.multicast || not (names_nothing w.tags)
+is_unjudged h w = h.flags.multicast || names_tags (result_ok (tags_of w.tags))
 
 -- ---- what a registration names
 
@@ -234,13 +236,15 @@ abbrev pub judged_within : Grounds → List ℕ → List (List ℕ) → Judgemen
 judged_within g url [] = denied_by 4 decider.Scope
 judged_within g url (s ∷ ss) = judged_stored g url (s ∷ ss)
 
-abbrev pub judged_from : Grounds → Option (List ℕ) → Option (List (List ℕ)) → Judgement
-judged_from g (Some url) (Some scopes) = judged_within g url (common_of g.site.scopes scopes)
-judged_from g (Some url) None = denied_by 2 decider.Parse
-judged_from g None scopes = denied_by 2 decider.Parse
+-- a URL, a list of tags and scopes that were read, each if it is one
+abbrev pub judged_from : Grounds → Option (List ℕ) → Option (List Part) → Option (List (List ℕ)) → Judgement
+judged_from g (Some url) (Some tags) (Some scopes) = judged_within g url (common_of g.site.scopes scopes)
+judged_from g (Some url) (Some tags) None = denied_by 2 decider.Parse
+judged_from g (Some url) None scopes = denied_by 2 decider.Parse
+judged_from g None tags scopes = denied_by 2 decider.Parse
 
 abbrev pub judgement_to : Grounds → Header → Withdrawal → Judgement
-judgement_to g h w = if is_unjudged h w then Waits else judged_from g (result_ok (url_of w.entry.url)) (result_ok (scopes_of w.scopes))
+judgement_to g h w = if is_unjudged h w then Waits else judged_from g (result_ok (url_of w.entry.url)) (result_ok (tags_of w.tags)) (result_ok (scopes_of w.scopes))
 
 -- ---- messages that may change something
 

@@ -17,4 +17,5 @@ pub use because::{Because, Decider};
 pub use change::{Change, Placed, Withdrawn};
 pub use judged::Judged;
 pub use judging::judge_on;
+pub use naming::{is_agent, read_kind, read_scopes};
 pub use site::Site;

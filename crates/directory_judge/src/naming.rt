@@ -2,14 +2,15 @@ ghost use Rattle.std.specs.Prelude.{◌≡◌, IfOk};
 ghost use Rattle.std.specs.Option.{option_copied};
 ghost use Rattle.std.specs.Result.{result_ok};
 ghost use Rattle.slp_text.specs.Scopes.{scopes_of};
+ghost use Rattle.slp_text.specs.Tags.{tags_of};
 ghost use Rattle.service_url.specs.Types.{type_of};
 ghost use Rattle.service_url.specs.Urls.{url_of};
-ghost use Rattle.directory_judge.specs.Judging.{names_nothing as names_no_tag, is_agent as is_agent_type, named, named_in, IsNamedAt};
+ghost use Rattle.directory_judge.specs.Judging.{names_tags as names_tags_of, is_agent as is_agent_type, named, named_in, IsNamedAt};
 
 use crate::because::Decider;
 use crate::site::Site;
 use service_url::{ServiceType, Url, UrlFault};
-use slp_text::{NoMemory, ScopeList, TextFault};
+use slp_text::{NoMemory, ScopeList, TagList, TextFault};
 use slp_wire::{Header, Registration};
 use std::alloc::Global;
 
@@ -31,7 +32,7 @@ pub enum Named {
 /// The type that no one registers.
 const AGENT_TYPE: &str = "service:directory-agent";
 
-/// The type that a text names, if it names one.
+/// The type that a text names, if it names one (RFC 2608, section 8.1).
 pub fn read_kind(alloc: Global, text: &str) -> Result<Option<ServiceType>, NoMemory>
     ensures { IfOk result (λ k. k ≡ result_ok (type_of text.now)) }
 {
@@ -53,7 +54,7 @@ pub fn read_url(alloc: Global, text: &str) -> Result<Option<Url>, NoMemory>
     }
 }
 
-/// The scopes that a text names, if it is a list of scopes.
+/// The scopes that a text names, if it is a list of scopes (RFC 2608, section 6.4.1).
 pub fn read_scopes(alloc: Global, text: &str) -> Result<Option<ScopeList>, NoMemory>
     ensures { IfOk result (λ l. l ≡ result_ok (scopes_of text.now)) }
 {
@@ -64,15 +65,25 @@ pub fn read_scopes(alloc: Global, text: &str) -> Result<Option<ScopeList>, NoMem
     }
 }
 
-/// Whether a list of tags has nothing but white space and commas.
-pub fn names_nothing(text: &str) -> bool
-    ensures { result ≡ names_no_tag text.now }
+/// The tags that a text names, if it is a list of tags.
+pub fn read_tags(alloc: Global, text: &str) -> Result<Option<TagList>, NoMemory>
+    ensures { IfOk result (λ t. t ≡ result_ok (tags_of text.now)) }
 {
-    text.as_bytes().iter().all(|b| *b == b' '
-        || *b == b'\t'
-        || *b == b'\n'
-        || *b == b'\r'
-        || *b == b',')
+    match TagList::parse(alloc, text) {
+        Ok(tags) => Ok(Some(tags)),
+        Err(TextFault::NoMemory) => Err(NoMemory),
+        Err(_) => Ok(None),
+    }
+}
+
+/// Whether a list of tags has a part.
+pub fn names_tags(tags: Option<&TagList>) -> bool
+    ensures { result ≡ names_tags_of (option_copied tags.entry) }
+{
+    match tags {
+        Some(tags) => !tags.is_empty(),
+        None => false,
+    }
 }
 
 /// Whether a type is that of a directory agent.

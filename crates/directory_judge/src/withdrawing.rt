@@ -12,7 +12,7 @@ use crate::because::Decider;
 use crate::change::{Change, Withdrawn};
 use crate::denying::{by_verdict, denial, deny};
 use crate::judged::Judged;
-use crate::naming::{names_nothing, read_scopes, read_url};
+use crate::naming::{names_tags, read_scopes, read_tags, read_url};
 use crate::site::Site;
 use access_rules::{Action, Addr, Rules};
 use registry_core::{Entry, Registry};
@@ -181,12 +181,16 @@ pub fn judge_withdrawal<R: Registry>(
     ensures { IfOk result (λ j. let live = passing (outlives now) (R.contents registry.now) in
         IsJudged live j (judgement_to (record { rules = rules.now; site = site.now; live = live; now = now; asker = asker }) header.now withdrawal.now)) }
 {
-    if header.flags.multicast || !names_nothing(withdrawal.tags.as_str()) {
+    let tags = read_tags(alloc, withdrawal.tags.as_str())?;
+    if header.flags.multicast || names_tags(tags.as_ref()) {
         return Ok(Judged::Unjudged);
     }
     let Some(url) = read_url(alloc, withdrawal.entry.url.as_str())? else {
         return Ok(deny(2, Decider::Parse, None));
     };
+    if tags.is_none() {
+        return Ok(deny(2, Decider::Parse, None));
+    }
     let Some(scopes) = read_scopes(alloc, withdrawal.scopes.as_str())? else {
         return Ok(deny(2, Decider::Parse, None));
     };

@@ -14,6 +14,7 @@ use Rattle.registry_core.specs.Entries.{Entries, is_of_url}
 use Rattle.service_url.specs.Types.{type_of}
 use Rattle.service_url.specs.Urls.{url_of}
 use Rattle.slp_text.specs.Scopes.{scopes_of, common_of}
+use Rattle.slp_text.specs.Tags.{Part, tags_of}
 use Rattle.slp_wire.specs.declared.header.Header.{Header}
 use Rattle.slp_wire.specs.declared.message.Message.{Message}
 use Rattle.slp_wire.specs.declared.message.Message.TheVariants as message
@@ -166,18 +167,21 @@ within-released : (g : Grounds) (url : List ℕ) (scopes : List (List ℕ)) (c :
 within-released g url [] c because is = absurd (denies_accepts _ _ because c is)
 within-released g url (s ∷ ss) c because is = stored-released g url (s ∷ ss) c because is
 
-from-released : (g : Grounds) (url : Option (List ℕ)) (scopes : Option (List (List ℕ))) (c : Event) (because : Because) → judged_from g url scopes ≡ Accepts c because → IsReleased g c
-from-released g None scopes c because is = absurd (denies_accepts _ _ because c is)
-from-released g (Some url) None c because is = absurd (denies_accepts _ _ because c is)
-from-released g (Some url) (Some scopes) c because is = within-released g url (common_of g.site.scopes scopes) c because is
+from-released : (g : Grounds) (url : Option (List ℕ)) (tags : Option (List Part)) (scopes : Option (List (List ℕ))) (c : Event) (because : Because)
+    → judged_from g url tags scopes ≡ Accepts c because → IsReleased g c
+from-released g None tags scopes c because is = absurd (denies_accepts _ _ because c is)
+from-released g (Some url) None scopes c because is = absurd (denies_accepts _ _ because c is)
+from-released g (Some url) (Some tags) None c because is = absurd (denies_accepts _ _ because c is)
+from-released g (Some url) (Some tags) (Some scopes) c because is = within-released g url (common_of g.site.scopes scopes) c because is
 
 of_withdrawal : (g : Grounds) (h : Header) (w : Withdrawal) (c : Event) (because : Because) → judgement_to g h w ≡ Accepts c because → IsReleased g c
 of_withdrawal g h w c because =
     let url = result_ok (url_of w.entry.url) in
+    let tags = result_ok (tags_of w.tags) in
     let scopes = result_ok (scopes_of w.scopes) in
-    elim (is_unjudged h w) as (λ b. cond b Waits (judged_from g url scopes) ≡ Accepts c because → IsReleased g c) [
+    elim (is_unjudged h w) as (λ b. cond b Waits (judged_from g url tags scopes) ≡ Accepts c because → IsReleased g c) [
       | true ↦ λ is. absurd (waits_accepts c because is)
-      | false ↦ λ is. from-released g url scopes c because is
+      | false ↦ λ is. from-released g url tags scopes c because is
     ]
 
 -- ---- a message that is accepted
