@@ -20,7 +20,7 @@ use Rattle.access_rules.specs.declared.rule.Action.{Action}
 use Rattle.access_rules.specs.declared.rule.Action.TheVariants.{Register, Withdraw, See}
 use Rattle.access_rules.specs.declared.rule.Rule.{Rule as AnyRule}
 use Rattle.directory_judge.specs.History.{History, Event}
-use Rattle.directory_judge.specs.Judging.{Judgement, Accepts, Ignores, Denies, Waits, agent_type, by_step, supports}
+use Rattle.directory_judge.specs.Judging.{Judgement, Accepts, Ignores, Denies, Waits, is_agent, by_step, supports}
 use Rattle.directory_judge.specs.Meaning.{rules}
 use Rattle.directory_judge.specs.Sites.{Place}
 use Rattle.directory_judge.specs.declared.because.Because.{Because}
@@ -53,14 +53,10 @@ is_change_of bytes = option_map_or (λ h. h.function == 3 || h.function == 4) (h
 abbrev pub other_agent_type : List ℕ
 other_agent_type = codes "service:service-agent"
 
-abbrev pub is_of_type : List ℕ → Option (List ℕ) → Bool
-is_of_type named (Some kind) = bytes_eq kind named
-is_of_type named None = false
-
 -- requests to which nothing is answered yet: those sent to many, with responders or a predicate, and those for directory agents
 abbrev pub is_unanswered : Header → ServiceRequest → Bool
 is_unanswered h q =
-    h.flags.multicast || not (length q.responders == 0) || not (is_blank q.predicate) || is_of_type agent_type (result_ok (type_of q.kind))
+    h.flags.multicast || not (length q.responders == 0) || not (is_blank q.predicate) || is_agent (result_ok (type_of q.kind))
 
 -- by the scopes that are read, if they are
 abbrev pub asked_in : Header → List ℕ → Option (List (List ℕ)) → Question

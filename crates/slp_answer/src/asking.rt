@@ -1,15 +1,10 @@
 ghost use Rattle.std.specs.Prelude.{◌≡◌, ◌==◌, ◌||◌, not, length, IfOk};
-ghost use Rattle.std.specs.Option.{option_copied};
-ghost use Rattle.std.specs.Result.{result_ok};
-ghost use Rattle.directory_judge.specs.Judging.{agent_type};
-ghost use Rattle.slp_text.specs.Scopes.{scopes_of};
 ghost use Rattle.slp_text.specs.Words.{is_blank as is_blank_text};
-ghost use Rattle.service_url.specs.Types.{type_of};
-ghost use Rattle.slp_answer.specs.Answering.{is_of_type, question_of};
+ghost use Rattle.slp_answer.specs.Answering.{question_of};
 
+use directory_judge::{is_agent, read_kind, read_scopes};
 use directory_state::ServiceQuery;
-use service_url::{ServiceType, UrlFault};
-use slp_text::{NoMemory, ScopeList, TextFault, is_blank, key};
+use slp_text::{NoMemory, is_blank, key};
 use slp_wire::{Header, ServiceRequest};
 use std::alloc::Global;
 
@@ -23,41 +18,8 @@ pub enum Question {
     Asks(ServiceQuery),
 }
 
-/// The type for which a directory agent is asked for itself.
-const AGENT_TYPE: &str = "service:directory-agent";
-
 /// The type that only service agents answer for.
 const OTHER_AGENT_TYPE: &str = "service:service-agent";
-
-fn read_kind(alloc: Global, text: &str) -> Result<Option<ServiceType>, NoMemory>
-    ensures { IfOk result (λ k. k ≡ result_ok (type_of text.now)) }
-{
-    match ServiceType::parse(alloc, text) {
-        Ok(kind) => Ok(Some(kind)),
-        Err(UrlFault::NoMemory) => Err(NoMemory),
-        Err(_) => Ok(None),
-    }
-}
-
-fn read_scopes(alloc: Global, text: &str) -> Result<Option<ScopeList>, NoMemory>
-    ensures { IfOk result (λ l. l ≡ result_ok (scopes_of text.now)) }
-{
-    match ScopeList::parse(alloc, text) {
-        Ok(scopes) => Ok(Some(scopes)),
-        Err(TextFault::NoMemory) => Err(NoMemory),
-        Err(_) => Ok(None),
-    }
-}
-
-// Whether a type is that of a directory agent.
-fn is_agent(kind: Option<&ServiceType>) -> bool
-    ensures { result ≡ is_of_type agent_type (option_copied kind.entry) }
-{
-    match kind {
-        Some(kind) => kind.text() == AGENT_TYPE,
-        None => false,
-    }
-}
 
 /// What a service request asks. Requests that are sent to many, that name responders or have a
 /// predicate, and those for directory agents are not answered yet.
