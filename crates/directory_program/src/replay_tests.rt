@@ -33,6 +33,7 @@ fn output(alloc: Global, script: &str) -> Result<Vec<u8>, Fail> {
     Ok(out)
 }
 
+// The line of a registration like the one above, of another type, URL and lifetime.
 fn registering(alloc: Global, kind: &str, url: &str, lifetime: u16) -> Result<String, Fail> {
     let bytes = hex::decode(alloc, REGISTRATION)?;
     let Message::Registration(header, registration) = decode(alloc, bytes.as_slice())? else {
@@ -63,6 +64,7 @@ fn registering(alloc: Global, kind: &str, url: &str, lifetime: u16) -> Result<St
     Ok(format!(in alloc; "udp {digits}\n")?)
 }
 
+// A URL with so many letters behind its scheme.
 fn long_url(alloc: Global, letter: &str, count: usize) -> Result<String, Fail> {
     let mut url = String::from_str(alloc, "service:printer:lpr://")?;
     for _ in 0..count {

@@ -4,6 +4,7 @@ use std::io;
 use std::io::{Error, ErrorKind, Read};
 use std::test::Fail;
 
+/// Gives one byte a read, is interrupted before each, and may fail at the end.
 #[derive(Drop)]
 struct Trickle<'a> {
     rest: &'a [u8],

@@ -22,6 +22,7 @@ fn a_reply_on_a_stream_is_not_cut(rt: HostRuntime) -> Result<(), Fail> {
     Ok(())
 }
 
+// A script in which a stream comes in pieces of so many digits.
 fn in_pieces(alloc: Global, stream: &str, digits: usize) -> Result<String, Fail>
     requires { 0 < digits }
 {
