@@ -1,12 +1,12 @@
 -- What a list of tags still gives.
-use Rattle.std.proofs.Common.{◌≡◌, ℕ, ◌<◌, Bool, true, false, List, [], ◌∷◌, ◌++◌, map, cond, length, length-append, arith, refl, sym, ap, ◌∙◌, append_assoc, append-nil, chars, encode_utf8, Some, None, ◌==◌, eqb-true}
+use Rattle.std.proofs.Common.{◌≡◌, ℕ, ◌<◌, Bool, true, false, List, [], ◌∷◌, ◌++◌, map, cond, length, length-append, arith, refl, sym, ap, ◌∙◌, append_assoc, append-nil, chars, encode_utf8, Some, None, ◌==◌}
 use Rattle.std.specs.Prelude.{filter, flat_map}
 use Rattle.std.proofs.lemmas.Bool.{eqb-false}
 use Rattle.std.proofs.lemmas.List.{length-map}
 use Rattle.std.proofs.lemmas.Str.{length-le-encodes}
 use Rattle.ucd_table.proofs.Computing.{tables}
 use Rattle.ucd_table.proofs.Facts.{ends_by, Stepped-beyond}
-use Rattle.ucd_case.specs.CaseFolding.{full_folding, full_fold, or_itself}
+use Rattle.ucd_case.specs.CaseFolding.{full_folding, full_fold}
 use Rattle.ucd_case.proofs.CaseFoldingLemmas.{full_folding_stepped}
 use Rattle.caseless.specs.Caseless.{default_case_fold}
 use Rattle.slp_text.specs.Key.{is_white, squeeze_from}
@@ -24,20 +24,9 @@ pub no_folding : full_folding wild ≡ []
 unfolding tables full_folding_stepped ends_by
 no_folding = Stepped-beyond full_folding full_folding_stepped refl wild (omega arith)
 
-pub folds_itself : (c : ℕ) → full_folding c ≡ [] → full_fold c ≡ c ∷ []
-folds_itself c none = ap (or_itself c) none
-
-pub folds : (c : ℕ) → 0 < length (full_folding c) → full_fold c ≡ full_folding c
-folds c some =
-    elim (full_folding c) as (λ v. 0 < length v → or_itself c v ≡ v) [ [] ↦ λ h. absurd (omega (arith, h)) | x ∷ xs ↦ λ _. refl ] some
-
 still-some : (gap : Bool) (part : Part) (cs : List ℕ) → 0 < length part → still gap part cs ≡ squeeze_from gap cs
 still-some gap [] cs h = absurd (omega (arith, h))
 still-some gap (b ∷ bs) cs h = refl
-
-still-white : (gap : Bool) (part : Part) (c : ℕ) (cs : List ℕ) → is_white c ≡ true → still true part cs ≡ still gap part (c ∷ cs)
-still-white gap [] c cs h = rw h refl
-still-white gap (b ∷ bs) c cs h = rw h refl
 
 still-first : (gap : Bool) (c : ℕ) (cs : List ℕ) → is_white c ≡ false → still gap [] (c ∷ cs) ≡ c ∷ squeeze_from false cs
 still-first gap c cs h = rw (h, h) refl
@@ -49,9 +38,6 @@ still-next (b ∷ bs) c cs h = rw h refl
 still-gap : (part : Part) (c : ℕ) (cs : List ℕ) → 0 < length part → is_white c ≡ false → still true part (c ∷ cs) ≡ 32 ∷ c ∷ squeeze_from false cs
 still-gap [] c cs s h = absurd (omega (arith, s))
 still-gap (b ∷ bs) c cs s h = rw h refl
-
-pub grown-white : (gap : Bool) (part : Part) (c : ℕ) (cs : List ℕ) → is_white c ≡ true → grown true part cs ≡ grown gap part (c ∷ cs)
-grown-white gap part c cs h = ap (λ xs. part ++ flat_map part_bytes xs) (still-white gap part c cs h)
 
 encoded-some : (c : ℕ) → 0 < length (encode_utf8 c)
 encoded-some c = let k = length-le-encodes (c ∷ []) in let l = ap length (append-nil (encode_utf8 c)) in omega (arith, k, l)
@@ -119,20 +105,9 @@ tags-init text parts none =
     ap (λ f. read_map f (list_parts Tag Plain (map starred (chars text)))) (λ i ps. tagged-start parts ps none i)
     ∙ ap (read_map (λ ps. filter is_some_text (map part_of ps))) (sym (read_all-split is_comma (part_reads Tag) (map starred (chars text))))
 
--- a raw `*` apart, a character is itself
-pub starred-other : (c : ℕ) → (c ≡ 42 → ⊥) → starred c ≡ c
-starred-other c other = elim (c == 42) as (λ b. (c == 42) ≡ b → cond b wild c ≡ c) [ true ↦ λ t. absurd (other (eqb-true c 42 t)) | false ↦ λ _. refl ] refl
-
 pub not_comma : (c : ℕ) → (c ≡ 44 → ⊥) → starred c ≡ 44 → ⊥
 not_comma c other is =
     elim (c == 42) as (λ b. cond b wild c ≡ 44 → ⊥) [ true ↦ λ e. absurd (eqb-false wild 44 refl e) | false ↦ other ] is
-
-pub character_bytes : (c : ℕ) → c < wild → part_bytes c ≡ map Some (encode_utf8 c)
-character_bytes c h =
-    elim (c == wild) as (λ b. (c == wild) ≡ b → cond b (None ∷ []) (map Some (encode_utf8 c)) ≡ map Some (encode_utf8 c)) [
-      | true ↦ λ t. absurd (let e = eqb-true c wild t in omega (arith, h, e))
-      | false ↦ λ _. refl
-    ] refl
 
 pub starred_comma : (c : ℕ) → c ≡ 44 → starred c ≡ 44
 starred_comma c is = ap starred is
