@@ -1,14 +1,14 @@
 -- Extensions, as they are read and as they are spelled (RFC 2608, section 9.1).
-use Rattle.std.proofs.Common.{◌≡◌, ℕ, zero, suc, ◌+◌, ◌-◌, ◌^◌, ◌<◌, ◌≤◌, Bool, true, false, cond, eqb, ltb, List, [], ◌∷◌, ◌++◌, length, take, drop, Option, Some, None, Result, Ok, Err, refl, sym, ap, subst, ◌∙◌, append_assoc, arith, inl, inr}
+use Rattle.std.proofs.Common.{◌≡◌, ℕ, zero, suc, ◌+◌, ◌-◌, ◌^◌, ◌<◌, ◌≤◌, Bool, true, false, cond, eqb, ltb, List, [], ◌∷◌, ◌++◌, length, take, drop, Option, Some, None, Result, Ok, Err, refl, sym, ap, ◌∙◌, arith, inl, inr}
 use Rattle.std.specs.Prelude.{◌||◌, not, IsTrue}
 use Rattle.std.specs.List.{AllByRecursion}
-use Rattle.std.proofs.lemmas.Bool.{eqb-true, eqb-false, ne_eqb, ltb-false, le-ltb, or_parts}
+use Rattle.std.proofs.lemmas.Bool.{eqb-true, ne_eqb, ltb-false, le-ltb, or_parts}
 use Rattle.std.proofs.lemmas.List.{length-append, length-drop, length-take, take-append-drop, drop_at, drop-drop}
 use Rattle.byteorder.specs.Endian.{big_bytes, big_number}
 use Rattle.slp_wire.specs.Extensions.{Extension, IsSkipped, is_required, end_of, chain_bytes, next_at, extensions_at}
-use Rattle.slp_wire.specs.declared.fault.WireFault.{WireFault}
-use Rattle.slp_wire.specs.declared.fault.WireFault.TheVariants.{Parse}
-use Rattle.slp_wire.specs.declared.fault.WireFault.TheVariants as fault
+use Rattle.slp_fields.specs.declared.fault.WireFault.{WireFault}
+use Rattle.slp_fields.specs.declared.fault.WireFault.TheVariants.{Parse}
+use Rattle.slp_fields.specs.declared.fault.WireFault.TheVariants as fault
 use Rattle.slp_wire.proofs.Numbers.{two_back, three_back, two_again, three_again, two_fits}
 use Rattle.slp_wire.proofs.Steps.{IsBytes, IsBytes-drop, bind_ok, unless_ok, chosen, ok_is}
 

@@ -5,8 +5,8 @@ use Rattle.std.specs.List.{list_all}
 use Rattle.std.proofs.lemmas.Bool.{le-leb, leb-true, and_parts, and_from}
 use Rattle.std.proofs.lemmas.List.{take_at, take-append-drop, length-append, length-take, length-drop}
 use Rattle.byteorder.specs.Endian.{big_bytes, big_number}
-use Rattle.slp_wire.specs.Headers.{Heading, heading_bytes, tag_of, is_readable, fields_of, heading_of}
-use Rattle.slp_wire.specs.Tags.{is_tag_byte, IsTag}
+use Rattle.slp_headers.specs.Headers.{Heading, heading_bytes, tag_of, is_readable, fields_of, heading_of}
+use Rattle.slp_messages.specs.Tags.{is_tag_byte, IsTag}
 use Rattle.slp_wire.proofs.Numbers.{two_back, three_back, two_again, three_again, two_fits, three_fits}
 use Rattle.slp_wire.proofs.Steps.{IsBytes, IsBytes-drop}
 

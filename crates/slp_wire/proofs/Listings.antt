@@ -2,9 +2,11 @@
 use Rattle.std.proofs.Common.{◌≡◌, ℕ, zero, suc, ◌^◌, ◌<◌, List, [], ◌∷◌, ◌++◌, length, Ok, refl, sym, ap, subst, ◌∙◌, append_assoc}
 use Rattle.std.specs.List.{AllByRecursion}
 use Rattle.byteorder.specs.Endian.{big_bytes}
-use Rattle.slp_wire.specs.Steps.{◌>>=◌}
-use Rattle.slp_wire.specs.Strings.{IsEntry, AreEntries, number_at, entry_at, entries_at, listing_at, SpellsEntries, SpellsListing}
-use Rattle.slp_wire.specs.declared.message.UrlEntry.{UrlEntry}
+use Rattle.slp_fields.specs.Steps.{◌>>=◌}
+use Rattle.slp_messages.specs.Fields.{IsEntry, AreEntries}
+use Rattle.slp_fields.specs.Reading.{number_at, entry_at, entries_at, listing_at}
+use Rattle.slp_fields.specs.Spelling.{SpellsEntries, SpellsListing}
+use Rattle.slp_messages.specs.declared.message.UrlEntry.{UrlEntry}
 use Rattle.slp_wire.proofs.Numbers.{number_takes, number_again}
 use Rattle.slp_wire.proofs.Parts.{entry_takes, entry_again}
 use Rattle.slp_wire.proofs.Steps.{IsBytes, Takes, Takes-then, bind_ok, from_ok}

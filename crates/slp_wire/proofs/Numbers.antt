@@ -3,8 +3,8 @@ use Rattle.std.proofs.Common.{◌≡◌, ℕ, suc, ◌/◌, ◌%◌, ◌^◌, �
 use Rattle.std.proofs.lemmas.Bool.{ne_eqb, le-ltb}
 use Rattle.byteorder.specs.Endian.{big_bytes, big_number}
 use Rattle.byteorder.specs.Numbers.{big_number-reads_back, big_from-lt}
-use Rattle.slp_wire.specs.Strings.{byte_at, number_at, long_at}
-use Rattle.slp_wire.specs.declared.fault.WireFault.{WireFault}
+use Rattle.slp_fields.specs.Reading.{byte_at, number_at, long_at}
+use Rattle.slp_fields.specs.declared.fault.WireFault.{WireFault}
 use Rattle.slp_wire.proofs.Steps.{IsBytes, Takes, from_ok}
 
 abbrev pair : ℕ → List ℕ → Result (ℕ × List ℕ) WireFault

@@ -5,12 +5,14 @@ use Rattle.std.proofs.lemmas.Bool.{eqb-true, ltb-false, le-ltb}
 use Rattle.std.proofs.lemmas.List.{take_at, drop_at, take-append-drop, length-append, length-take, nil_from_length}
 use Rattle.std.proofs.lemmas.Str.{IsUtf8-from_is_utf8, is_utf8-from_IsUtf8, IsUtf8-nil}
 use Rattle.byteorder.specs.Endian.{big_bytes}
-use Rattle.slp_wire.specs.Headers.{string}
-use Rattle.slp_wire.specs.Steps.{◌>>=◌}
-use Rattle.slp_wire.specs.Strings.{IsString, IsEntry, byte_at, number_at, string_at, no_block_at, no_index_at, entry_at, entry_bytes, SpellsEntry}
-use Rattle.slp_wire.specs.declared.fault.WireFault.{WireFault}
-use Rattle.slp_wire.specs.declared.fault.WireFault.TheVariants.{Parse, Auth}
-use Rattle.slp_wire.specs.declared.message.UrlEntry.{UrlEntry}
+use Rattle.slp_headers.specs.Headers.{string}
+use Rattle.slp_fields.specs.Steps.{◌>>=◌}
+use Rattle.slp_messages.specs.Fields.{IsString, IsEntry}
+use Rattle.slp_fields.specs.Reading.{byte_at, number_at, string_at, no_block_at, no_index_at, entry_at}
+use Rattle.slp_fields.specs.Spelling.{entry_bytes, SpellsEntry}
+use Rattle.slp_fields.specs.declared.fault.WireFault.{WireFault}
+use Rattle.slp_fields.specs.declared.fault.WireFault.TheVariants.{Parse, Auth}
+use Rattle.slp_messages.specs.declared.message.UrlEntry.{UrlEntry}
 use Rattle.slp_wire.proofs.Numbers.{byte_takes, byte_again, number_takes, number_again}
 use Rattle.slp_wire.proofs.Steps.{IsBytes, IsBytes-drop, Takes, Takes-then, bind_ok, unless_ok, if_ok, from_ok}
 
@@ -49,41 +51,44 @@ string_again text rest sound =
 
 -- ---- no authentication
 
-pub no_block_takes : (bytes rest : List ℕ) → IsBytes bytes → no_block_at bytes ≡ Ok rest → Takes bytes (0 ∷ []) rest
-unfolding no_block_at
-no_block_takes bytes rest fits e =
-    let b = bind_ok (byte_at bytes) (λ n. cond (eqb n.0 0) (Ok n.1) (Err Auth)) rest e in
-    let t = byte_takes bytes b.0.0 b.0.1 fits b.1 in
-    let g = if_ok (eqb b.0.0 0) Auth (Ok b.0.1) rest b.2 in
-    let none : b.0.0 ≡ 0 = eqb-true _ _ g.0 in
-    let whole : Takes bytes (0 ∷ []) b.0.1 = subst (λ (k : ℕ). Takes bytes (k ∷ []) b.0.1) none t.0 in
-    from_ok (λ (r : List ℕ). Takes bytes (0 ∷ []) r) b.0.1 rest g.1 whole
+abbrev nothing_then : List ℕ → Result (Unit {0} × List ℕ) WireFault
+nothing_then rest = Ok (tt, rest)
 
-pub no_block_again : (rest : List ℕ) → no_block_at (0 ∷ rest) ≡ Ok rest
+pub no_block_takes : (bytes : List ℕ) (none : Unit {0}) (rest : List ℕ) → IsBytes bytes → no_block_at bytes ≡ Ok (none, rest) → Takes bytes (0 ∷ []) rest
+unfolding no_block_at
+no_block_takes bytes none rest fits e =
+    let b = bind_ok (byte_at bytes) (λ n. cond (eqb n.0 0) (nothing_then n.1) (Err Auth)) (none, rest) e in
+    let t = byte_takes bytes b.0.0 b.0.1 fits b.1 in
+    let g = if_ok (eqb b.0.0 0) Auth (nothing_then b.0.1) (none, rest) b.2 in
+    let zero : b.0.0 ≡ 0 = eqb-true _ _ g.0 in
+    let whole : Takes bytes (0 ∷ []) b.0.1 = subst (λ (k : ℕ). Takes bytes (k ∷ []) b.0.1) zero t.0 in
+    from_ok (λ (x : Unit {0} × List ℕ). Takes bytes (0 ∷ []) x.1) (tt, b.0.1) (none, rest) g.1 whole
+
+pub no_block_again : (rest : List ℕ) → no_block_at (0 ∷ rest) ≡ Ok (tt, rest)
 unfolding no_block_at
 no_block_again rest = rw (byte_again 0 rest) refl
 
-pub no_index_takes : (bytes rest : List ℕ) → IsBytes bytes → no_index_at bytes ≡ Ok rest → Takes bytes (string []) rest
+pub no_index_takes : (bytes : List ℕ) (none : Unit {0}) (rest : List ℕ) → IsBytes bytes → no_index_at bytes ≡ Ok (none, rest) → Takes bytes (string []) rest
 unfolding no_index_at
-no_index_takes bytes rest fits e =
-    let b = bind_ok (string_at bytes) (λ s. cond (eqb (length s.0) 0) (Ok s.1) (Err Auth)) rest e in
+no_index_takes bytes none rest fits e =
+    let b = bind_ok (string_at bytes) (λ s. cond (eqb (length s.0) 0) (nothing_then s.1) (Err Auth)) (none, rest) e in
     let t = string_takes bytes b.0.0 b.0.1 fits b.1 in
-    let g = if_ok (eqb (length b.0.0) 0) Auth (Ok b.0.1) rest b.2 in
-    let none : b.0.0 ≡ [] = nil_from_length b.0.0 (eqb-true _ _ g.0) in
-    let whole : Takes bytes (string []) b.0.1 = subst (λ (s : List ℕ). Takes bytes (string s) b.0.1) none t.0 in
-    from_ok (λ (r : List ℕ). Takes bytes (string []) r) b.0.1 rest g.1 whole
+    let g = if_ok (eqb (length b.0.0) 0) Auth (nothing_then b.0.1) (none, rest) b.2 in
+    let empty : b.0.0 ≡ [] = nil_from_length b.0.0 (eqb-true _ _ g.0) in
+    let whole : Takes bytes (string []) b.0.1 = subst (λ (s : List ℕ). Takes bytes (string s) b.0.1) empty t.0 in
+    from_ok (λ (x : Unit {0} × List ℕ). Takes bytes (string []) x.1) (tt, b.0.1) (none, rest) g.1 whole
 
 nothing : IsString []
 nothing = record { utf8 = IsUtf8-nil; short = lit< tt }
 
-pub no_index_again : (rest : List ℕ) → no_index_at (string [] ++ rest) ≡ Ok rest
+pub no_index_again : (rest : List ℕ) → no_index_at (string [] ++ rest) ≡ Ok (tt, rest)
 unfolding no_index_at
 no_index_again rest = rw (string_again [] rest nothing) refl
 
 -- ---- entries
 
 abbrev entry_behind : ℕ → List ℕ → List ℕ → Result (UrlEntry × List ℕ) WireFault
-entry_behind lifetime url bytes = no_block_at bytes >>= λ rest. Ok (record { lifetime = lifetime; url = url }, rest)
+entry_behind lifetime url bytes = no_block_at bytes >>= λ none. Ok (record { lifetime = lifetime; url = url }, none.1)
 
 pub entry_takes : (bytes : List ℕ) (e : UrlEntry) (rest : List ℕ) → IsBytes bytes → entry_at bytes ≡ Ok (e, rest) → (text : List ℕ) × Takes bytes text rest × SpellsEntry text e × IsEntry e
 unfolding entry_at
@@ -92,17 +97,17 @@ entry_takes bytes e rest fits h =
     let b = bind_ok (number_at a.0.1) (λ lifetime. string_at lifetime.1 >>= λ url. entry_behind lifetime.0 url.0 url.1) (e, rest) a.2 in
     let c = bind_ok (string_at b.0.1) (λ url. entry_behind b.0.0 url.0 url.1) (e, rest) b.2 in
     let made : UrlEntry = record { lifetime = b.0.0; url = c.0.0 } in
-    let d = bind_ok (no_block_at c.0.1) (λ r. Ok (made, r)) (e, rest) c.2 in
+    let d = bind_ok (no_block_at c.0.1) (λ none. Ok (made, none.1)) (e, rest) c.2 in
     let ta = byte_takes bytes a.0.0 a.0.1 fits a.1 in
     let tb = number_takes a.0.1 b.0.0 b.0.1 ta.0.rest_fits b.1 in
     let tc = string_takes b.0.1 c.0.0 c.0.1 tb.0.rest_fits c.1 in
-    let td = no_block_takes c.0.1 d.0 tc.0.rest_fits d.1 in
-    let cd = Takes-then b.0.1 (string c.0.0) c.0.1 (0 ∷ []) d.0 tc.0 td in
-    let bd = Takes-then a.0.1 (big_bytes 2 b.0.0) b.0.1 (string c.0.0 ++ 0 ∷ []) d.0 tb.0 cd in
-    let ad = Takes-then bytes (a.0.0 ∷ []) a.0.1 (big_bytes 2 b.0.0 ++ (string c.0.0 ++ 0 ∷ [])) d.0 ta.0 bd in
+    let td = no_block_takes c.0.1 d.0.0 d.0.1 tc.0.rest_fits d.1 in
+    let cd = Takes-then b.0.1 (string c.0.0) c.0.1 (0 ∷ []) d.0.1 tc.0 td in
+    let bd = Takes-then a.0.1 (big_bytes 2 b.0.0) b.0.1 (string c.0.0 ++ 0 ∷ []) d.0.1 tb.0 cd in
+    let ad = Takes-then bytes (a.0.0 ∷ []) a.0.1 (big_bytes 2 b.0.0 ++ (string c.0.0 ++ 0 ∷ [])) d.0.1 ta.0 bd in
     let spells : SpellsEntry (entry_bytes a.0.0 made) made = (a.0.0, ta.1, refl) in
     let sound : IsEntry made = record { lifetime = tb.1; url = tc.1 } in
-    from_ok (λ (p : UrlEntry × List ℕ). (text : List ℕ) × Takes bytes text p.1 × SpellsEntry text p.0 × IsEntry p.0) (made, d.0) (e, rest) d.2 (entry_bytes a.0.0 made, ad, spells, sound)
+    from_ok (λ (p : UrlEntry × List ℕ). (text : List ℕ) × Takes bytes text p.1 × SpellsEntry text p.0 × IsEntry p.0) (made, d.0.1) (e, rest) d.2 (entry_bytes a.0.0 made, ad, spells, sound)
 
 pub entry_again : (text : List ℕ) (e : UrlEntry) (rest : List ℕ) → SpellsEntry text e → IsEntry e → entry_at (text ++ rest) ≡ Ok (e, rest)
 unfolding entry_at

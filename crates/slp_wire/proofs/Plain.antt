@@ -1,11 +1,11 @@
 -- What is written is a spelling.
 use Rattle.std.proofs.Common.{◌≡◌, ℕ, ◌+◌, ◌^◌, ◌<◌, ◌≤◌, true, false, List, [], ◌++◌, length, refl, sym, ap, ◌∙◌, arith, lit<}
 use Rattle.std.proofs.lemmas.List.{append-nil}
-use Rattle.slp_wire.specs.Headers.{Heading, heading_bytes, flags_of, word_of}
-use Rattle.slp_wire.specs.Messages.{header_of, function_of, IsMessage}
+use Rattle.slp_headers.specs.Headers.{Heading, heading_bytes, flags_of, word_of}
+use Rattle.slp_messages.specs.Messages.{header_of, function_of, IsMessage}
 use Rattle.slp_wire.specs.Spelling.{body_of, body_end, heading_for, plain, longest, Spells}
-use Rattle.slp_wire.specs.declared.message.Message.{Message}
-use Rattle.slp_wire.proofs.Spelled.{body_is_spelled}
+use Rattle.slp_messages.specs.declared.message.Message.{Message}
+use Rattle.slp_wire.proofs.Bodies.{body_is_spelled}
 
 flags_are_kept : (o f m : _) → flags_of (word_of (record { overflow = o; fresh = f; multicast = m })) ≡ record { overflow = o; fresh = f; multicast = m }
 flags_are_kept true true true = refl

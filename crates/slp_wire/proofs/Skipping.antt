@@ -1,10 +1,10 @@
 -- Going from one extension to the next, as a loop does.
-use Rattle.std.proofs.Common.{◌≡◌, ℕ, suc, ◌+◌, ◌-◌, ◌<◌, ◌≤◌, List, drop, Option, Some, None, Result, Ok, Err, refl, sym, ◌∙◌, arith}
+use Rattle.std.proofs.Common.{◌≡◌, ℕ, suc, ◌+◌, ◌-◌, ◌<◌, ◌≤◌, List, drop, Some, None, Result, Ok, Err, refl, sym, ◌∙◌, arith}
 use Rattle.slp_wire.specs.Extensions.{next_at, extensions_at}
-use Rattle.slp_wire.specs.Steps.{Fails}
-use Rattle.slp_wire.specs.declared.fault.WireFault.{WireFault}
-use Rattle.slp_wire.specs.declared.fault.WireFault.TheVariants.{NoHeader, Version, Parse, Auth, Unknown, NoMemory, TooLong}
-use Rattle.slp_wire.specs.declared.fault.WireFault.TheVariants as fault
+use Rattle.slp_fields.specs.Steps.{Fails}
+use Rattle.slp_fields.specs.declared.fault.WireFault.{WireFault}
+use Rattle.slp_fields.specs.declared.fault.WireFault.TheVariants.{NoHeader, Version, Parse, Auth, Unknown, NoMemory, TooLong}
+use Rattle.slp_fields.specs.declared.fault.WireFault.TheVariants as fault
 
 pub on_to_next : (count i at : ℕ) (bytes : List ℕ) (n : ℕ) (total : Result (Unit {0}) WireFault) → i < count → next_at at bytes ≡ Ok (Some n)
     → extensions_at (count - i) at bytes ≡ total → extensions_at (count - (i + 1)) n (drop (n - at) bytes) ≡ total

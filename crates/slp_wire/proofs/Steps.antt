@@ -2,8 +2,8 @@
 use Rattle.std.proofs.Common.{◌≡◌, ℕ, ◌+◌, ◌<◌, ◌⊎◌, Bool, true, false, cond, List, ◌++◌, get_or, take, drop, Result, Ok, Err, refl, sym, ap, subst, ◌∙◌, append_assoc, arith, inl, inr}
 use Rattle.std.proofs.lemmas.Bool.{cases_lt}
 use Rattle.std.proofs.lemmas.List.{get_or-drop, get_or-take, get_or_past, length-take}
-use Rattle.slp_wire.specs.Steps.{◌>>=◌}
-use Rattle.slp_wire.specs.declared.fault.WireFault.{WireFault}
+use Rattle.slp_fields.specs.Steps.{◌>>=◌}
+use Rattle.slp_fields.specs.declared.fault.WireFault.{WireFault}
 
 abbrev pub IsBytes : List ℕ → Type 0
 IsBytes bytes = (i : ℕ) → get_or bytes i 0 < 256
@@ -22,6 +22,10 @@ IsBytes-take n bytes h i =
 pub bind_ok : {A B : Type 0} (r : Result A WireFault) (f : A → Result B WireFault) (y : B) → (r >>= f) ≡ Ok y → (x : A) × (r ≡ Ok x) × (f x ≡ Ok y)
 bind_ok (Ok x) f y e = (x, refl, e)
 bind_ok (Err d) f y e = absurd cc
+
+-- a step that did not fail goes on
+pub bind_is : {A B : Type 0} (r : Result A WireFault) (f : A → Result B WireFault) (x : A) → r ≡ Ok x → (r >>= f) ≡ f x
+bind_is {A = A} r f x e = ap (λ (q : Result A WireFault). q >>= f) e
 
 -- a test that did not fail, where it fails if it is true, and where it fails if it is false
 pub unless_ok : {A : Type 0} (b : Bool) (d : WireFault) (r : Result A WireFault) (y : A) → cond b (Err d) r ≡ Ok y → (b ≡ false) × (r ≡ Ok y)
@@ -58,19 +62,3 @@ Takes-then a x b y c p q = record { parts = p.parts ∙ ap (λ (t : List ℕ). x
 -- two texts, one behind the other
 pub joined : {a x b y c : List ℕ} → Takes a x b → Takes b y c → Takes a (x ++ y) c
 joined {a = a} {x = x} {b = b} {y = y} {c = c} p q = Takes-then a x b y c p q
-
--- parts, one behind the other, and what follows them
-pub regrouped_two : (a b rest : List ℕ) → (a ++ b) ++ rest ≡ a ++ (b ++ rest)
-regrouped_two a b rest = append_assoc a b rest
-
-pub regrouped_three : (a b c rest : List ℕ) → (a ++ b ++ c) ++ rest ≡ a ++ (b ++ (c ++ rest))
-regrouped_three a b c rest = simp append_assoc
-
-pub regrouped_four : (a b c d rest : List ℕ) → (a ++ b ++ c ++ d) ++ rest ≡ a ++ (b ++ (c ++ (d ++ rest)))
-regrouped_four a b c d rest = simp append_assoc
-
-pub regrouped_five : (a b c d e rest : List ℕ) → (a ++ b ++ c ++ d ++ e) ++ rest ≡ a ++ (b ++ (c ++ (d ++ (e ++ rest))))
-regrouped_five a b c d e rest = simp append_assoc
-
-pub regrouped_six : (a b c d e f rest : List ℕ) → (a ++ b ++ c ++ d ++ e ++ f) ++ rest ≡ a ++ (b ++ (c ++ (d ++ (e ++ (f ++ rest)))))
-regrouped_six a b c d e f rest = simp append_assoc

@@ -5,18 +5,19 @@ use Rattle.std.specs.List.{AllByRecursion}
 use Rattle.std.proofs.lemmas.Bool.{eqb-true, ne_eqb, ltb-false, le-ltb, or_parts}
 use Rattle.std.proofs.lemmas.List.{append-nil, append_cancel_left, length-append, length-take, nil_from_length, take_at, drop_at, take-append-drop, take-take}
 use Rattle.byteorder.specs.Endian.{big_number}
-use Rattle.slp_wire.specs.Headers.{Heading, heading_bytes, heading_of, is_readable, fields_of, tag_of}
-use Rattle.slp_wire.specs.Messages.{header_of, function_of, IsHeader, IsMessage}
+use Rattle.slp_headers.specs.Headers.{Heading, heading_bytes, heading_of, is_readable, fields_of, tag_of}
+use Rattle.slp_messages.specs.Messages.{header_of, function_of, IsHeader, IsMessage}
 use Rattle.slp_wire.specs.Extensions.{Extension, IsSkipped, begins_at, chain_bytes, extensions_at}
-use Rattle.slp_wire.specs.Steps.{◌>>=◌, Gives}
-use Rattle.slp_wire.specs.Reading.{body_at, is_known, kept_header, body_part, tail_of, ends_at, ended, reading_behind, reading, marked}
+use Rattle.slp_fields.specs.Steps.{◌>>=◌, Gives}
+use Rattle.slp_wire.specs.Bodies.{body_at}
+use Rattle.slp_wire.specs.Reading.{is_known, kept_header, body_part, tail_of, ends_at, ended, reading_behind, reading, marked}
 use Rattle.slp_wire.specs.Spelling.{body_end, heading_for, Spells, plain, longest}
-use Rattle.slp_wire.specs.declared.fault.WireFault.{WireFault}
-use Rattle.slp_wire.specs.declared.fault.WireFault.TheVariants.{NoHeader, Version, Parse, Unknown}
-use Rattle.slp_wire.specs.declared.header.Flags.{Flags}
-use Rattle.slp_wire.specs.declared.header.Header.{Header}
-use Rattle.slp_wire.specs.declared.message.Message.{Message}
-use Rattle.slp_wire.specs.declared.message.Message.TheVariants as message
+use Rattle.slp_fields.specs.declared.fault.WireFault.{WireFault}
+use Rattle.slp_fields.specs.declared.fault.WireFault.TheVariants.{NoHeader, Version, Parse, Unknown}
+use Rattle.slp_messages.specs.declared.header.Flags.{Flags}
+use Rattle.slp_messages.specs.declared.header.Header.{Header}
+use Rattle.slp_messages.specs.declared.message.Message.{Message}
+use Rattle.slp_messages.specs.declared.message.Message.TheVariants as message
 use Rattle.slp_wire.proofs.Bodies.{Body, body_takes, body_again}
 use Rattle.slp_wire.proofs.Chains.{chain_again, chain_takes}
 use Rattle.slp_wire.proofs.Framing.{IsHeading, header_is_front, header_length, header_fits, header_again, made, same_made}

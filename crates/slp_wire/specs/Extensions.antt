@@ -1,10 +1,10 @@
 -- Extensions behind a body (RFC 2608, section 9.1).
 use Rattle.std.specs.Prelude.{ℕ, ◌^◌, ◌<◌, List, length, ◌+◌, Bool, not, ◌==◌, ◌&&◌, nat_le, [], ◌∷◌, ◌++◌, IsTrue, if◌then◌else◌, zero, suc, ◌-◌, ◌||◌, nat_lt, drop, Option, Some, None, Result, Ok, Err}
 use Rattle.byteorder.specs.Endian.{big_bytes, big_number}
-use Rattle.slp_wire.specs.Steps.{◌>>=◌}
-use Rattle.slp_wire.specs.declared.fault.WireFault.TheVariants as fault
-use Rattle.slp_wire.specs.declared.fault.WireFault.TheVariants.{Parse}
-use Rattle.slp_wire.specs.declared.fault.WireFault.{WireFault}
+use Rattle.slp_fields.specs.Steps.{◌>>=◌}
+use Rattle.slp_fields.specs.declared.fault.WireFault.TheVariants as fault
+use Rattle.slp_fields.specs.declared.fault.WireFault.TheVariants.{Parse}
+use Rattle.slp_fields.specs.declared.fault.WireFault.{WireFault}
 
 pub record Extension : Type 0 where
   pub id : ℕ

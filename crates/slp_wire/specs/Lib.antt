@@ -1,14 +1,5 @@
-pub mod Adverts
-pub mod Attributes
-pub mod Codes
+pub mod Bodies
 pub mod Extensions
-pub mod Headers
-pub mod Messages
 pub mod Reading
-pub mod Registrations
-pub mod Services
+pub mod Replies
 pub mod Spelling
-pub mod Steps
-pub mod Strings
-pub mod Tags
-pub mod Types

@@ -1,47 +1,43 @@
 -- Which bytes spell a message (RFC 2608, sections 8 to 10).
 use Rattle.std.specs.List.{AllByRecursion}
-use Rattle.std.specs.Prelude.{ℕ, ◌^◌, ◌<◌, List, length, ◌≡◌, ◌+◌, [], ◌∷◌, ◌++◌}
-use Rattle.byteorder.specs.Endian.{big_bytes}
-use Rattle.slp_wire.specs.Adverts.{directory_agent_bytes, SpellsDirectoryAdvert, service_agent_bytes}
-use Rattle.slp_wire.specs.Attributes.{attribute_request_bytes, attributes_bytes, SpellsAttributeReply}
+use Rattle.std.specs.Prelude.{ℕ, ◌^◌, ◌<◌, List, length, ◌≡◌, ◌+◌, ◌++◌}
+use Rattle.slp_messages.specs.Layouts.{service_request, registration, withdrawal, acknowledgement, attribute_request, type_request, service_agent, services, attributes, directory_agent, types, of_services, of_attributes, of_directory_agent, of_types}
+use Rattle.slp_messages.specs.Messages.{header_of, function_of, IsMessage}
+use Rattle.slp_messages.specs.declared.message.Message.TheVariants as message
+use Rattle.slp_messages.specs.declared.message.Message.{Message}
+use Rattle.slp_headers.specs.Headers.{Heading, heading_bytes, flags_of, word_of, framed}
+use Rattle.slp_headers.specs.declared.fixed.TheConstants.{VERSION}
+use Rattle.slp_headers.specs.declared.place.TheConstants as place
+use Rattle.slp_fields.specs.Spelling.{SpellsLaid, laid_bytes}
+pub use Rattle.slp_fields.specs.Writing.{longest}
 use Rattle.slp_wire.specs.Extensions.{Extension, IsSkipped, begins_at, chain_bytes}
-use Rattle.slp_wire.specs.Headers.{Heading, heading_bytes, flags_of, word_of, string, framed}
-use Rattle.slp_wire.specs.Messages.{header_of, function_of, IsMessage}
-use Rattle.slp_wire.specs.Registrations.{SpellsRegistration, SpellsWithdrawal}
-use Rattle.slp_wire.specs.Services.{request_bytes, SpellsServiceReply}
-pub use Rattle.slp_wire.specs.Strings.{entry_bytes}
-use Rattle.slp_wire.specs.Strings.{listing}
-use Rattle.slp_wire.specs.Types.{type_request_bytes, SpellsTypeReply}
-use Rattle.slp_wire.specs.declared.message.AttributeReply.TheVariants as attribute_reply
-use Rattle.slp_wire.specs.declared.message.DirectoryAdvert.TheVariants as directory_advert
-use Rattle.slp_wire.specs.declared.message.Message.TheVariants as message
-use Rattle.slp_wire.specs.declared.message.Message.{Message}
-use Rattle.slp_wire.specs.declared.message.ServiceReply.TheVariants.{Found, Refused}
-use Rattle.slp_wire.specs.declared.message.TypeReply.TheVariants as type_reply
+use Rattle.slp_wire.specs.Replies.{SpellsReply, reply_bytes}
+
+-- ---- bodies
 
 abbrev pub SpellsBody : List ℕ → Message → Type 0
-SpellsBody body (message.ServiceRequest h q) = body ≡ request_bytes q
-SpellsBody body (message.ServiceReply h r) = SpellsServiceReply body r
-SpellsBody body (message.Registration h r) = SpellsRegistration body r
-SpellsBody body (message.Withdrawal h w) = SpellsWithdrawal body w
-SpellsBody body (message.Acknowledgement h code) = body ≡ big_bytes 2 code
-SpellsBody body (message.AttributeRequest h q) = body ≡ attribute_request_bytes q
-SpellsBody body (message.AttributeReply h r) = SpellsAttributeReply body r
-SpellsBody body (message.DirectoryAdvert h a) = SpellsDirectoryAdvert body a
-SpellsBody body (message.TypeRequest h q) = body ≡ type_request_bytes q
-SpellsBody body (message.TypeReply h r) = SpellsTypeReply body r
-SpellsBody body (message.ServiceAdvert h a) = body ≡ service_agent_bytes a
+SpellsBody body (message.ServiceRequest h q) = SpellsLaid service_request body q
+SpellsBody body (message.ServiceReply h r) = SpellsReply services body (of_services r)
+SpellsBody body (message.Registration h r) = SpellsLaid registration body r
+SpellsBody body (message.Withdrawal h w) = SpellsLaid withdrawal body w
+SpellsBody body (message.Acknowledgement h code) = SpellsLaid acknowledgement body code
+SpellsBody body (message.AttributeRequest h q) = SpellsLaid attribute_request body q
+SpellsBody body (message.AttributeReply h r) = SpellsReply attributes body (of_attributes r)
+SpellsBody body (message.DirectoryAdvert h a) = SpellsReply directory_agent body (of_directory_agent a)
+SpellsBody body (message.TypeRequest h q) = SpellsLaid type_request body q
+SpellsBody body (message.TypeReply h r) = SpellsReply types body (of_types r)
+SpellsBody body (message.ServiceAdvert h a) = SpellsLaid service_agent body a
 
 -- ---- whole messages
 
 -- the offset at which the body ends
 abbrev pub body_end : Message → List ℕ → ℕ
-body_end m body = 14 + length (header_of m).language + length body
+body_end m body = place.TAG + length (header_of m).language + length body
 
 -- a header in front of this body and these extensions, with a word of flags
 abbrev pub heading_for : Message → ℕ → List ℕ → List Extension → Heading
 heading_for m word body extensions = record {
-  version = 2;
+  version = VERSION;
   function = function_of m;
   length = body_end m body + length (chain_bytes (body_end m body) extensions);
   flags = word;
@@ -63,28 +59,20 @@ pub record Spells (bytes : List ℕ) (m : Message) : Type 0 where
   pub framing : bytes ≡ heading_bytes (heading_for m word body extensions) ++ (body ++ chain_bytes (body_end m body) extensions)
   pub short : length bytes < 2 ^ 24
 
--- ---- what is written: the one spelling with zeros in the reserved places, nothing behind a nonzero code, and no extension
+-- ---- what is written: the one spelling with zeros in the reserved places, nothing after a nonzero code, and no extension
 
 abbrev pub body_of : Message → List ℕ
-body_of (message.ServiceRequest h q) = request_bytes q
-body_of (message.ServiceReply h (Found es)) = big_bytes 2 0 ++ listing es
-body_of (message.ServiceReply h (Refused code)) = big_bytes 2 code
-body_of (message.Registration h r) = entry_bytes 0 r.entry ++ string r.kind ++ string r.scopes ++ string r.attributes ++ 0 ∷ []
-body_of (message.Withdrawal h w) = string w.scopes ++ entry_bytes 0 w.entry ++ string w.tags
-body_of (message.Acknowledgement h code) = big_bytes 2 code
-body_of (message.AttributeRequest h q) = attribute_request_bytes q
-body_of (message.AttributeReply h (attribute_reply.Found text)) = big_bytes 2 0 ++ attributes_bytes text
-body_of (message.AttributeReply h (attribute_reply.Refused code)) = big_bytes 2 code
-body_of (message.DirectoryAdvert h (directory_advert.Present a)) = big_bytes 2 0 ++ directory_agent_bytes a
-body_of (message.DirectoryAdvert h (directory_advert.Refused code)) = big_bytes 2 code
-body_of (message.TypeRequest h q) = type_request_bytes q
-body_of (message.TypeReply h (type_reply.Found text)) = big_bytes 2 0 ++ string text
-body_of (message.TypeReply h (type_reply.Refused code)) = big_bytes 2 code
-body_of (message.ServiceAdvert h a) = service_agent_bytes a
+body_of (message.ServiceRequest h q) = laid_bytes service_request q
+body_of (message.ServiceReply h r) = reply_bytes services (of_services r)
+body_of (message.Registration h r) = laid_bytes registration r
+body_of (message.Withdrawal h w) = laid_bytes withdrawal w
+body_of (message.Acknowledgement h code) = laid_bytes acknowledgement code
+body_of (message.AttributeRequest h q) = laid_bytes attribute_request q
+body_of (message.AttributeReply h r) = reply_bytes attributes (of_attributes r)
+body_of (message.DirectoryAdvert h a) = reply_bytes directory_agent (of_directory_agent a)
+body_of (message.TypeRequest h q) = laid_bytes type_request q
+body_of (message.TypeReply h r) = reply_bytes types (of_types r)
+body_of (message.ServiceAdvert h a) = laid_bytes service_agent a
 
 abbrev pub plain : Message → List ℕ
 plain m = framed (function_of m) (word_of (header_of m).flags) (header_of m).xid (header_of m).language (body_of m)
-
--- A message that is sent has at most 65,535 bytes. One with a longer string has more.
-abbrev pub longest : ℕ
-longest = 65535

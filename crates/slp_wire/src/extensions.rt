@@ -1,11 +1,11 @@
-//! Extensions behind the body of a message: each is skipped, or has to be understood and is refused.
+//! Extensions after the body of a message: each is skipped, or has to be understood and is refused.
 ghost use Rattle.std.specs.Prelude.{◌≡◌, ◌<◌, ◌+◌, ◌-◌, ◌^◌, drop, length, IfOk, IfSome};
 ghost use Rattle.std.specs.Option.{option_map};
 ghost use Rattle.slp_wire.specs.Extensions.{next_at, extensions_at};
-ghost use Rattle.slp_wire.specs.Steps.{Gives};
+ghost use Rattle.slp_fields.specs.Steps.{Gives};
 
-use crate::fault::WireFault;
 use byteorder::{BigEndian, ByteOrder};
+use slp_fields::WireFault;
 
 // The bytes of an extension, but for its data.
 const SHORTEST: usize = 5;

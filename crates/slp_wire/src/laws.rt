@@ -1,9 +1,9 @@
 //! What holds of every message. The functions do nothing: their contracts are the laws.
 ghost use Rattle.std.specs.Prelude.{◌≡◌, ◌≤◌, ℕ, List, [], ◌++◌, length, Ok};
-ghost use Rattle.slp_wire.specs.Messages.{IsMessage};
+ghost use Rattle.slp_messages.specs.Messages.{IsMessage};
 ghost use Rattle.slp_wire.specs.Reading.{reading};
 ghost use Rattle.slp_wire.specs.Spelling.{plain, longest};
-ghost use Rattle.slp_wire.specs.declared.message.Message.{Message};
+ghost use Rattle.slp_messages.specs.declared.message.Message.{Message};
 
 /// What was written is read again as the same message, whatever follows it.
 pub fn a_spelling_is_read_back()

@@ -3,30 +3,23 @@
 #![tactic(auto)]
 
 mod adverts;
-mod appending;
 mod attributes;
+mod body;
 mod extensions;
-mod fault;
-mod fields;
-mod header;
-mod heading;
 pub mod laws;
-mod message;
 mod reading;
 mod registrations;
+mod replies;
 mod services;
-#[cfg(test)]
-mod tests;
 mod types;
 mod writing;
 
-pub use fault::WireFault;
-pub use header::{Flags, Header, HeaderView, Tag};
-pub use heading::{error_reply, read_header, reply_function};
-pub use message::{
-    AttributeReply, AttributeRequest, Authority, DirectoryAdvert, DirectoryAgent, ErrorCode,
-    Message, Registration, ServiceAgent, ServiceReply, ServiceRequest, TypeReply, TypeRequest,
-    UrlEntry, Withdrawal,
-};
 pub use reading::decode;
+pub use slp_fields::{WireFault, entry_length};
+pub use slp_headers::{HeaderView, error_reply, flag, place, read_header, reply_function};
+pub use slp_messages::{
+    AttributeReply, AttributeRequest, Authority, DirectoryAdvert, DirectoryAgent, ErrorCode, Flags,
+    Header, Message, Registration, ServiceAgent, ServiceReply, ServiceRequest, Tag, TypeReply,
+    TypeRequest, UrlEntry, Withdrawal, code, function,
+};
 pub use writing::encode;

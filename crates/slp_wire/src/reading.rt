@@ -1,118 +1,31 @@
 ghost use Rattle.std.specs.Prelude.{◌≡◌, ◌<◌, ◌^◌, IfOk, Ok};
-ghost use Rattle.slp_wire.specs.Headers.{flags_of, heading};
-ghost use Rattle.slp_wire.specs.Reading.{body_at, is_known, kept_header, tail_of, ends_at, ended, reading_behind, reading, marked};
+ghost use Rattle.slp_messages.specs.declared.message.Message.{Message as AnyMessage};
+ghost use Rattle.slp_headers.specs.Headers.{flags_of, heading};
+ghost use Rattle.slp_fields.specs.Steps.{Gives};
+ghost use Rattle.slp_wire.specs.Bodies.{body_at};
+ghost use Rattle.slp_wire.specs.Reading.{is_known, kept_header, tail_of, ends_at, ended, reading_behind, reading, marked};
 ghost use Rattle.slp_wire.specs.Spelling.{Spells};
-ghost use Rattle.slp_wire.specs.Steps.{Gives};
-ghost use Rattle.slp_wire.specs.declared.message.Message.{Message as AnyMessage};
 
-use crate::adverts::{directory_advert_of, service_agent_of};
-use crate::attributes::{attribute_reply_of, attribute_request_of};
+use crate::body::body_of;
 use crate::extensions::skip_extensions;
-use crate::fault::WireFault;
-use crate::fields::number_of;
-use crate::header::{Flags, Header, HeaderView, Tag};
-use crate::heading::read_header;
-use crate::message::Message;
-use crate::registrations::{registration_of, withdrawal_of};
-use crate::services::{service_reply_of, service_request_of};
-use crate::types::{type_reply_of, type_request_of};
+use slp_fields::WireFault;
+use slp_headers::{HeaderView, VERSION, flag, place, read_header};
+use slp_messages::{Flags, Header, Message, Tag, function};
 use std::alloc::Global;
-
-// The body of a message of this function. So many bytes at the end are no part of it.
-#[tactic(auto, unfolding(crate::specs::Reading::body_at))]
-fn body_of(
-    alloc: Global,
-    function: u8,
-    tail: usize,
-    header: Header,
-    bytes: &[u8],
-) -> Result<(Message, &[u8]), WireFault>
-    ensures { Gives (λ x. (x.0, x.1.now)) result (body_at function tail header bytes.now) }
-{
-    if function > 5 {
-        return later_body_of(alloc, function, tail, header, bytes);
-    }
-    match function {
-        1 => {
-            let (request, rest) = service_request_of(alloc, bytes)?;
-            Ok((Message::ServiceRequest(header, request), rest))
-        }
-        2 => {
-            let (reply, rest) = service_reply_of(alloc, tail, bytes)?;
-            Ok((Message::ServiceReply(header, reply), rest))
-        }
-        3 => {
-            let (registration, rest) = registration_of(alloc, bytes)?;
-            Ok((Message::Registration(header, registration), rest))
-        }
-        4 => {
-            let (withdrawal, rest) = withdrawal_of(alloc, bytes)?;
-            Ok((Message::Withdrawal(header, withdrawal), rest))
-        }
-        5 => {
-            let (code, rest) = number_of(bytes)?;
-            Ok((Message::Acknowledgement(header, code), rest))
-        }
-        _ => Err(WireFault::Unknown),
-    }
-}
-
-// The body of a message of a later function.
-#[tactic(auto, unfolding(crate::specs::Reading::body_at))]
-fn later_body_of(
-    alloc: Global,
-    function: u8,
-    tail: usize,
-    header: Header,
-    bytes: &[u8],
-) -> Result<(Message, &[u8]), WireFault>
-    requires { 5 < function }
-    ensures { Gives (λ x. (x.0, x.1.now)) result (body_at function tail header bytes.now) }
-{
-    match function {
-        6 => {
-            let (request, rest) = attribute_request_of(alloc, bytes)?;
-            Ok((Message::AttributeRequest(header, request), rest))
-        }
-        7 => {
-            let (reply, rest) = attribute_reply_of(alloc, tail, bytes)?;
-            Ok((Message::AttributeReply(header, reply), rest))
-        }
-        8 => {
-            let (advert, rest) = directory_advert_of(alloc, tail, bytes)?;
-            Ok((Message::DirectoryAdvert(header, advert), rest))
-        }
-        9 => {
-            let (request, rest) = type_request_of(alloc, bytes)?;
-            Ok((Message::TypeRequest(header, request), rest))
-        }
-        10 => {
-            let (reply, rest) = type_reply_of(alloc, tail, bytes)?;
-            Ok((Message::TypeReply(header, reply), rest))
-        }
-        11 => {
-            let (agent, rest) = service_agent_of(alloc, bytes)?;
-            Ok((Message::ServiceAdvert(header, agent), rest))
-        }
-        _ => Err(WireFault::Unknown),
-    }
-}
-
-// ---- whole messages
 
 fn is_read(function: u8) -> bool
     ensures { result ≡ is_known function }
 {
-    (1..=11).contains(&function)
+    (function::SERVICE_REQUEST..=function::SERVICE_ADVERT).contains(&function)
 }
 
 fn flags_in(word: u16) -> Flags
     ensures { result ≡ flags_of word }
 {
     Flags {
-        overflow: word & 0x8000 != 0,
-        fresh: word & 0x4000 != 0,
-        multicast: word & 0x2000 != 0,
+        overflow: word & flag::OVERFLOW != 0,
+        fresh: word & flag::FRESH != 0,
+        multicast: word & flag::MULTICAST != 0,
     }
 }
 
@@ -156,7 +69,7 @@ fn check_end(extension: usize, total: usize, rest: &[u8]) -> Result<(), WireFaul
     skip_extensions(extension, rest)
 }
 
-// These bytes are what the length field marks behind the header.
+// These bytes are what the length field marks after the header.
 #[tactic(auto, unfolding(crate::specs::Reading::ended))]
 fn whole_body(
     alloc: Global,
@@ -167,8 +80,13 @@ fn whole_body(
     ensures { Gives (λ m. m) result (ended (heading view.now) (body_at view.now.function (tail_of (heading view.now)) header bytes.now)) }
 {
     let (message, rest) = body_of(alloc, view.function, tail_in(view), header, bytes)?;
-    check_end(view.extension as usize, view.length as usize, rest)?;
-    Ok(message)
+    match check_end(view.extension as usize, view.length as usize, rest) {
+        Ok(()) => Ok(message),
+        Err(fault) => {
+            drop(message);
+            Err(fault)
+        }
+    }
 }
 
 #[tactic(auto, unfolding(crate::specs::Reading::reading_behind))]
@@ -178,11 +96,11 @@ fn message_behind(alloc: Global, view: &HeaderView<'_>, bytes: &[u8]) -> Result<
     if !is_read(view.function) {
         return Err(WireFault::Unknown);
     }
-    if view.version != 2 {
+    if view.version != VERSION {
         return Err(WireFault::Version);
     }
     let length = view.length as usize;
-    let start = 14 + view.language.len();
+    let start = place::TAG + view.language.len();
     if length < start || bytes.len() < length {
         return Err(WireFault::Parse);
     }

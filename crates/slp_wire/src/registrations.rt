@@ -1,21 +1,19 @@
 //! SrvReg and SrvDeReg, functions 3 and 4 (RFC 2608, sections 8.3 and 10.6).
-ghost use Rattle.std.specs.Prelude.{◌≡◌, ◌≤◌, ◌+◌, ◌++◌, ◌∷◌, [], length, take, min, OnOk};
-ghost use Rattle.slp_wire.specs.Headers.{string};
-ghost use Rattle.slp_wire.specs.Registrations.{IsRegistration, IsWithdrawal, registration_at, withdrawal_at};
-ghost use Rattle.slp_wire.specs.Spelling.{longest};
-ghost use Rattle.slp_wire.specs.Steps.{Gives};
-ghost use Rattle.slp_wire.specs.Strings.{entry_bytes};
+ghost use Rattle.std.specs.Prelude.{◌≡◌};
+ghost use Rattle.std.specs.List.{AllByRecursion};
+ghost use Rattle.slp_messages.specs.Layouts as layout;
+ghost use Rattle.slp_messages.specs.Layouts.{IsLaid};
+ghost use Rattle.slp_fields.specs.Spelling.{laid_bytes};
+ghost use Rattle.slp_fields.specs.Steps.{Gives};
+ghost use Rattle.slp_fields.specs.Writing.{fields_bytes, IsField};
+ghost use Rattle.slp_wire.specs.Bodies.{registration_at, withdrawal_at};
 
-use crate::appending::{grown, put_entry, put_text, with_entry, with_text};
-use crate::fault::WireFault;
-use crate::fields::{behind_no_block, entry_of, text_of};
-use crate::message::{Registration, Withdrawal};
-use std::alloc::{AllocError, Global};
-
-// ---- registrations
+use slp_fields::{Field, WireFault, behind_no_block, entry_of, text_of};
+use slp_messages::{Registration, Withdrawal};
+use std::alloc::Global;
 
 /// Reads a registration.
-#[tactic(auto, unfolding(crate::specs::Registrations::registration_at))]
+#[tactic(auto, unfolding(crate::specs::Bodies::registration_at))]
 pub(crate) fn registration_of(
     alloc: Global,
     bytes: &[u8],
@@ -36,37 +34,22 @@ pub(crate) fn registration_of(
     Ok((registration, rest))
 }
 
-/// A registration more.
-pub(crate) fn with_registration(total: usize, registration: &Registration) -> usize
-    ensures length { result ≡ min (total + length (entry_bytes 0 registration.now.entry ++ string registration.now.kind ++ string registration.now.scopes ++ string registration.now.attributes ++ 0 ∷ [])) 65536 }
-    ensures sound { result ≤ longest → IsRegistration registration.now }
+/// The fields of a registration.
+pub(crate) fn registration_fields(registration: &Registration) -> [Field<'_>; 5]
+    ensures bytes { fields_bytes result ≡ laid_bytes layout.registration registration.now }
+    ensures sound { AllByRecursion IsField result → IsLaid layout.registration registration.now }
 {
-    let total = with_entry(total, &registration.entry);
-    let total = with_text(total, &registration.kind);
-    let total = with_text(total, &registration.scopes);
-    let total = with_text(total, &registration.attributes);
-    grown(total, 1)
+    [
+        Field::Entry(&registration.entry),
+        Field::Text(&registration.kind),
+        Field::Text(&registration.scopes),
+        Field::Text(&registration.attributes),
+        Field::NoBlock,
+    ]
 }
-
-/// Appends a registration.
-pub(crate) fn put_registration(
-    bytes: &mut Vec<u8>,
-    registration: &Registration,
-) -> Result<(), AllocError>
-    ensures ok { OnOk result (bytes.new.items ≡ bytes.old.items ++ (entry_bytes 0 registration.now.entry ++ string registration.now.kind ++ string registration.now.scopes ++ string registration.now.attributes ++ 0 ∷ [])) }
-    ensures kept { take (length bytes.old.items) bytes.new.items ≡ bytes.old.items }
-{
-    put_entry(bytes, &registration.entry)?;
-    put_text(bytes, &registration.kind)?;
-    put_text(bytes, &registration.scopes)?;
-    put_text(bytes, &registration.attributes)?;
-    bytes.extend_from_slice(&[0])
-}
-
-// ---- withdrawals
 
 /// Reads a withdrawal.
-#[tactic(auto, unfolding(crate::specs::Registrations::withdrawal_at))]
+#[tactic(auto, unfolding(crate::specs::Bodies::withdrawal_at))]
 pub(crate) fn withdrawal_of(alloc: Global, bytes: &[u8]) -> Result<(Withdrawal, &[u8]), WireFault>
     ensures { Gives (λ x. (x.0, x.1.now)) result (withdrawal_at bytes.now) }
 {
@@ -81,22 +64,14 @@ pub(crate) fn withdrawal_of(alloc: Global, bytes: &[u8]) -> Result<(Withdrawal, 
     Ok((withdrawal, rest))
 }
 
-/// A withdrawal more.
-pub(crate) fn with_withdrawal(total: usize, withdrawal: &Withdrawal) -> usize
-    ensures length { result ≡ min (total + length (string withdrawal.now.scopes ++ entry_bytes 0 withdrawal.now.entry ++ string withdrawal.now.tags)) 65536 }
-    ensures sound { result ≤ longest → IsWithdrawal withdrawal.now }
+/// The fields of a withdrawal.
+pub(crate) fn withdrawal_fields(withdrawal: &Withdrawal) -> [Field<'_>; 3]
+    ensures bytes { fields_bytes result ≡ laid_bytes layout.withdrawal withdrawal.now }
+    ensures sound { AllByRecursion IsField result → IsLaid layout.withdrawal withdrawal.now }
 {
-    let total = with_text(total, &withdrawal.scopes);
-    let total = with_entry(total, &withdrawal.entry);
-    with_text(total, &withdrawal.tags)
-}
-
-/// Appends a withdrawal.
-pub(crate) fn put_withdrawal(bytes: &mut Vec<u8>, withdrawal: &Withdrawal) -> Result<(), AllocError>
-    ensures ok { OnOk result (bytes.new.items ≡ bytes.old.items ++ (string withdrawal.now.scopes ++ entry_bytes 0 withdrawal.now.entry ++ string withdrawal.now.tags)) }
-    ensures kept { take (length bytes.old.items) bytes.new.items ≡ bytes.old.items }
-{
-    put_text(bytes, &withdrawal.scopes)?;
-    put_entry(bytes, &withdrawal.entry)?;
-    put_text(bytes, &withdrawal.tags)
+    [
+        Field::Text(&withdrawal.scopes),
+        Field::Entry(&withdrawal.entry),
+        Field::Text(&withdrawal.tags),
+    ]
 }

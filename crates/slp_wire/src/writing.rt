@@ -1,54 +1,88 @@
-ghost use Rattle.std.specs.Prelude.{◌≡◌, ◌≤◌, ◌<◌, ◌+◌, ◌↔◌, ◌⊎◌, ◌++◌, length, take, min, OnOk, OnErr, IfErr, IsErrOf};
-ghost use Rattle.slp_wire.specs.Headers.{word_of};
-ghost use Rattle.slp_wire.specs.Messages.{IsMessage, IsBody, header_of, function_of};
+ghost use Rattle.std.specs.Prelude.{◌≡◌, ◌≤◌, ◌<◌, ◌+◌, ◌↔◌, ◌⊎◌, ◌++◌, length, min, vec_len, vec_capacity, OnOk, OnErr, IfErr, IsErrOf};
+ghost use Rattle.slp_messages.specs.Messages.{IsMessage, IsBody, header_of, function_of};
+ghost use Rattle.slp_headers.specs.Headers.{word_of};
+ghost use Rattle.slp_fields.specs.declared.fault.WireFault.TheVariants.{NoMemory as Lacking, TooLong as Long};
 ghost use Rattle.slp_wire.specs.Spelling.{plain, body_of, longest};
-ghost use Rattle.slp_wire.specs.declared.fault.WireFault.TheVariants.{NoMemory as Lacking, TooLong as Long};
 
-use crate::adverts::{
-    put_directory_agent, put_service_agent, with_directory_agent, with_service_agent,
+use crate::adverts::{directory_agent_fields, service_agent_fields};
+use crate::attributes::{attribute_request_fields, attributes_fields};
+use crate::registrations::{registration_fields, withdrawal_fields};
+use crate::replies::refusal_fields;
+use crate::services::{service_request_fields, services_fields};
+use crate::types::{type_request_fields, types_fields};
+use slp_fields::{Field, LONGEST, WireFault, append, put_fields, with_fields};
+use slp_headers::{flag, opening, place};
+use slp_messages::{
+    AttributeReply, DirectoryAdvert, Flags, Header, Message, ServiceReply, TypeReply, function,
 };
-use crate::appending::{LONGEST, grown, put_code, with_refusal};
-use crate::attributes::{
-    put_attribute_request, put_attributes, with_attribute_request, with_attributes,
-};
-use crate::fault::WireFault;
-use crate::header::{Flags, Header};
-use crate::heading::opening;
-use crate::message::{AttributeReply, DirectoryAdvert, Message, ServiceReply, TypeReply};
-use crate::registrations::{put_registration, put_withdrawal, with_registration, with_withdrawal};
-use crate::services::{put_found, put_service_request, with_found, with_service_request};
-use crate::types::{put_type_request, put_types, with_type_request, with_types};
-use std::alloc::AllocError;
 
 fn with_body(total: usize, message: &Message) -> usize
     ensures length { result ≡ min (total + length (body_of message.now)) 65536 }
     ensures sound { result ≤ longest → IsBody message.now }
 {
     match message {
-        Message::ServiceRequest(_, request) => with_service_request(total, request),
+        Message::ServiceRequest(_, request) => with_fields(total, &service_request_fields(request)),
         Message::ServiceReply(_, ServiceReply::Found(entries)) => {
-            with_found(total, entries.as_slice())
+            with_fields(total, &services_fields(entries.as_slice()))
         }
-        Message::AttributeReply(_, AttributeReply::Found(attributes)) => {
-            with_attributes(total, attributes)
+        Message::AttributeReply(_, AttributeReply::Found(list)) => {
+            with_fields(total, &attributes_fields(list))
         }
         Message::DirectoryAdvert(_, DirectoryAdvert::Present(agent)) => {
-            with_directory_agent(total, agent)
+            with_fields(total, &directory_agent_fields(agent))
         }
-        Message::TypeReply(_, TypeReply::Found(types)) => with_types(total, types),
+        Message::TypeReply(_, TypeReply::Found(list)) => with_fields(total, &types_fields(list)),
         Message::ServiceReply(_, ServiceReply::Refused(code))
         | Message::AttributeReply(_, AttributeReply::Refused(code))
         | Message::DirectoryAdvert(_, DirectoryAdvert::Refused(code))
-        | Message::TypeReply(_, TypeReply::Refused(code)) => with_refusal(total, code),
-        Message::Registration(_, registration) => with_registration(total, registration),
-        Message::Withdrawal(_, withdrawal) => with_withdrawal(total, withdrawal),
-        Message::Acknowledgement(_, code) => {
-            let _code = *code;
-            grown(total, 2)
+        | Message::TypeReply(_, TypeReply::Refused(code)) => {
+            with_fields(total, &refusal_fields(code))
         }
-        Message::AttributeRequest(_, request) => with_attribute_request(total, request),
-        Message::TypeRequest(_, request) => with_type_request(total, request),
-        Message::ServiceAdvert(_, agent) => with_service_agent(total, agent),
+        Message::Registration(_, registration) => {
+            with_fields(total, &registration_fields(registration))
+        }
+        Message::Withdrawal(_, withdrawal) => with_fields(total, &withdrawal_fields(withdrawal)),
+        Message::Acknowledgement(_, code) => with_fields(total, &[Field::Number(*code)]),
+        Message::AttributeRequest(_, request) => {
+            with_fields(total, &attribute_request_fields(request))
+        }
+        Message::TypeRequest(_, request) => with_fields(total, &type_request_fields(request)),
+        Message::ServiceAdvert(_, agent) => with_fields(total, &service_agent_fields(agent)),
+    }
+}
+
+fn put_body(bytes: &mut Vec<u8>, message: &Message)
+    requires room { vec_len bytes.old + length (body_of message.now) ≤ vec_capacity bytes.old }
+    ensures { bytes.new.items ≡ bytes.old.items ++ body_of message.now }
+{
+    match message {
+        Message::ServiceRequest(_, request) => put_fields(bytes, &service_request_fields(request)),
+        Message::ServiceReply(_, ServiceReply::Found(entries)) => {
+            put_fields(bytes, &services_fields(entries.as_slice()))
+        }
+        Message::AttributeReply(_, AttributeReply::Found(list)) => {
+            put_fields(bytes, &attributes_fields(list))
+        }
+        Message::DirectoryAdvert(_, DirectoryAdvert::Present(agent)) => {
+            put_fields(bytes, &directory_agent_fields(agent))
+        }
+        Message::TypeReply(_, TypeReply::Found(list)) => put_fields(bytes, &types_fields(list)),
+        Message::ServiceReply(_, ServiceReply::Refused(code))
+        | Message::AttributeReply(_, AttributeReply::Refused(code))
+        | Message::DirectoryAdvert(_, DirectoryAdvert::Refused(code))
+        | Message::TypeReply(_, TypeReply::Refused(code)) => {
+            put_fields(bytes, &refusal_fields(code))
+        }
+        Message::Registration(_, registration) => {
+            put_fields(bytes, &registration_fields(registration))
+        }
+        Message::Withdrawal(_, withdrawal) => put_fields(bytes, &withdrawal_fields(withdrawal)),
+        Message::Acknowledgement(_, code) => put_fields(bytes, &[Field::Number(*code)]),
+        Message::AttributeRequest(_, request) => {
+            put_fields(bytes, &attribute_request_fields(request))
+        }
+        Message::TypeRequest(_, request) => put_fields(bytes, &type_request_fields(request)),
+        Message::ServiceAdvert(_, agent) => put_fields(bytes, &service_agent_fields(agent)),
     }
 }
 
@@ -70,6 +104,33 @@ fn header_in(message: &Message) -> &Header
     }
 }
 
+fn function_in(message: &Message) -> u8
+    ensures { result ≡ function_of message.now }
+{
+    match message {
+        Message::ServiceRequest(_, _) => function::SERVICE_REQUEST,
+        Message::ServiceReply(_, _) => function::SERVICE_REPLY,
+        Message::Registration(_, _) => function::REGISTRATION,
+        Message::Withdrawal(_, _) => function::WITHDRAWAL,
+        Message::Acknowledgement(_, _) => function::ACKNOWLEDGEMENT,
+        Message::AttributeRequest(_, _) => function::ATTRIBUTE_REQUEST,
+        Message::AttributeReply(_, _) => function::ATTRIBUTE_REPLY,
+        Message::DirectoryAdvert(_, _) => function::DIRECTORY_ADVERT,
+        Message::TypeRequest(_, _) => function::TYPE_REQUEST,
+        Message::TypeReply(_, _) => function::TYPE_REPLY,
+        Message::ServiceAdvert(_, _) => function::SERVICE_ADVERT,
+    }
+}
+
+fn word_in(flags: Flags) -> u16
+    ensures { result ≡ word_of flags }
+{
+    let overflow = if flags.overflow { flag::OVERFLOW } else { 0 };
+    let fresh = if flags.fresh { flag::FRESH } else { 0 };
+    let multicast = if flags.multicast { flag::MULTICAST } else { 0 };
+    overflow + fresh + multicast
+}
+
 fn message_length(message: &Message) -> usize
     ensures length { result ≡ min (length (plain message.now)) 65536 }
     ensures sound { result ≤ longest → IsMessage message.now }
@@ -77,71 +138,13 @@ fn message_length(message: &Message) -> usize
     let header = header_in(message);
     let _xid = header.xid;
     let tag = header.language.as_str();
-    with_body(14 + tag.len(), message)
+    with_body(place::TAG + tag.len(), message)
 }
 
-// ---- bytes: each function appends, and where memory runs out the old bytes are still the front
-
-fn put_body(bytes: &mut Vec<u8>, message: &Message) -> Result<(), AllocError>
-    ensures ok { OnOk result (bytes.new.items ≡ bytes.old.items ++ body_of message.now) }
-    ensures kept { take (length bytes.old.items) bytes.new.items ≡ bytes.old.items }
-{
-    match message {
-        Message::ServiceRequest(_, request) => put_service_request(bytes, request),
-        Message::ServiceReply(_, ServiceReply::Found(entries)) => {
-            put_found(bytes, entries.as_slice())
-        }
-        Message::AttributeReply(_, AttributeReply::Found(attributes)) => {
-            put_attributes(bytes, attributes)
-        }
-        Message::DirectoryAdvert(_, DirectoryAdvert::Present(agent)) => {
-            put_directory_agent(bytes, agent)
-        }
-        Message::TypeReply(_, TypeReply::Found(types)) => put_types(bytes, types),
-        Message::ServiceReply(_, ServiceReply::Refused(code))
-        | Message::AttributeReply(_, AttributeReply::Refused(code))
-        | Message::DirectoryAdvert(_, DirectoryAdvert::Refused(code))
-        | Message::TypeReply(_, TypeReply::Refused(code)) => put_code(bytes, code.get()),
-        Message::Registration(_, registration) => put_registration(bytes, registration),
-        Message::Withdrawal(_, withdrawal) => put_withdrawal(bytes, withdrawal),
-        Message::Acknowledgement(_, code) => put_code(bytes, *code),
-        Message::AttributeRequest(_, request) => put_attribute_request(bytes, request),
-        Message::TypeRequest(_, request) => put_type_request(bytes, request),
-        Message::ServiceAdvert(_, agent) => put_service_agent(bytes, agent),
-    }
-}
-
-fn function_in(message: &Message) -> u8
-    ensures { result ≡ function_of message.now }
-{
-    match message {
-        Message::ServiceRequest(_, _) => 1,
-        Message::ServiceReply(_, _) => 2,
-        Message::Registration(_, _) => 3,
-        Message::Withdrawal(_, _) => 4,
-        Message::Acknowledgement(_, _) => 5,
-        Message::AttributeRequest(_, _) => 6,
-        Message::AttributeReply(_, _) => 7,
-        Message::DirectoryAdvert(_, _) => 8,
-        Message::TypeRequest(_, _) => 9,
-        Message::TypeReply(_, _) => 10,
-        Message::ServiceAdvert(_, _) => 11,
-    }
-}
-
-fn word_in(flags: Flags) -> u16
-    ensures { result ≡ word_of flags }
-{
-    let overflow = if flags.overflow { 0x8000 } else { 0 };
-    let fresh = if flags.fresh { 0x4000 } else { 0 };
-    let multicast = if flags.multicast { 0x2000 } else { 0 };
-    overflow + fresh + multicast
-}
-
-fn put_message(bytes: &mut Vec<u8>, message: &Message, total: usize) -> Result<(), AllocError>
-    requires { total ≡ length (plain message.now) }
-    ensures ok { OnOk result (bytes.new.items ≡ bytes.old.items ++ plain message.now) }
-    ensures kept { take (length bytes.old.items) bytes.new.items ≡ bytes.old.items }
+fn put_message(bytes: &mut Vec<u8>, message: &Message, total: usize)
+    requires length { total ≡ length (plain message.now) }
+    requires room { vec_len bytes.old + total ≤ vec_capacity bytes.old }
+    ensures { bytes.new.items ≡ bytes.old.items ++ plain message.now }
 {
     let header = header_in(message);
     let tag = header.language.as_str().as_bytes();
@@ -153,13 +156,14 @@ fn put_message(bytes: &mut Vec<u8>, message: &Message, total: usize) -> Result<(
         header.xid,
         tag.len(),
     );
-    bytes.extend_from_slice(&fixed)?;
-    bytes.extend_from_slice(tag)?;
-    put_body(bytes, message)
+    append(bytes, &fixed);
+    append(bytes, tag);
+    put_body(bytes, message);
 }
 
 /// Appends the one spelling of a message (RFC 2608, sections 7 to 9): no extension, no
 /// authentication block, and 0 in each reserved place. A refusal leaves the bytes as they were.
+/// Memory is taken once, before the first byte is written.
 pub fn encode(message: &Message, bytes: &mut Vec<u8>) -> Result<(), WireFault>
     ensures ok { OnOk result (bytes.new.items ≡ bytes.old.items ++ plain message.now) }
     ensures sound { OnOk result (IsMessage message.now) }
@@ -172,10 +176,6 @@ pub fn encode(message: &Message, bytes: &mut Vec<u8>) -> Result<(), WireFault>
         return Err(WireFault::TooLong);
     }
     bytes.reserve(total)?;
-    let before = bytes.len();
-    if put_message(bytes, message, total).is_err() {
-        bytes.truncate(before);
-        return Err(WireFault::NoMemory);
-    }
+    put_message(bytes, message, total);
     Ok(())
 }

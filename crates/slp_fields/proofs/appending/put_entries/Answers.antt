@@ -1,0 +1,9 @@
+use Rattle.std.proofs.Common.{arith}
+use Rattle.slp_fields.specs.Spelling.{entry_bytes}
+use Rattle.slp_fields.proofs.Fits.{next_fits}
+use Rattle.slp_fields.proofs.appending.put_entries.Goals as goal
+
+pub put_entry-requires : goal.put_entry-requires
+put_entry-requires c =
+    let fits = next_fits (entry_bytes 0) c.loop-entry.entry-index c.args.entries.now c.entry-item.result c.entry-item.is c.loop-entry-test.true in
+    record { room = omega (arith, fits, c.loop-entry.invariant.count, c.loop-entry.invariant.room) }

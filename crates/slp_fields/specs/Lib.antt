@@ -1,0 +1,4 @@
+pub mod Reading
+pub mod Spelling
+pub mod Steps
+pub mod Writing

@@ -1,0 +1,19 @@
+//! The fields of a body (RFC 2608, sections 4.3, 8 and 9): reading one, and writing a list of them.
+#![tactic(auto)]
+
+mod appending;
+mod fault;
+mod field;
+mod measuring;
+mod reading;
+mod skipping;
+
+pub use appending::{append, put_fields};
+pub use fault::WireFault;
+pub use field::Field;
+pub use measuring::{LONGEST, entry_length, with_fields};
+pub use reading::{
+    authority_of, behind_no_block, behind_no_index, entry_of, listing_of, long_of, number_of,
+    text_of,
+};
+pub use skipping::skip_fields;

@@ -1,0 +1,15 @@
+//! Headers of messages (RFC 2608, section 8): reading one where it lies, and the replies that are a header and a code.
+//! Nothing here takes memory.
+#![tactic(auto)]
+
+mod fixed;
+pub mod flag;
+pub mod place;
+mod reading;
+mod reply;
+mod view;
+
+pub use fixed::{VERSION, opening, two_bytes};
+pub use reading::read_header;
+pub use reply::{error_reply, reply_function};
+pub use view::HeaderView;

@@ -1,7 +1,0 @@
-use Rattle.std.proofs.Common.{◌≡◌, ◌-◌}
-use Rattle.slp_wire.specs.Strings.{entries_at}
-use Rattle.slp_wire.proofs.Loop.{with_front}
-use Rattle.slp_wire.proofs.fields.entries_of.Given as goal
-
-abbrev pub invariant-loop : goal.invariant-loop
-invariant-loop l = with_front l.entries.items (entries_at (l.count - l.counter) l.rest) ≡ entries_at l.count l.bytes
