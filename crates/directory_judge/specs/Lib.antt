@@ -5,3 +5,4 @@ pub mod Making
 pub mod Meaning
 pub mod Sites
 pub mod Walking
+pub mod Withdrawing

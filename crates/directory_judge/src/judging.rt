@@ -1,4 +1,4 @@
-ghost use Rattle.std.specs.Prelude.{◌≡◌, ◌<◌, ◌≤◌, IfOk, [], length, slice_get, unwrap_or};
+ghost use Rattle.std.specs.Prelude.{◌≡◌, ◌<◌, ◌≤◌, ◌+◌, IfOk, [], length, slice_get, unwrap_or};
 ghost use Rattle.std.specs.FinMap as fin;
 ghost use Rattle.std.specs.Option.{option_copied, option_or};
 ghost use Rattle.slp_text.specs.Key.{key_of};
@@ -12,10 +12,10 @@ ghost use Rattle.directory_judge.specs.declared.naming.Taken.{Taken};
 
 use crate::because::Decider;
 use crate::change::{Change, Placed};
-use crate::denying::{by_verdict, denial, deny};
+use crate::denying::{allowance, denial_on, deny};
 use crate::judged::Judged;
 use crate::naming::{Named, Taken, is_agent, name, read_kind};
-use crate::rooms::is_full;
+use crate::rooms::lacks_room;
 use crate::site::Site;
 use crate::withdrawing::judge_withdrawal;
 use access_rules::{Action, Addr, Rules};
@@ -41,15 +41,6 @@ fn live_entry<'a, R: Registry>(
     }
 }
 
-fn memory<T, E: Drop>(made: Result<T, E>) -> Result<T, NoMemory>
-    ensures { IfOk result (λ v. made ≡ Ok v) }
-{
-    match made {
-        Ok(value) => Ok(value),
-        Err(_) => Err(NoMemory),
-    }
-}
-
 // The change of a registration that nothing speaks against, and what allowed it.
 fn accept(
     alloc: Global,
@@ -63,14 +54,8 @@ fn accept(
     ensures { let because = by_rule rules.now asker Register entry.kind (unwrap_or (slice_get entry.scopes 0) []) in
         IfOk result (λ j. (c : Change) × (j ≡ Judged.Accept c because) × (content c ≡ Stores now entry)) }
 {
-    let because = match entry.scopes.at(0) {
-        Some(scope) => {
-            let verdict = rules.decide(asker, Action::Register, &entry.kind, scope);
-            by_verdict(alloc, verdict, &entry.kind, scope)?
-        }
-        None => unreachable!(),
-    };
     let entry = Arc::new(alloc, entry)?;
+    let because = allowance(alloc, rules, asker, Action::Register, &entry)?;
     Ok(Judged::Accept(Change::Put(Placed { moment: now, entry }), because))
 }
 
@@ -94,26 +79,39 @@ fn judge_entry<R: Registry>(
         let allowed = by_rule rules.now asker Register entry.kind (unwrap_or (slice_get entry.scopes 0) []) in
         IsJudged live j (unwrap_or (option_or (denied_old g (fin.get live (pair_of entry))) (no_room g (pair_of entry) t)) (Accepts (record { moment = now; act = Put p }) allowed))) }
 {
-    match live_entry(registry, &entry.url, &entry.language, u64::from(now)) {
-        Some(old) => {
-            if let Some(because) = denial(
-                alloc,
-                rules,
-                asker,
-                Action::Register,
-                &old.kind,
-                &old.scopes,
-            )? {
-                return Ok(Judged::Deny(4, because));
-            }
-        }
-        None => {
-            if is_full(registry, site, u64::from(now)) {
-                return Ok(deny(11, Decider::Full, Some(entry.kind)));
-            }
-        }
+    let moment = u64::from(now);
+    let old = live_entry(registry, &entry.url, &entry.language, moment);
+    if lacks_room(registry, site, old, moment) {
+        return Ok(deny(11, Decider::Full, Some(entry.kind)));
     }
-    accept(alloc, rules, asker, now, entry)
+    match denial_on(alloc, rules, asker, Action::Register, old)? {
+        Some(because) => Ok(Judged::Deny(4, because)),
+        None => accept(alloc, rules, asker, now, entry),
+    }
+}
+
+// The entry that a registration founds.
+fn founded(
+    alloc: Global,
+    now: u32,
+    header: &Header,
+    registration: &Registration,
+    url: Url,
+    taken: Taken,
+) -> Result<Entry, NoMemory>
+    ensures { IfOk result (λ e. e ≡ record { url = url; language = key_of header.now.language; kind = taken.kind; scopes = taken.scopes; deadline = now + registration.now.entry.lifetime }) }
+{
+    let Taken { kind, scopes } = taken;
+    match key(alloc, header.language.as_str()) {
+        Ok(language) => Ok(Entry {
+            url,
+            language,
+            kind,
+            scopes,
+            deadline: u64::from(now) + u64::from(registration.entry.lifetime),
+        }),
+        Err(_) => Err(NoMemory),
+    }
 }
 
 // Judges what a registration names, of a language and a lifetime.
@@ -134,23 +132,14 @@ fn judge_taken<R: Registry>(
     ensures { IfOk result (λ j. let live = passing (outlives now) (R.contents registry.now) in
         IsJudged live j (judged_taken (record { rules = rules.now; site = site.now; live = live; now = now; asker = asker }) header.now registration.now taken)) }
 {
-    let Taken { kind, scopes } = taken;
-    if scopes.is_empty() {
-        return Ok(deny(4, Decider::Scope, Some(kind)));
+    if taken.scopes.is_empty() {
+        return Ok(deny(4, Decider::Scope, Some(taken.kind)));
     }
-    if let Some(because) = denial(alloc, rules, asker, Action::Register, &kind, &scopes)? {
-        return Ok(Judged::Deny(4, because));
+    let entry = founded(alloc, now, header, registration, url, taken)?;
+    match denial_on(alloc, rules, asker, Action::Register, Some(&entry))? {
+        Some(because) => Ok(Judged::Deny(4, because)),
+        None => judge_entry(alloc, registry, rules, site, now, asker, entry),
     }
-    let language = memory(key(alloc, header.language.as_str()))?;
-    let deadline = u64::from(now) + u64::from(registration.entry.lifetime);
-    let entry = Entry {
-        url,
-        language,
-        kind,
-        scopes,
-        deadline,
-    };
-    judge_entry(alloc, registry, rules, site, now, asker, entry)
 }
 
 // Judges a registration, step by step.

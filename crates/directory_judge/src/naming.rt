@@ -1,7 +1,7 @@
-ghost use Rattle.std.specs.Prelude.{◌≡◌, IfOk};
-ghost use Rattle.std.specs.Option.{option_copied};
+ghost use Rattle.std.specs.Prelude.{◌≡◌, ◌≤◌, length, IfOk, IfSome, Some};
+ghost use Rattle.std.specs.Option.{option_copied, option_map};
 ghost use Rattle.std.specs.Result.{result_ok};
-ghost use Rattle.slp_text.specs.Scopes.{scopes_of};
+ghost use Rattle.slp_text.specs.Scopes.{scopes_of, common_of};
 ghost use Rattle.slp_text.specs.Tags.{tags_of};
 ghost use Rattle.service_url.specs.Types.{type_of};
 ghost use Rattle.service_url.specs.Urls.{url_of};
@@ -65,8 +65,19 @@ pub fn read_scopes(alloc: Global, text: &str) -> Result<Option<ScopeList>, NoMem
     }
 }
 
-/// The tags that a text names, if it is a list of tags.
-pub fn read_tags(alloc: Global, text: &str) -> Result<Option<TagList>, NoMemory>
+/// The scopes that a text names and the site supports, if it is a list of scopes.
+pub fn read_supported(alloc: Global, site: &Site, text: &str) -> Result<Option<ScopeList>, NoMemory>
+    ensures value { IfOk result (λ l. l ≡ option_map (common_of site.now.scopes) (result_ok (scopes_of text.now))) }
+    ensures few { IfOk result (λ l. IfSome l (λ scopes. length scopes ≤ 16)) }
+{
+    let Some(scopes) = read_scopes(alloc, text)? else {
+        return Ok(None);
+    };
+    Ok(Some(site.scopes().common(alloc, &scopes)?))
+}
+
+// The tags that a text names, if it is a list of tags.
+fn read_tags(alloc: Global, text: &str) -> Result<Option<TagList>, NoMemory>
     ensures { IfOk result (λ t. t ≡ result_ok (tags_of text.now)) }
 {
     match TagList::parse(alloc, text) {
@@ -76,13 +87,13 @@ pub fn read_tags(alloc: Global, text: &str) -> Result<Option<TagList>, NoMemory>
     }
 }
 
-/// Whether a list of tags has a part.
-pub fn names_tags(tags: Option<&TagList>) -> bool
-    ensures { result ≡ names_tags_of (option_copied tags.entry) }
+/// Whether a list of tags has a part, if the text is a list of tags.
+pub fn names_tags(alloc: Global, text: &str) -> Result<Option<bool>, NoMemory>
+    ensures { IfOk result (λ b. b ≡ option_map (λ t. names_tags_of (Some t)) (result_ok (tags_of text.now))) }
 {
-    match tags {
-        Some(tags) => !tags.is_empty(),
-        None => false,
+    match read_tags(alloc, text)? {
+        Some(tags) => Ok(Some(!tags.is_empty())),
+        None => Ok(None),
     }
 }
 
@@ -117,9 +128,8 @@ pub fn name(
     let Some(url) = read_url(alloc, registration.entry.url.as_str())? else {
         return Ok(Named::Denied(3, Decider::Registration));
     };
-    let Some(scopes) = read_scopes(alloc, registration.scopes.as_str())? else {
+    let Some(scopes) = read_supported(alloc, site, registration.scopes.as_str())? else {
         return Ok(Named::Denied(2, Decider::Parse));
     };
-    let scopes = site.scopes().common(alloc, &scopes)?;
     Ok(Named::Taken(url, Taken { kind, scopes }))
 }

@@ -1,18 +1,22 @@
 ghost use Rattle.std.specs.Prelude.{◌≡◌, ◌<◌, [], length, filter, slice_get, unwrap_or, IfOk};
 ghost use Rattle.std.specs.List.{list_any};
 ghost use Rattle.std.specs.Option.{option_copied};
+ghost use Rattle.std.specs.Result.{result_ok};
+ghost use Rattle.slp_text.specs.Scopes.{scopes_of};
+ghost use Rattle.service_url.specs.Urls.{url_of};
 ghost use Rattle.access_rules.specs.declared.rule.Action.TheVariants.{Withdraw};
 ghost use Rattle.registry_core.specs.Entries.{outlives, passing, is_of_url, IsListing};
 ghost use Rattle.directory_judge.specs.Making.{content, Withdraws};
 ghost use Rattle.directory_judge.specs.Judging.{Grounds, by_rule, earlier as earlier_of, first_of, is_kept as is_kept_by, judged_stored, judgement_to, IsJudged};
 ghost use Rattle.directory_judge.specs.declared.change.Change.{Change};
 ghost use Rattle.directory_judge.specs.Walking.{is_asked as is_asked_for};
+ghost use Rattle.directory_judge.specs.Withdrawing.{withdrawn_in};
 
 use crate::because::Decider;
 use crate::change::{Change, Withdrawn};
-use crate::denying::{by_verdict, denial, deny};
+use crate::denying::{allowance, denial_on, deny};
 use crate::judged::Judged;
-use crate::naming::{names_tags, read_scopes, read_tags, read_url};
+use crate::naming::{names_tags, read_supported, read_url};
 use crate::site::Site;
 use access_rules::{Action, Addr, Rules};
 use registry_core::{Entry, Registry};
@@ -119,14 +123,8 @@ fn release(
     ensures { let because = by_rule rules.now asker Withdraw entry.now.kind (unwrap_or (slice_get entry.now.scopes 0) []) in
         IfOk result (λ j. (c : Change) × (j ≡ Judged.Accept c because) × (content c ≡ Withdraws now (record { url = url; scopes = scopes }))) }
 {
-    let because = match entry.scopes.at(0) {
-        Some(scope) => {
-            let verdict = rules.decide(asker, Action::Withdraw, &entry.kind, scope);
-            by_verdict(alloc, verdict, &entry.kind, scope)?
-        }
-        None => unreachable!(),
-    };
     let withdrawn = Arc::new(alloc, Withdrawn { url, scopes })?;
+    let because = allowance(alloc, rules, asker, Action::Withdraw, entry)?;
     Ok(Judged::Accept(Change::Withdraw(now, withdrawn), because))
 }
 
@@ -152,19 +150,28 @@ fn judge_stored<R: Registry>(
     let Some(entry) = first(registry, rules, moment, asker, &url, &scopes, false) else {
         return Ok(deny(4, Decider::Scope, None));
     };
-    if let Some(kept) = first(registry, rules, moment, asker, &url, &scopes, true)
-        && let Some(because) = denial(
-            alloc,
-            rules,
-            asker,
-            Action::Withdraw,
-            &kept.kind,
-            &kept.scopes,
-        )?
-    {
-        return Ok(Judged::Deny(4, because));
+    let kept = first(registry, rules, moment, asker, &url, &scopes, true);
+    match denial_on(alloc, rules, asker, Action::Withdraw, kept)? {
+        Some(because) => Ok(Judged::Deny(4, because)),
+        None => release(alloc, rules, now, asker, entry, url, scopes),
     }
-    release(alloc, rules, now, asker, entry, url, scopes)
+}
+
+// What a withdrawal is of: its URL, and those of its scopes that the site supports, where both are read.
+fn read_withdrawn(
+    alloc: Global,
+    site: &Site,
+    withdrawal: &Withdrawal,
+) -> Result<Option<Withdrawn>, NoMemory>
+    ensures { IfOk result (λ w. w ≡ withdrawn_in site.now (result_ok (url_of withdrawal.now.entry.url)) (result_ok (scopes_of withdrawal.now.scopes))) }
+{
+    let Some(url) = read_url(alloc, withdrawal.entry.url.as_str())? else {
+        return Ok(None);
+    };
+    match read_supported(alloc, site, withdrawal.scopes.as_str())? {
+        Some(scopes) => Ok(Some(Withdrawn { url, scopes })),
+        None => Ok(None),
+    }
 }
 
 /// Judges a withdrawal, step by step (RFC 2608, section 10.6).
@@ -181,20 +188,17 @@ pub fn judge_withdrawal<R: Registry>(
     ensures { IfOk result (λ j. let live = passing (outlives now) (R.contents registry.now) in
         IsJudged live j (judgement_to (record { rules = rules.now; site = site.now; live = live; now = now; asker = asker }) header.now withdrawal.now)) }
 {
-    let tags = read_tags(alloc, withdrawal.tags.as_str())?;
-    if header.flags.multicast || names_tags(tags.as_ref()) {
+    let tags = names_tags(alloc, withdrawal.tags.as_str())?;
+    if header.flags.multicast || tags.unwrap_or(false) {
         return Ok(Judged::Unjudged);
     }
-    let Some(url) = read_url(alloc, withdrawal.entry.url.as_str())? else {
-        return Ok(deny(2, Decider::Parse, None));
-    };
     if tags.is_none() {
         return Ok(deny(2, Decider::Parse, None));
     }
-    let Some(scopes) = read_scopes(alloc, withdrawal.scopes.as_str())? else {
+    let Some(withdrawn) = read_withdrawn(alloc, site, withdrawal)? else {
         return Ok(deny(2, Decider::Parse, None));
     };
-    let scopes = site.scopes().common(alloc, &scopes)?;
+    let Withdrawn { url, scopes } = withdrawn;
     if scopes.is_empty() {
         return Ok(deny(4, Decider::Scope, None));
     }

@@ -127,16 +127,28 @@ keys_of (member key d ms) = key ∷ keys_of ms
 abbrev pub alone_in : Members → Config → Result Config ConfigFault
 alone_in table config = if list_all is_known (keys_of table) then Ok config else Err Range
 
+-- the capacity, the connections and the sweep, asked in this order
+abbrev pub numbers_in : Members → Result (ℕ × ℕ × ℕ) ConfigFault
+numbers_in table =
+    read_then (λ capacity. read_then (λ connections. read_then (λ sweep. Ok (capacity, connections, sweep))
+    (optional (number_in 1 3600) sweep_key 60 table))
+    (optional (number_in 1 256) connections_key 64 table))
+    (needed (number_in 1 65536) capacity_key table)
+
+-- the rules and the templates, asked in this order
+abbrev pub paths_in : Members → Result (Option (List ℕ) × List (List ℕ)) ConfigFault
+paths_in table =
+    read_then (λ rules. read_then (λ templates. Ok (rules, templates))
+    (optional templates_in templates_key [] table))
+    (optional path_in rules_key None table)
+
 -- what a table says, its keys asked in this order
 unfoldable pub config_in : Members → Result Config ConfigFault
 config_in table =
-    read_then (λ scopes. read_then (λ listen. read_then (λ capacity. read_then (λ connections. read_then (λ sweep. read_then (λ rules. read_then (λ templates.
-    alone_in table (record { scopes = scopes; listen = listen; capacity = capacity; connections = connections; sweep = sweep; rules = rules; templates = templates }))
-    (optional templates_in templates_key [] table))
-    (optional path_in rules_key None table))
-    (optional (number_in 1 3600) sweep_key 60 table))
-    (optional (number_in 1 256) connections_key 64 table))
-    (needed (number_in 1 65536) capacity_key table))
+    read_then (λ scopes. read_then (λ listen. read_then (λ numbers. read_then (λ paths.
+    alone_in table (record { scopes = scopes; listen = listen; capacity = numbers.0; connections = numbers.1; sweep = numbers.2; rules = paths.0; templates = paths.1 }))
+    (paths_in table))
+    (numbers_in table))
     (needed listen_in listen_key table))
     (needed scopes_in scopes_key table)
 

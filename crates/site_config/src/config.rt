@@ -58,19 +58,16 @@ impl Config {
     {
         let scopes = keys::scopes(alloc, table)?;
         let listen = keys::listen(alloc, table)?;
-        let capacity = keys::capacity(table)? as usize;
-        let connections = keys::number(table, "connections", 64, 256)? as usize;
-        let sweep = keys::number(table, "sweep", 60, 3_600)?;
-        let rules = keys::rules(alloc, table)?;
-        let templates = keys::templates(alloc, table)?;
+        let (capacity, connections, sweep) = keys::numbers(table)?;
+        let (rules, templates) = keys::paths(alloc, table)?;
         if !keys::are_known(table) {
             return Err(ConfigFault::Range);
         }
         Ok(Config {
             scopes,
             listen,
-            capacity,
-            connections,
+            capacity: capacity as usize,
+            connections: connections as usize,
             sweep,
             rules,
             templates,

@@ -3,7 +3,7 @@ ghost use Rattle.std.specs.Prelude.{◌≡◌, ◌≤◌, None, [], length, stri
 ghost use Rattle.std.specs.BTreeMap.{keys};
 ghost use Rattle.std.specs.List.{list_all};
 ghost use Rattle.toml.specs.View.{view};
-ghost use Rattle.site_config.specs.Configuring.{scopes_key, listen_key, capacity_key, rules_key, templates_key, are_site_scopes, scopes_in, number_in, are_listening, listen_in, path_in, templates_in, needed, optional, is_known as is_known_key, keys_of, IsReading};
+ghost use Rattle.site_config.specs.Configuring.{scopes_key, listen_key, capacity_key, rules_key, templates_key, are_site_scopes, scopes_in, number_in, are_listening, listen_in, path_in, templates_in, needed, optional, numbers_in, paths_in, is_known as is_known_key, keys_of, IsReading};
 ghost use Rattle.site_config.specs.Tables.{members_in};
 
 use crate::fault::ConfigFault;
@@ -33,7 +33,7 @@ pub fn listen(alloc: Global, table: &Value) -> Result<Row<(Addr, u16)>, ConfigFa
     }
 }
 
-pub fn capacity(table: &Value) -> Result<u32, ConfigFault>
+fn capacity(table: &Value) -> Result<u32, ConfigFault>
     ensures value { result ≡ needed (number_in 1 65536) capacity_key (members_in (view table.now)) }
     ensures low { IfOk result (λ n. 1 ≤ n) }
     ensures high { IfOk result (λ n. n ≤ 65536) }
@@ -44,8 +44,8 @@ pub fn capacity(table: &Value) -> Result<u32, ConfigFault>
     }
 }
 
-/// The number from 1 to `high` at a key, or the usual one where the key is missing.
-pub fn number(table: &Value, key: &str, usual: u32, high: u32) -> Result<u32, ConfigFault>
+// The number from 1 to `high` at a key, or the usual one where the key is missing.
+fn number(table: &Value, key: &str, usual: u32, high: u32) -> Result<u32, ConfigFault>
     requires low { 1 ≤ usual }
     requires high { usual ≤ high }
     ensures value { result ≡ optional (number_in 1 high) key.now usual (members_in (view table.now)) }
@@ -58,7 +58,21 @@ pub fn number(table: &Value, key: &str, usual: u32, high: u32) -> Result<u32, Co
     }
 }
 
-pub fn rules(alloc: Global, table: &Value) -> Result<Option<Text>, ConfigFault>
+/// The capacity, the connections and the sweep.
+#[tactic(auto, using(crate::proofs::Readings::fault_first))]
+pub fn numbers(table: &Value) -> Result<(u32, u32, u32), ConfigFault>
+    ensures value { result ≡ numbers_in (members_in (view table.now)) }
+    ensures capacity { IfOk result (λ n. (1 ≤ n.0) × (n.0 ≤ 65536)) }
+    ensures connections { IfOk result (λ n. (1 ≤ n.1) × (n.1 ≤ 256)) }
+    ensures sweep { IfOk result (λ n. (1 ≤ n.2) × (n.2 ≤ 3600)) }
+{
+    let capacity = capacity(table)?;
+    let connections = number(table, "connections", 64, 256)?;
+    let sweep = number(table, "sweep", 60, 3_600)?;
+    Ok((capacity, connections, sweep))
+}
+
+fn rules(alloc: Global, table: &Value) -> Result<Option<Text>, ConfigFault>
     ensures { IsReading result (optional path_in rules_key None (members_in (view table.now))) }
 {
     match table.get("rules") {
@@ -67,7 +81,7 @@ pub fn rules(alloc: Global, table: &Value) -> Result<Option<Text>, ConfigFault>
     }
 }
 
-pub fn templates(alloc: Global, table: &Value) -> Result<Row<Text>, ConfigFault>
+fn templates(alloc: Global, table: &Value) -> Result<Row<Text>, ConfigFault>
     ensures value { IsReading result (optional templates_in templates_key [] (members_in (view table.now))) }
     ensures limit { IfOk result (λ paths. length paths ≤ 256) }
 {
@@ -75,6 +89,17 @@ pub fn templates(alloc: Global, table: &Value) -> Result<Row<Text>, ConfigFault>
         Some(value) => values::templates(alloc, value),
         None => Ok(Row::wrap(Vec::new(alloc))),
     }
+}
+
+/// The paths of the rules and of the templates.
+#[tactic(auto, using(crate::proofs::Readings::fault_first))]
+pub fn paths(alloc: Global, table: &Value) -> Result<(Option<Text>, Row<Text>), ConfigFault>
+    ensures value { IsReading result (paths_in (members_in (view table.now))) }
+    ensures limit { IfOk result (λ paths. length paths.1 ≤ 256) }
+{
+    let rules = rules(alloc, table)?;
+    let templates = templates(alloc, table)?;
+    Ok((rules, templates))
 }
 
 fn is_known(key: &str) -> bool

@@ -90,12 +90,11 @@ module _ (opening : List AnyRule) (site : Place) (h : History) (m asker limit : 
     tells = subst (λ (r : List AnyRule). Tells (faulted r asker heading e) what reply audit) ruled t;
   }
 
-  pub other-replies : (read : Result Message WireFault) (x : Message) (reply audit : List ℕ) → read ≡ Ok x → request_of x ≡ None → may_change x ≡ false → reply ≡ [] → audit ≡ [] → RepliesTo opening site h m asker limit heading read sent.Silence reply audit
-  other-replies read x reply audit is none still r a = record {
-    told = silence;
-    is = subst (λ (y : Result Message WireFault). IsTold opening site h m asker limit heading y silence h) (sym is) (other-told x none still);
-    tells = silence-tells reply audit r a;
-  }
+  pub read-replies : (read : Result Message WireFault) (x : Message) (what : Sent) (reply audit : List ℕ) → read ≡ Ok x → RepliesTo opening site h m asker limit heading (Ok x) what reply audit → RepliesTo opening site h m asker limit heading read what reply audit
+  read-replies read x what reply audit is r = subst (λ (y : Result Message WireFault). RepliesTo opening site h m asker limit heading y what reply audit) (sym is) r
+
+  pub other-replies : (x : Message) (reply audit : List ℕ) → request_of x ≡ None → may_change x ≡ false → reply ≡ [] → audit ≡ [] → RepliesTo opening site h m asker limit heading (Ok x) sent.Silence reply audit
+  other-replies x reply audit none still r a = record { told = silence; is = other-told x none still; tells = silence-tells reply audit r a }
 
   request-is : (x : Message) (header : Header) (q : ServiceRequest) → request_of x ≡ Some (header, q) → x ≡ message.ServiceRequest header q
   request-is (message.ServiceRequest g p) header q is = let e : (g, p) ≡ (header, q) = same_Some (g, p) (header, q) is in ap (λ (y : Header × ServiceRequest). message.ServiceRequest y.0 y.1) e
@@ -110,11 +109,11 @@ module _ (opening : List AnyRule) (site : Place) (h : History) (m asker limit : 
   request-is (message.TypeReply g r) header q is = absurd (none-some _ is)
   request-is (message.ServiceAdvert g a) header q is = absurd (none-some _ is)
 
-  pub request-replies : (read : Result Message WireFault) (x : Message) (header : Header) (q : ServiceRequest) (what : Sent) (reply audit : List ℕ) → read ≡ Ok x → request_of x ≡ Some (header, q)
-      → (t : Told) × IsFoundOf opening site h m asker limit header q t × Tells t what reply audit → RepliesTo opening site h m asker limit heading read what reply audit
-  request-replies read x header q what reply audit is some found = record {
+  pub request-replies : (x : Message) (header : Header) (q : ServiceRequest) (what : Sent) (reply audit : List ℕ) → request_of x ≡ Some (header, q)
+      → (t : Told) × IsFoundOf opening site h m asker limit header q t × Tells t what reply audit → RepliesTo opening site h m asker limit heading (Ok x) what reply audit
+  request-replies x header q what reply audit some found = record {
     told = found.0;
-    is = subst (λ (y : Result Message WireFault). IsTold opening site h m asker limit heading y found.0 h) (sym (is ∙ ap Ok (request-is x header q some))) (request-told header q found.0 found.1);
+    is = subst (λ (y : Message). IsTold opening site h m asker limit heading (Ok y) found.0 h) (sym (request-is x header q some)) (request-told header q found.0 found.1);
     tells = found.2;
   }
 

@@ -12,7 +12,7 @@ ghost use Rattle.std.specs.Prelude.{Ok as Read};
 use crate::answer::{Answer, Sent};
 use crate::audit::Audit;
 use crate::faulting::answer_fault;
-use crate::sending::{reply_header, send};
+use crate::sending::send_coded;
 use crate::understanding::understood;
 use access_rules::{Action, Addr};
 use directory_judge::{Because, Change, Decider, Judged};
@@ -21,29 +21,6 @@ use registry_core::Registry;
 use slp_text::NoMemory;
 use slp_wire::{Header, Message};
 use std::alloc::Global;
-
-fn acknowledge_with<R: Registry>(
-    directory: &Directory<R>,
-    asker: Addr,
-    action: Action,
-    header: Header,
-    code: u16,
-    because: Because,
-    answer: &mut Answer,
-) -> Result<Sent, NoMemory>
-    requires no_reply { answer.old.bytes.items ≡ [] }
-    requires no_line { answer.old.audit.items ≡ [] }
-    ensures { IfOk result (λ what. Tells (telling directory.now.rules (audit_of asker action code because) (coded 5 header code)) what answer.new.bytes.items answer.new.audit.items) }
-{
-    let message = Message::Acknowledgement(reply_header(header, false), code);
-    let audit = Audit {
-        code,
-        because,
-        action,
-        asker,
-    };
-    send(directory.rules(), &message, &audit, answer)
-}
 
 // What a message asks for: a withdrawal, or a registration.
 fn action_in(message: &Message) -> Action
@@ -55,23 +32,40 @@ fn action_in(message: &Message) -> Action
     }
 }
 
-// The header of a message.
-fn into_header(message: Message) -> Header
-    ensures { result ≡ header_of message }
+// The header of a message that may change something.
+fn header_in(message: &Message) -> &Header
+    requires { IsChange message.now }
+    ensures { result.now ≡ header_of message.now }
 {
     match message {
-        Message::ServiceRequest(header, _) => header,
-        Message::ServiceReply(header, _) => header,
         Message::Registration(header, _) => header,
-        Message::Acknowledgement(header, _) => header,
         Message::Withdrawal(header, _) => header,
-        Message::AttributeRequest(header, _) => header,
-        Message::AttributeReply(header, _) => header,
-        Message::DirectoryAdvert(header, _) => header,
-        Message::TypeRequest(header, _) => header,
-        Message::TypeReply(header, _) => header,
-        Message::ServiceAdvert(header, _) => header,
+        _ => unreachable!(),
     }
+}
+
+fn acknowledge_with<R: Registry>(
+    directory: &Directory<R>,
+    asker: Addr,
+    action: Action,
+    header: &Header,
+    code: u16,
+    because: Because,
+    answer: &mut Answer,
+) -> Result<Sent, NoMemory>
+    requires no_reply { answer.old.bytes.items ≡ [] }
+    requires no_line { answer.old.audit.items ≡ [] }
+    ensures { IfOk result (λ what. Tells (telling directory.now.rules (audit_of asker action code because) (coded 5 header.now code)) what answer.new.bytes.items answer.new.audit.items) }
+{
+    let audit = Audit {
+        code,
+        because,
+        action,
+        asker,
+    };
+    let sent = send_coded(directory.rules(), header, 5, &audit, answer);
+    drop(audit);
+    sent
 }
 
 fn acknowledge_message<R: Registry>(
@@ -79,23 +73,28 @@ fn acknowledge_message<R: Registry>(
     directory: &Directory<R>,
     moment: u32,
     asker: Addr,
-    message: Message,
+    message: &Message,
     answer: &mut Answer,
 ) -> Result<(Sent, Option<Change>), NoMemory>
-    requires change { IsChange message }
-    requires sound { IsMessage message }
+    requires change { IsChange message.now }
+    requires sound { IsMessage message.now }
     requires no_reply { answer.old.bytes.items ≡ [] }
     requires no_line { answer.old.audit.items ≡ [] }
     ensures { (opening : List AnyRule) (h : History) → Fold opening directory.now.site h directory.now → IsLegal opening directory.now.site h
-        → (heading : Option Heading) → IfOk result (λ r. AcknowledgesTo opening directory.now.site h moment asker heading (Read message) r.0 r.1 answer.new.bytes.items answer.new.audit.items) }
+        → (heading : Option Heading) → IfOk result (λ r. AcknowledgesTo opening directory.now.site h moment asker heading (Read message.now) r.0 r.1 answer.new.bytes.items answer.new.audit.items) }
 {
-    let judged = directory.judge(alloc, moment, asker, &message)?;
-    let action = action_in(&message);
-    let header = into_header(message);
+    let action = action_in(message);
+    let header = header_in(message);
+    let judged = directory.judge(alloc, moment, asker, message)?;
     match judged {
         Judged::Accept(change, because) => {
-            let sent = acknowledge_with(directory, asker, action, header, 0, because, answer)?;
-            Ok((sent, Some(change)))
+            match acknowledge_with(directory, asker, action, header, 0, because, answer) {
+                Ok(sent) => Ok((sent, Some(change))),
+                Err(fault) => {
+                    drop(change);
+                    Err(fault)
+                }
+            }
         }
         Judged::Nothing => {
             let nobody = Because {
@@ -129,7 +128,11 @@ fn acknowledge_bytes<R: Registry>(
         → IfOk result (λ r. Acknowledges opening directory.now.site h moment asker bytes.now r.0 r.1 answer.new.bytes.items answer.new.audit.items) }
 {
     match understood(alloc, bytes)? {
-        Ok(message) => acknowledge_message(alloc, directory, moment, asker, message, answer),
+        Ok(message) => {
+            let told = acknowledge_message(alloc, directory, moment, asker, &message, answer);
+            drop(message);
+            told
+        }
         Err(fault) => {
             let sent = answer_fault(directory.rules(), asker, bytes, fault, answer)?;
             Ok((sent, None))

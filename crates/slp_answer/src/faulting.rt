@@ -7,10 +7,11 @@ ghost use Rattle.slp_answer.specs.declared.answer.Sent.TheVariants.{Silence as N
 use crate::answer::{Answer, Sent};
 use crate::audit::{Audit, audit_line};
 use crate::refusing::{action_in, is_silent};
+use crate::sending::put_code;
 use access_rules::{Addr, Rules};
 use directory_judge::{Because, Decider};
 use slp_text::NoMemory;
-use slp_wire::{HeaderView, WireFault, error_reply, read_header, reply_function};
+use slp_wire::{HeaderView, WireFault, read_header, reply_function};
 
 // The code of a fault (RFC 2608, section 7), and the step that asks for it.
 fn code_in(fault: WireFault) -> Option<(u16, Decider)>
@@ -42,9 +43,7 @@ fn send_code(
     if is_silent(header) {
         return Ok(Sent::Silence);
     }
-    let mut reply = [0u8; 80];
-    let length = error_reply(header, function, code, &mut reply);
-    answer.bytes.extend_from_slice(&reply[..length])?;
+    put_code(header, function, code, answer)?;
     Ok(Sent::Bytes(code))
 }
 

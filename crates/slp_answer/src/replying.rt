@@ -1,4 +1,6 @@
-ghost use Rattle.std.specs.Prelude.{◌≡◌, ◌<◌, ◌≤◌, [], false, ℕ, List, Some, IfOk, OnErr};
+ghost use Rattle.std.specs.Prelude.{◌≡◌, ◌≤◌, [], false, ℕ, List, Option, Some, IfOk, OnErr};
+ghost use Rattle.std.specs.Prelude.{Ok as Read};
+ghost use Rattle.slp_wire.specs.Headers.{Heading};
 ghost use Rattle.access_rules.specs.declared.rule.Action.TheVariants.{See};
 ghost use Rattle.access_rules.specs.declared.rule.Rule.{Rule as AnyRule};
 ghost use Rattle.directory_judge.specs.History.{History};
@@ -6,23 +8,24 @@ ghost use Rattle.directory_judge.specs.Judging.{by_step};
 ghost use Rattle.directory_judge.specs.declared.because.Decider.TheVariants as decider;
 ghost use Rattle.directory_state.specs.Folding.{Fold};
 ghost use Rattle.directory_state.specs.Verdicts.{IsLegal};
-ghost use Rattle.slp_answer.specs.Answering.{is_change_of, Told, Tells, telling, audit_of, coded, IsFoundOf, Replies};
+ghost use Rattle.slp_answer.specs.Answering.{is_change_of, Told, Tells, telling, audit_of, coded, IsFoundOf, Replies, RepliesTo};
 ghost use Rattle.slp_answer.specs.Cutting.{IsCut};
+ghost use Rattle.slp_answer.specs.Understanding.{may_change};
 
 use crate::answer::{Answer, Sent};
 use crate::asking::{Question, read_question};
 use crate::audit::Audit;
 use crate::cutting::fitting;
 use crate::faulting::answer_fault;
-use crate::sending::{reply_header, send};
-use crate::understanding::{into_request, understood};
+use crate::sending::{reply_header, send, send_coded};
+use crate::understanding::{request_in, understood};
 use access_rules::{Action, Addr};
 use directory_judge::{Because, Decider};
 use directory_state::{Directory, QueryFault, ServiceQuery};
 use registry_core::Registry;
 use service_url::ServiceType;
 use slp_text::{NoMemory, Row};
-use slp_wire::{ErrorCode, Header, Message, ServiceReply, ServiceRequest, UrlEntry};
+use slp_wire::{Header, Message, ServiceReply, ServiceRequest, UrlEntry};
 use std::alloc::Global;
 
 // What is told of a question, of which a type may be known.
@@ -42,9 +45,10 @@ fn seen(asker: Addr, code: u16, decider: Decider, kind: Option<ServiceType>) -> 
 }
 
 fn answer_found<R: Registry>(
+    alloc: Global,
     directory: &Directory<R>,
     asker: Addr,
-    header: Header,
+    header: &Header,
     kind: ServiceType,
     mut items: Vec<UrlEntry>,
     limit: usize,
@@ -53,32 +57,35 @@ fn answer_found<R: Registry>(
     requires datagram { 1400 ≤ limit }
     requires no_reply { answer.old.bytes.items ≡ [] }
     requires no_line { answer.old.audit.items ≡ [] }
-    ensures { IfOk result (λ what. (reply : List ℕ) × IsCut header items.items limit reply
+    ensures { IfOk result (λ what. (reply : List ℕ) × IsCut header.now items.items limit reply
         × Tells (telling directory.now.rules (audit_of asker See 0 (by_step decider.Nobody (Some kind))) reply) what answer.new.bytes.items answer.new.audit.items) }
 {
     let count = fitting(&items, header.language.as_str().len(), limit);
     let overflow = count < items.len();
+    let header = reply_header(alloc, header, overflow)?;
     items.truncate(count);
-    let reply = ServiceReply::Found(Row::wrap(items));
-    let message = Message::ServiceReply(reply_header(header, overflow), reply);
+    let message = Message::ServiceReply(header, ServiceReply::Found(Row::wrap(items)));
     let audit = seen(asker, 0, Decider::Nobody, Some(kind));
-    send(directory.rules(), &message, &audit, answer)
+    let sent = send(directory.rules(), &message, &audit, answer);
+    drop(message);
+    drop(audit);
+    sent
 }
 
+// Sends a reply with the code of its audit line.
 fn answer_code<R: Registry>(
     directory: &Directory<R>,
-    header: Header,
-    audit: &Audit,
+    header: &Header,
+    audit: Audit,
     answer: &mut Answer,
 ) -> Result<Sent, NoMemory>
-    requires coded { 0 < audit.now.code }
     requires no_reply { answer.old.bytes.items ≡ [] }
     requires no_line { answer.old.audit.items ≡ [] }
-    ensures { IfOk result (λ what. Tells (telling directory.now.rules audit.now (coded 2 header audit.now.code)) what answer.new.bytes.items answer.new.audit.items) }
+    ensures { IfOk result (λ what. Tells (telling directory.now.rules audit (coded 2 header.now audit.code)) what answer.new.bytes.items answer.new.audit.items) }
 {
-    let reply = ServiceReply::Refused(ErrorCode::new(audit.code));
-    let message = Message::ServiceReply(reply_header(header, false), reply);
-    send(directory.rules(), &message, audit, answer)
+    let sent = send_coded(directory.rules(), header, 2, &audit, answer);
+    drop(audit);
+    sent
 }
 
 fn answer_request<R: Registry>(
@@ -86,7 +93,7 @@ fn answer_request<R: Registry>(
     directory: &Directory<R>,
     moment: u32,
     asker: Addr,
-    header: Header,
+    header: &Header,
     request: &ServiceRequest,
     limit: usize,
     answer: &mut Answer,
@@ -95,13 +102,13 @@ fn answer_request<R: Registry>(
     requires no_reply { answer.old.bytes.items ≡ [] }
     requires no_line { answer.old.audit.items ≡ [] }
     ensures { (opening : List AnyRule) (h : History) → Fold opening directory.now.site h directory.now → IsLegal opening directory.now.site h
-        → IfOk result (λ what. (t : Told) × IsFoundOf opening directory.now.site h moment asker limit header request.now t × Tells t what answer.new.bytes.items answer.new.audit.items) }
+        → IfOk result (λ what. (t : Told) × IsFoundOf opening directory.now.site h moment asker limit header.now request.now t × Tells t what answer.new.bytes.items answer.new.audit.items) }
 {
-    let query = match read_question(alloc, &header, request)? {
+    let query = match read_question(alloc, header, request)? {
         Question::Silent => return Ok(Sent::Silence),
         Question::Unreadable => {
             let audit = seen(asker, 2, Decider::Parse, None);
-            return answer_code(directory, header, &audit, answer);
+            return answer_code(directory, header, audit, answer);
         }
         Question::Asks(query) => query,
     };
@@ -112,12 +119,36 @@ fn answer_request<R: Registry>(
         language: _,
     } = query;
     match found {
-        Ok(items) => answer_found(directory, asker, header, kind, items, limit, answer),
+        Ok(items) => answer_found(alloc, directory, asker, header, kind, items, limit, answer),
         Err(QueryFault::Scope) => {
             let audit = seen(asker, 4, Decider::Scope, Some(kind));
-            answer_code(directory, header, &audit, answer)
+            answer_code(directory, header, audit, answer)
         }
         Err(_) => Err(NoMemory),
+    }
+}
+
+fn answer_message<R: Registry>(
+    alloc: Global,
+    directory: &Directory<R>,
+    moment: u32,
+    asker: Addr,
+    message: &Message,
+    limit: usize,
+    answer: &mut Answer,
+) -> Result<Sent, NoMemory>
+    requires no_change { may_change message.now ≡ false }
+    requires datagram { 1400 ≤ limit }
+    requires no_reply { answer.old.bytes.items ≡ [] }
+    requires no_line { answer.old.audit.items ≡ [] }
+    ensures { (opening : List AnyRule) (h : History) → Fold opening directory.now.site h directory.now → IsLegal opening directory.now.site h
+        → (heading : Option Heading) → IfOk result (λ what. RepliesTo opening directory.now.site h moment asker limit heading (Read message.now) what answer.new.bytes.items answer.new.audit.items) }
+{
+    match request_in(message) {
+        Some((header, request)) => answer_request(
+            alloc, directory, moment, asker, header, request, limit, answer,
+        ),
+        None => Ok(Sent::Silence),
     }
 }
 
@@ -137,16 +168,14 @@ fn answer_bytes<R: Registry>(
     ensures { (opening : List AnyRule) (h : History) → Fold opening directory.now.site h directory.now → IsLegal opening directory.now.site h
         → IfOk result (λ what. Replies opening directory.now.site h moment asker limit bytes.now what answer.new.bytes.items answer.new.audit.items) }
 {
-    let message = match understood(alloc, bytes)? {
-        Ok(message) => message,
-        Err(fault) => return answer_fault(directory.rules(), asker, bytes, fault, answer),
-    };
-    let Some((header, request)) = into_request(message) else {
-        return Ok(Sent::Silence);
-    };
-    answer_request(
-        alloc, directory, moment, asker, header, &request, limit, answer,
-    )
+    match understood(alloc, bytes)? {
+        Ok(message) => {
+            let told = answer_message(alloc, directory, moment, asker, &message, limit, answer);
+            drop(message);
+            told
+        }
+        Err(fault) => answer_fault(directory.rules(), asker, bytes, fault, answer),
+    }
 }
 
 /// Answers bytes that ask for no change, in at most `limit` bytes. `own` is the address of the loop

@@ -1,4 +1,5 @@
 ghost use Rattle.std.specs.Prelude.{◌≡◌, IfOk, MatchResult};
+ghost use Rattle.std.specs.Option.{option_map};
 ghost use Rattle.slp_answer.specs.Understanding.{IsRead, IsUnread, request_of};
 
 use slp_text::NoMemory;
@@ -17,20 +18,11 @@ pub fn understood(alloc: Global, bytes: &[u8]) -> Result<Result<Message, WireFau
 }
 
 /// The service request that a message is, if it is one.
-pub fn into_request(message: Message) -> Option<(Header, ServiceRequest)>
-    ensures { result ≡ request_of message }
+pub fn request_in(message: &Message) -> Option<(&Header, &ServiceRequest)>
+    ensures { option_map (λ r. (r.0.now, r.1.now)) result ≡ request_of message.now }
 {
     match message {
         Message::ServiceRequest(header, request) => Some((header, request)),
-        Message::ServiceReply(_, _) => None,
-        Message::Registration(_, _) => None,
-        Message::Acknowledgement(_, _) => None,
-        Message::Withdrawal(_, _) => None,
-        Message::AttributeRequest(_, _) => None,
-        Message::AttributeReply(_, _) => None,
-        Message::DirectoryAdvert(_, _) => None,
-        Message::TypeRequest(_, _) => None,
-        Message::TypeReply(_, _) => None,
-        Message::ServiceAdvert(_, _) => None,
+        _ => None,
     }
 }

@@ -1,4 +1,4 @@
-use Rattle.std.proofs.Common.{◌≡◌, Some, None, true, false, refl, sym, ap, ◌∙◌, arith, rules}
+use Rattle.std.proofs.Common.{◌≡◌, Some, None, true, false, refl, sym, ap, ◌∙◌, arith}
 use Rattle.std.specs.Prelude.{filter}
 use Rattle.std.specs.List.{list_any}
 use Rattle.std.specs.Option.{option_copied}
@@ -8,7 +8,6 @@ use Rattle.directory_judge.specs.Walking.{is_asked}
 use Rattle.directory_judge.proofs.Concerned.{any-live, first-concerned, first-kept, asked-scopes}
 use Rattle.directory_judge.proofs.Steps.{judged-nothing, judged-some, judged-kept, judged-released, IsReleased, IsJudged-released, IfOk-more}
 use Rattle.directory_judge.proofs.withdrawing.judge_stored.Goals as goal
-use Rattle.directory_judge.proofs.withdrawing.judge_stored.Goals.{in_default-via-in-None-1, in_default-via-in-Some-first+in_ok-because+in-None-1}
 
 pub returns-then-not-has_live : goal.returns-then-not-has_live
 returns-then-not-has_live g c =
@@ -33,8 +32,8 @@ returns-in_default g c =
     ∙ ap (λ t. first_of (filter (is_asked c.args.rules.now t c.args.asker c.args.scopes false) rest)) (sym c.from-moment.ensures) ∙ sym c.first.ensures ∙ ap option_copied c.in_default.is in
     rw c.deny.ensures (judged-some on c.args.url c.args.scopes some None _ first_is refl)
 
-pub returns : goal.returns
-returns g c =
+pub returns-in-Some-2 : goal.returns-in-Some-2
+returns-in-Some-2 g c =
     let m = g.R.Registry.contents c.args.registry.now in
     let rest = g.R.Registry.rest_of_url c.args.registry.now c.args.url 0 in
     let live = passing (outlives c.args.now) m in
@@ -44,11 +43,12 @@ returns g c =
     let first_is : first_of (concerned on c.args.url c.args.scopes) ≡ Some c.in-Some.entry.now =
     sym (first-concerned c.args.rules.now c.args.now c.args.asker m c.args.url c.args.scopes rest c.has_live.ensures.listing)
     ∙ ap (λ t. first_of (filter (is_asked c.args.rules.now t c.args.asker c.args.scopes false) rest)) (sym c.from-moment.ensures) ∙ sym c.in-Some.ensures in
-    let kept_is : first_of (filter (is_kept c.args.rules.now c.args.asker) (concerned on c.args.url c.args.scopes)) ≡ Some c.in-Some-first.kept.now =
+    let kept = option_copied c.first-kept.result in
+    let kept_is : first_of (filter (is_kept c.args.rules.now c.args.asker) (concerned on c.args.url c.args.scopes)) ≡ kept =
     sym (first-kept c.args.rules.now c.args.now c.args.asker m c.args.url c.args.scopes rest c.has_live.ensures.listing)
-    ∙ ap (λ t. first_of (filter (is_asked c.args.rules.now t c.args.asker c.args.scopes true) rest)) (sym c.from-moment.ensures) ∙ sym c.in-Some-first.ensures in
-    judged-some on c.args.url c.args.scopes some (Some c.in-Some.entry.now) (Some c.in-Some-first.kept.now) first_is kept_is
-    ∙ judged-kept on c.args.url c.args.scopes c.in-Some.entry.now c.in-Some-first.kept.now c.in-Some-2.because (sym c.in_ok-because.ensures ∙ c.in-Some-2.is)
+    ∙ ap (λ t. first_of (filter (is_asked c.args.rules.now t c.args.asker c.args.scopes true) rest)) (sym c.from-moment.ensures) ∙ sym c.first-kept.ensures in
+    judged-some on c.args.url c.args.scopes some (Some c.in-Some.entry.now) kept first_is kept_is
+    ∙ judged-kept on c.args.url c.args.scopes c.in-Some.entry.now kept c.in-Some-2.because (sym c.in_ok-because.ensures ∙ c.in-Some-2.is)
 
 pub release-requires : goal.release-requires
 release-requires g c =
@@ -56,8 +56,8 @@ release-requires g c =
     let long = asked-scopes c.args.rules.now c.from-moment.result c.args.asker c.args.scopes false rest c.in-Some.entry.now (sym c.in-Some.ensures) in
     omega (arith, long, c.requires)
 
-pub returns-2 : goal.returns-2
-returns-2 g c =
+pub returns-in-None : goal.returns-in-None
+returns-in-None g c =
     let m = g.R.Registry.contents c.args.registry.now in
     let rest = g.R.Registry.rest_of_url c.args.registry.now c.args.url 0 in
     let live = passing (outlives c.args.now) m in
@@ -67,17 +67,12 @@ returns-2 g c =
     let first_is : first_of (concerned on c.args.url c.args.scopes) ≡ Some c.in-Some.entry.now =
     sym (first-concerned c.args.rules.now c.args.now c.args.asker m c.args.url c.args.scopes rest c.has_live.ensures.listing)
     ∙ ap (λ t. first_of (filter (is_asked c.args.rules.now t c.args.asker c.args.scopes false) rest)) (sym c.from-moment.ensures) ∙ sym c.in-Some.ensures in
-    let kept_at : first_of (filter (is_kept c.args.rules.now c.args.asker) (concerned on c.args.url c.args.scopes)) ≡ option_copied c.first-2.result =
+    let kept = option_copied c.first-kept.result in
+    let kept_is : first_of (filter (is_kept c.args.rules.now c.args.asker) (concerned on c.args.url c.args.scopes)) ≡ kept =
     sym (first-kept c.args.rules.now c.args.now c.args.asker m c.args.url c.args.scopes rest c.has_live.ensures.listing)
-    ∙ ap (λ t. first_of (filter (is_asked c.args.rules.now t c.args.asker c.args.scopes true) rest)) (sym c.from-moment.ensures) ∙ sym c.first-2.ensures in
+    ∙ ap (λ t. first_of (filter (is_asked c.args.rules.now t c.args.asker c.args.scopes true) rest)) (sym c.from-moment.ensures) ∙ sym c.first-kept.ensures in
     IfOk-more c.release.result (IsReleased c.args.now c.args.url c.args.scopes (release on c.in-Some.entry.now)) _
-    (λ j. IsJudged-released on c.args.url c.args.scopes c.in-Some.entry.now j _ (elim c.in_default.branch [
-      | in_default-via-in-None-1 w ↦
-          let nothing : c.first-2.result ≡ None = search rules in
-          judged-some on c.args.url c.args.scopes some (Some c.in-Some.entry.now) None first_is (kept_at ∙ ap option_copied nothing)
-      | in_default-via-in-Some-first+in_ok-because+in-None-1 w ↦
-          let allowed : w.in_ok-because.field-0 ≡ None = search rules in
-          judged-some on c.args.url c.args.scopes some (Some c.in-Some.entry.now) (Some w.in-Some-first.kept.now) first_is (kept_at ∙ ap option_copied w.in-Some-first.is)
-          ∙ judged-released on c.args.url c.args.scopes c.in-Some.entry.now w.in-Some-first.kept.now (sym w.in_ok-because.ensures ∙ allowed)
-    ]))
+    (λ j. IsJudged-released on c.args.url c.args.scopes c.in-Some.entry.now j _
+    (judged-some on c.args.url c.args.scopes some (Some c.in-Some.entry.now) kept first_is kept_is
+    ∙ judged-released on c.args.url c.args.scopes c.in-Some.entry.now kept (sym c.in_ok-because.ensures ∙ c.in-None.is)))
     c.release.ensures

@@ -3,8 +3,13 @@ use Rattle.std.specs.Prelude.{MatchResult}
 use Rattle.slp_wire.specs.Headers.{heading_of}
 use Rattle.slp_answer.specs.Understanding.{IsRead, IsUnread}
 use Rattle.directory_state.proofs.Judged.{IfOk-more}
-use Rattle.slp_answer.proofs.Tellings.{unread-replies, other-replies, request-replies}
+use Rattle.slp_answer.proofs.Tellings.{unread-replies, read-replies}
 use Rattle.slp_answer.proofs.replying.answer_bytes.Goals as goal
+
+pub answer_message-told-requires-clause-no_change : goal.answer_message-told-requires-clause-no_change
+answer_message-told-requires-clause-no_change g c =
+    let read : IsRead c.args.bytes.now c.in-Ok.message = subst (λ r. MatchResult r (IsRead c.args.bytes.now) (IsUnread c.args.bytes.now)) c.in-Ok.is c.in_ok-message.ensures in
+    sym read.change ∙ c.requires.no_change
 
 pub returns-in-Err : goal.returns-in-Err
 returns-in-Err g c = λ opening h fold legal.
@@ -14,16 +19,9 @@ returns-in-Err g c = λ opening h fold legal.
     unread (c.rules.ensures ∙ fold.ruled) told)
     c.answer_fault.ensures
 
-pub returns-in_default : goal.returns-in_default
-returns-in_default g c = λ opening h fold legal.
+pub returns-in-Ok : goal.returns-in-Ok
+returns-in-Ok g c = λ opening h fold legal.
     let read : IsRead c.args.bytes.now c.in-Ok.message = subst (λ r. MatchResult r (IsRead c.args.bytes.now) (IsUnread c.args.bytes.now)) c.in-Ok.is c.in_ok-message.ensures in
-    other-replies opening c.args.directory.now.site h c.args.moment c.args.asker c.args.limit (heading_of c.args.bytes.now) _ c.in-Ok.message c.args.answer.now.bytes.items c.args.answer.now.audit.items
-    read.read (sym c.into_request.ensures ∙ c.in_default.is) (sym read.change ∙ c.requires.no_change) c.requires.no_reply c.requires.no_line
-
-pub returns : goal.returns
-returns g c = λ opening h fold legal.
-    let read : IsRead c.args.bytes.now c.in-Ok.message = subst (λ r. MatchResult r (IsRead c.args.bytes.now) (IsUnread c.args.bytes.now)) c.in-Ok.is c.in_ok-message.ensures in
-    IfOk-more c.answer_request.result _ _
-    (λ what found. request-replies opening c.args.directory.now.site h c.args.moment c.args.asker c.args.limit (heading_of c.args.bytes.now) _ c.in-Ok.message c.in-Some.header c.in-Some.request
-    what c.answer_request.new.answer.bytes.items c.answer_request.new.answer.audit.items read.read (sym c.into_request.ensures ∙ c.in-Some.is) found)
-    (c.answer_request.ensures opening h fold legal)
+    IfOk-more c.answer_message-told.result _ _
+    (λ what told. read-replies opening c.args.directory.now.site h c.args.moment c.args.asker c.args.limit (heading_of c.args.bytes.now) _ c.in-Ok.message what c.answer_message-told.new.answer.bytes.items c.answer_message-told.new.answer.audit.items read.read told)
+    (c.answer_message-told.ensures opening h fold legal (heading_of c.args.bytes.now))
