@@ -9,9 +9,9 @@ use Rattle.std.proofs.lemmas.Option.{none-some, same_Some}
 use Rattle.slp_text.specs.Scopes.{scopes_of}
 use Rattle.slp_text.specs.Tags.{Part, tags_of}
 use Rattle.service_url.specs.Urls.{url_of}
-use Rattle.slp_wire.specs.declared.header.Header.{Header}
-use Rattle.slp_wire.specs.declared.message.Registration.{Registration}
-use Rattle.slp_wire.specs.declared.message.Withdrawal.{Withdrawal}
+use Rattle.slp_messages.specs.declared.header.Header.{Header}
+use Rattle.slp_messages.specs.declared.message.Registration.{Registration}
+use Rattle.slp_messages.specs.declared.message.Withdrawal.{Withdrawal}
 use Rattle.access_rules.specs.declared.rule.Action.{Action}
 use Rattle.access_rules.specs.declared.rule.Action.TheVariants.{Register, Withdraw}
 use Rattle.registry_core.specs.declared.entry.Entry.{Entry}

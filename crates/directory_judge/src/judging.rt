@@ -22,7 +22,7 @@ use access_rules::{Action, Addr, Rules};
 use registry_core::{Entry, Registry};
 use service_url::Url;
 use slp_text::{Key, NoMemory, is_blank, key};
-use slp_wire::{Header, Message, Registration};
+use slp_messages::{Header, Message, Registration};
 use std::alloc::Global;
 use std::sync::Arc;
 

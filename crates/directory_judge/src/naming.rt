@@ -11,7 +11,7 @@ use crate::because::Decider;
 use crate::site::Site;
 use service_url::{ServiceType, Url, UrlFault};
 use slp_text::{NoMemory, ScopeList, TagList, TextFault};
-use slp_wire::{Header, Registration};
+use slp_messages::{Header, Registration};
 use std::alloc::Global;
 
 /// What a registration names: its type, and those of its scopes that the site supports.

@@ -22,7 +22,7 @@ use access_rules::{Action, Addr, Rules};
 use registry_core::{Entry, Registry};
 use service_url::Url;
 use slp_text::{NoMemory, ScopeList};
-use slp_wire::{Header, Withdrawal};
+use slp_messages::{Header, Withdrawal};
 use std::alloc::Global;
 use std::cmp::Ordering;
 use std::sync::Arc;

@@ -15,11 +15,11 @@ use Rattle.service_url.specs.Types.{type_of}
 use Rattle.service_url.specs.Urls.{url_of}
 use Rattle.slp_text.specs.Scopes.{scopes_of, common_of}
 use Rattle.slp_text.specs.Tags.{Part, tags_of}
-use Rattle.slp_wire.specs.declared.header.Header.{Header}
-use Rattle.slp_wire.specs.declared.message.Message.{Message}
-use Rattle.slp_wire.specs.declared.message.Message.TheVariants as message
-use Rattle.slp_wire.specs.declared.message.Registration.{Registration}
-use Rattle.slp_wire.specs.declared.message.Withdrawal.{Withdrawal}
+use Rattle.slp_messages.specs.declared.header.Header.{Header}
+use Rattle.slp_messages.specs.declared.message.Message.{Message}
+use Rattle.slp_messages.specs.declared.message.Message.TheVariants as message
+use Rattle.slp_messages.specs.declared.message.Registration.{Registration}
+use Rattle.slp_messages.specs.declared.message.Withdrawal.{Withdrawal}
 use Rattle.directory_judge.specs.declared.because.Because.{Because}
 use Rattle.directory_judge.specs.declared.because.Decider.TheVariants as decider
 use Rattle.directory_judge.specs.declared.naming.Taken.{Taken}

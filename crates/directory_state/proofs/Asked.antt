@@ -27,7 +27,7 @@ use Rattle.registry_core.specs.Entries.{Entries, pair_of, is_of, outlives, has_s
 use Rattle.registry_core.proofs.Lists.{pair_eq-true, pair_eq-same}
 use Rattle.service_url.specs.Types.{covers}
 use Rattle.slp_text.specs.Words.{bytes_eq, bytes_cmp, IsAscending}
-use Rattle.slp_wire.specs.declared.message.UrlEntry.{UrlEntry}
+use Rattle.slp_messages.specs.declared.message.UrlEntry.{UrlEntry}
 use Rattle.directory_judge.specs.History.{History, now}
 use Rattle.directory_judge.specs.Judging.{supports}
 use Rattle.directory_judge.specs.Meaning.{AreLive, rules}

@@ -5,9 +5,9 @@ use Rattle.std.specs.FinMap as fin
 use Rattle.access_rules.specs.declared.rule.Rule.{Rule}
 use Rattle.registry_core.specs.Entries.{Pair, Entries, pair_of}
 use Rattle.registry_core.specs.declared.entry.Entry.{Entry}
-use Rattle.slp_wire.specs.Messages.{IsMessage}
-use Rattle.slp_wire.specs.declared.message.Message.{Message}
-use Rattle.slp_wire.specs.declared.message.UrlEntry.{UrlEntry}
+use Rattle.slp_messages.specs.Messages.{IsMessage}
+use Rattle.slp_messages.specs.declared.message.Message.{Message}
+use Rattle.slp_messages.specs.declared.message.UrlEntry.{UrlEntry}
 use Rattle.directory_judge.specs.History.{History, Act, Event, Sweep, clock, now}
 use Rattle.directory_judge.specs.Judging.{Judgement, Accepts, Ignores, Waits, Denies, judgement}
 use Rattle.directory_judge.specs.Making.{Content}

@@ -4,7 +4,7 @@ use Rattle.std.specs.Prelude.{IfOk}
 use Rattle.access_rules.specs.declared.rule.Rule.{Rule}
 use Rattle.registry_core.specs.Entries.{Entries, pair_eq, outlives, passing}
 use Rattle.registry_core.proofs.Lists.{pair_eq-same}
-use Rattle.slp_wire.specs.declared.message.Message.{Message}
+use Rattle.slp_messages.specs.declared.message.Message.{Message}
 use Rattle.directory_judge.specs.declared.judged.Judged.{Judged}
 use Rattle.directory_judge.specs.declared.judged.Judged.TheVariants as judged
 use Rattle.directory_judge.specs.History.{Putting, Put, Event, History, clock, now}

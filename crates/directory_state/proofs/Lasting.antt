@@ -5,7 +5,7 @@ use Rattle.std.specs.Option.{option_or}
 use Rattle.std.proofs.lemmas.Option.{none-some, same_Some}
 use Rattle.access_rules.specs.declared.rule.Rule.{Rule}
 use Rattle.registry_core.specs.Entries.{Pair, pair_eq}
-use Rattle.slp_wire.specs.Messages.{IsMessage}
+use Rattle.slp_messages.specs.Messages.{IsMessage}
 use Rattle.directory_judge.specs.History.{Putting, Act, Put, Set, Remove, Withdraw, Sweep, Reload, Event, History, clock, last_that}
 use Rattle.directory_judge.specs.Judging.{putting}
 use Rattle.directory_judge.specs.Meaning.{only, deadline_of}
@@ -31,7 +31,7 @@ put-short opening site h moment p grounded =
     let by = registered g grounded.sent moment p grounded.because (sym grounded.verdict.is) in
     let same : p ≡ putting g by.header by.registration by.named = put_put p _ (ap (λ (x : Event). x.act) by.accepted.event) in
     let sound = subst IsMessage by.is grounded.sound in
-    subst (λ (x : Putting). x.lifetime < 2 ^ 16) (sym same) sound.body.entry.lifetime
+    subst (λ (x : Putting). x.lifetime < 2 ^ 16) (sym same) sound.body.0.lifetime
 
 now-deadline : (opening : List Rule) (site : Place) (h : History) (moment : ℕ) (act : Act) (q : Pair) (d : ℕ) → IsGrounded opening site h (record { moment = moment; act = act })
     → deadline_of q (record { moment = moment; act = act }) ≡ Some d → d ≤ moment + 65535

@@ -11,7 +11,7 @@ use Rattle.std.proofs.lemmas.Map.Made.{Contains-tail}
 use Rattle.access_rules.specs.declared.rule.Rule.{Rule}
 use Rattle.registry_core.specs.declared.entry.Entry.{Entry}
 use Rattle.slp_text.specs.Words.{bytes_cmp, IsAscending}
-use Rattle.slp_wire.specs.declared.message.UrlEntry.{UrlEntry}
+use Rattle.slp_messages.specs.declared.message.UrlEntry.{UrlEntry}
 use Rattle.directory_judge.specs.History.{History, clock, now}
 use Rattle.directory_judge.specs.Sites.{Place}
 use Rattle.directory_state.specs.declared.query.ServiceQuery.{ServiceQuery}

@@ -6,7 +6,7 @@ use Rattle.access_rules.specs.declared.rule.Rule.{Rule}
 use Rattle.registry_core.specs.declared.entry.Entry.{Entry}
 use Rattle.service_url.specs.Types.{covers}
 use Rattle.slp_text.specs.Words.{IsAscending}
-use Rattle.slp_wire.specs.declared.message.UrlEntry.{UrlEntry}
+use Rattle.slp_messages.specs.declared.message.UrlEntry.{UrlEntry}
 use Rattle.directory_judge.specs.History.{History, now}
 use Rattle.directory_judge.specs.Meaning.{Live, rules}
 use Rattle.directory_judge.specs.Sites.{Place}

@@ -10,7 +10,7 @@ use Rattle.access_rules.specs.declared.rule.Rule.{Rule}
 use Rattle.registry_core.specs.Entries.{outlives}
 use Rattle.registry_core.specs.declared.entry.Entry.{Entry}
 use Rattle.slp_text.specs.Words.{bytes_eq, bytes_cmp}
-use Rattle.slp_wire.specs.declared.message.UrlEntry.{UrlEntry}
+use Rattle.slp_messages.specs.declared.message.UrlEntry.{UrlEntry}
 use Rattle.directory_judge.specs.Judging.{supports}
 use Rattle.directory_judge.specs.Sites.{Place}
 

@@ -2,8 +2,8 @@
 use Rattle.std.specs.Prelude.{◌≡◌, ℕ, ◌≤◌, List, [], ◌∷◌}
 use Rattle.access_rules.specs.declared.rule.Rule.{Rule}
 use Rattle.registry_core.specs.Entries.{Entries}
-use Rattle.slp_wire.specs.Messages.{IsMessage}
-use Rattle.slp_wire.specs.declared.message.Message.{Message}
+use Rattle.slp_messages.specs.Messages.{IsMessage}
+use Rattle.slp_messages.specs.declared.message.Message.{Message}
 use Rattle.directory_judge.specs.History.{History, Event, Put, Set, Remove, Withdraw, Sweep, Reload, clock, now}
 use Rattle.directory_judge.specs.Judging.{Grounds, Judgement, Accepts, Ignores, Waits, Denies, judgement}
 use Rattle.directory_judge.specs.Meaning.{AreLive, rules}

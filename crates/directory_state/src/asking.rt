@@ -11,7 +11,7 @@ use directory_judge::Site;
 use registry_core::Registry;
 use service_url::{ServiceType, Url};
 use slp_text::{Key, NoMemory, Text};
-use slp_wire::UrlEntry;
+use slp_messages::UrlEntry;
 use std::alloc::Global;
 use std::collections::BTreeMap;
 

@@ -19,7 +19,7 @@ use access_rules::{Addr, Rules};
 use directory_judge::{Change, Judged, Placed, Site, judge_on};
 use registry_core::Registry;
 use slp_text::NoMemory;
-use slp_wire::{Message, UrlEntry};
+use slp_messages::{Message, UrlEntry};
 use std::alloc::Global;
 use std::collections::BTreeMap;
 use std::marker::Model;

@@ -2,13 +2,13 @@
 use Rattle.std.proofs.Common.{◌≡◌, ℕ, zero, suc, Bool, true, false, cond, List, [], ◌∷◌, take, Some, None, Result, Ok, Err, ap}
 use Rattle.std.specs.Prelude.{slice_index, ◌==◌, ◌||◌}
 use Rattle.std.specs.Option.{option_map_or}
-use Rattle.slp_wire.specs.Headers.{Heading, fields_of, is_readable}
-use Rattle.slp_wire.specs.Messages.{function_of}
+use Rattle.slp_headers.specs.Headers.{Heading, fields_of, is_readable}
+use Rattle.slp_messages.specs.Messages.{function_of}
 use Rattle.slp_wire.specs.Reading.{reading, reading_behind, marked}
 use Rattle.slp_wire.specs.Spelling.{Spells}
-use Rattle.slp_wire.specs.declared.fault.WireFault.{WireFault}
-use Rattle.slp_wire.specs.declared.fault.WireFault.TheVariants.{NoHeader}
-use Rattle.slp_wire.specs.declared.message.Message.{Message}
+use Rattle.slp_fields.specs.declared.fault.WireFault.{WireFault}
+use Rattle.slp_fields.specs.declared.fault.WireFault.TheVariants.{NoHeader}
+use Rattle.slp_messages.specs.declared.message.Message.{Message}
 use Rattle.slp_answer.specs.Answering.{is_change_of}
 use Rattle.slp_answer.specs.Understanding.{may_change, IsRead}
 

@@ -2,7 +2,7 @@
 use Rattle.std.proofs.Common.{◌≡◌, ℕ, ◌≤◌, List, [], ◌∷◌, ◌++◌, length, codes, Option, Some, None, refl, sym, ap, ◌∙◌, append_assoc, arith}
 use Rattle.std.specs.Fmt.{decimal}
 use Rattle.std.specs.Option.{option_map_or}
-use Rattle.slp_wire.specs.Headers.{Heading, heading_of, reply_function_of}
+use Rattle.slp_headers.specs.Headers.{Heading, heading_of, reply_function_of}
 use Rattle.access_rules.specs.declared.rule.Action.{Action}
 use Rattle.access_rules.specs.declared.rule.Action.TheVariants.{Register, Withdraw, See}
 use Rattle.directory_judge.specs.declared.because.Decider.TheVariants.{Memory}

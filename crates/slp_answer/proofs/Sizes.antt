@@ -3,9 +3,10 @@ use Rattle.std.proofs.Common.{◌≡◌, ℕ, ◌+◌, ◌<◌, ◌≤◌, List,
 use Rattle.std.specs.List.{flat_map}
 use Rattle.std.proofs.lemmas.List.{length-append}
 use Rattle.std.proofs.lemmas.Bool.{cases_lt}
-use Rattle.slp_wire.specs.Spelling.{plain, body_of, entry_bytes}
-use Rattle.slp_wire.specs.declared.header.Header.{Header}
-use Rattle.slp_wire.specs.declared.message.UrlEntry.{UrlEntry}
+use Rattle.slp_fields.specs.Spelling.{entry_bytes}
+use Rattle.slp_wire.specs.Spelling.{plain, body_of}
+use Rattle.slp_messages.specs.declared.header.Header.{Header}
+use Rattle.slp_messages.specs.declared.message.UrlEntry.{UrlEntry}
 use Rattle.slp_answer.specs.Cutting.{reply_of}
 
 -- the bytes of these entries

@@ -1,13 +1,13 @@
 -- What is told of a message, by what it is.
 use Rattle.std.proofs.Common.{◌≡◌, ℕ, true, false, List, [], ◌∷◌, Option, Some, None, Result, Ok, Err, refl, sym, ap, subst, ◌∙◌}
 use Rattle.std.proofs.lemmas.Option.{none-some, same_Some}
-use Rattle.slp_wire.specs.Headers.{Heading}
-use Rattle.slp_wire.specs.Messages.{IsMessage, header_of}
-use Rattle.slp_wire.specs.declared.fault.WireFault.{WireFault}
-use Rattle.slp_wire.specs.declared.header.Header.{Header}
-use Rattle.slp_wire.specs.declared.message.Message.{Message}
-use Rattle.slp_wire.specs.declared.message.Message.TheVariants as message
-use Rattle.slp_wire.specs.declared.message.ServiceRequest.{ServiceRequest}
+use Rattle.slp_headers.specs.Headers.{Heading}
+use Rattle.slp_messages.specs.Messages.{IsMessage, header_of}
+use Rattle.slp_fields.specs.declared.fault.WireFault.{WireFault}
+use Rattle.slp_messages.specs.declared.header.Header.{Header}
+use Rattle.slp_messages.specs.declared.message.Message.{Message}
+use Rattle.slp_messages.specs.declared.message.Message.TheVariants as message
+use Rattle.slp_messages.specs.declared.message.ServiceRequest.{ServiceRequest}
 use Rattle.access_rules.specs.declared.rule.Action.{Action}
 use Rattle.access_rules.specs.declared.rule.Rule.{Rule as AnyRule}
 use Rattle.directory_judge.specs.History.{History}

@@ -6,15 +6,15 @@ use Rattle.std.specs.List.{list_any}
 use Rattle.slp_text.specs.Key.{key_of}
 use Rattle.slp_text.specs.Scopes.{scopes_of}
 use Rattle.slp_text.specs.Words.{bytes_eq, is_blank}
-use Rattle.slp_wire.specs.Headers.{Heading, heading_of, refusal_bytes, reply_function_of}
+use Rattle.slp_headers.specs.Headers.{Heading, heading_of, refusal_bytes, reply_function_of}
 use Rattle.slp_wire.specs.Reading.{reading}
-use Rattle.slp_wire.specs.declared.fault.WireFault.{WireFault}
-use Rattle.slp_wire.specs.declared.fault.WireFault.TheVariants as fault
-use Rattle.slp_wire.specs.declared.header.Header.{Header}
-use Rattle.slp_wire.specs.declared.message.Message.{Message}
-use Rattle.slp_wire.specs.declared.message.Message.TheVariants as message
-use Rattle.slp_wire.specs.declared.message.ServiceRequest.{ServiceRequest}
-use Rattle.slp_wire.specs.declared.message.UrlEntry.{UrlEntry}
+use Rattle.slp_fields.specs.declared.fault.WireFault.{WireFault}
+use Rattle.slp_fields.specs.declared.fault.WireFault.TheVariants as fault
+use Rattle.slp_messages.specs.declared.header.Header.{Header}
+use Rattle.slp_messages.specs.declared.message.Message.{Message}
+use Rattle.slp_messages.specs.declared.message.Message.TheVariants as message
+use Rattle.slp_messages.specs.declared.message.ServiceRequest.{ServiceRequest}
+use Rattle.slp_messages.specs.declared.message.UrlEntry.{UrlEntry}
 use Rattle.service_url.specs.Types.{type_of}
 use Rattle.access_rules.specs.declared.rule.Action.{Action}
 use Rattle.access_rules.specs.declared.rule.Action.TheVariants.{Register, Withdraw, See}

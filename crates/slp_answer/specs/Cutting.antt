@@ -1,11 +1,11 @@
 -- How a reply is cut to what fits (RFC 2608, section 8.2).
 use Rattle.std.specs.Prelude.{◌≡◌, ℕ, ◌≤◌, false, nat_lt, List, length, take}
 use Rattle.slp_wire.specs.Spelling.{plain}
-use Rattle.slp_wire.specs.declared.header.Header.{Header}
-use Rattle.slp_wire.specs.declared.message.Message.{Message}
-use Rattle.slp_wire.specs.declared.message.Message.TheVariants as message
-use Rattle.slp_wire.specs.declared.message.ServiceReply.TheVariants.{Found}
-use Rattle.slp_wire.specs.declared.message.UrlEntry.{UrlEntry}
+use Rattle.slp_messages.specs.declared.header.Header.{Header}
+use Rattle.slp_messages.specs.declared.message.Message.{Message}
+use Rattle.slp_messages.specs.declared.message.Message.TheVariants as message
+use Rattle.slp_messages.specs.declared.message.ServiceReply.TheVariants.{Found}
+use Rattle.slp_messages.specs.declared.message.UrlEntry.{UrlEntry}
 
 -- the reply to a request with the first so many items; OVERFLOW says that some are left out
 abbrev pub reply_of : Header → List UrlEntry → ℕ → Message

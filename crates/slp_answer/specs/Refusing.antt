@@ -1,7 +1,7 @@
 -- What comes of a message that found no memory.
 use Rattle.std.specs.Prelude.{ℕ, Bool, ◌==◌, ◌&&◌, ◌||◌, List, [], None, if◌then◌else◌}
 use Rattle.std.specs.Option.{option_map_or}
-use Rattle.slp_wire.specs.Headers.{Heading, has_flag, heading_of, refusal_bytes, reply_function_of}
+use Rattle.slp_headers.specs.Headers.{Heading, has_flag, heading_of, refusal_bytes, reply_function_of}
 use Rattle.access_rules.specs.declared.rule.Action.{Action}
 use Rattle.access_rules.specs.declared.rule.Action.TheVariants.{Register, Withdraw, See}
 use Rattle.directory_judge.specs.declared.because.Decider.TheVariants.{Memory}

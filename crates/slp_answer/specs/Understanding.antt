@@ -1,12 +1,12 @@
 -- What bytes that come in are read as.
 use Rattle.std.specs.Prelude.{◌≡◌, ℕ, Bool, ◌==◌, ◌||◌, List, Option, Some, None, Ok, Err}
-use Rattle.slp_wire.specs.Messages.{IsMessage, function_of}
+use Rattle.slp_messages.specs.Messages.{IsMessage, function_of}
 use Rattle.slp_wire.specs.Reading.{reading}
-use Rattle.slp_wire.specs.declared.fault.WireFault.{WireFault}
-use Rattle.slp_wire.specs.declared.header.Header.{Header}
-use Rattle.slp_wire.specs.declared.message.Message.{Message}
-use Rattle.slp_wire.specs.declared.message.Message.TheVariants as message
-use Rattle.slp_wire.specs.declared.message.ServiceRequest.{ServiceRequest}
+use Rattle.slp_fields.specs.declared.fault.WireFault.{WireFault}
+use Rattle.slp_messages.specs.declared.header.Header.{Header}
+use Rattle.slp_messages.specs.declared.message.Message.{Message}
+use Rattle.slp_messages.specs.declared.message.Message.TheVariants as message
+use Rattle.slp_messages.specs.declared.message.ServiceRequest.{ServiceRequest}
 use Rattle.slp_answer.specs.Answering.{is_change_of}
 
 -- a registration or a withdrawal, by its function

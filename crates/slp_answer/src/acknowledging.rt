@@ -1,6 +1,6 @@
 ghost use Rattle.std.specs.Prelude.{◌≡◌, [], true, List, Option, IfOk, OnErr};
-ghost use Rattle.slp_wire.specs.Headers.{Heading};
-ghost use Rattle.slp_wire.specs.Messages.{IsMessage, header_of};
+ghost use Rattle.slp_headers.specs.Headers.{Heading};
+ghost use Rattle.slp_messages.specs.Messages.{IsMessage, header_of};
 ghost use Rattle.access_rules.specs.declared.rule.Rule.{Rule as AnyRule};
 ghost use Rattle.directory_judge.specs.History.{History};
 ghost use Rattle.directory_judge.specs.Judging.{IsChange};

@@ -1,6 +1,6 @@
 ghost use Rattle.std.specs.Prelude.{◌≡◌, ◌+◌, ◌≤◌, ℕ, length};
 ghost use Rattle.slp_wire.specs.Spelling.{plain};
-ghost use Rattle.slp_wire.specs.declared.header.Header.{Header};
+ghost use Rattle.slp_messages.specs.declared.header.Header.{Header};
 ghost use Rattle.slp_answer.specs.Cutting.{reply_of};
 
 use slp_wire::UrlEntry;

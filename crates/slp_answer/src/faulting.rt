@@ -1,5 +1,5 @@
 ghost use Rattle.std.specs.Prelude.{◌≡◌, [], IfOk, if◌then◌else◌};
-ghost use Rattle.slp_wire.specs.Headers.{heading, heading_of, refusal_bytes};
+ghost use Rattle.slp_headers.specs.Headers.{heading, heading_of, refusal_bytes};
 ghost use Rattle.slp_answer.specs.Answering.{Tells, code_of_fault, faulted, refusing};
 ghost use Rattle.slp_answer.specs.Refusing.{is_unsent};
 ghost use Rattle.slp_answer.specs.declared.answer.Sent.TheVariants.{Silence as Nothing, Bytes as Code};

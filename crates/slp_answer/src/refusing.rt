@@ -1,6 +1,6 @@
 ghost use Rattle.std.specs.Prelude.{◌≡◌, ◌≤◌, ◌+◌, ◌++◌, ◌∷◌, [], length, take, codes, if◌then◌else◌};
 ghost use Rattle.std.specs.Fmt.{decimal};
-ghost use Rattle.slp_wire.specs.Headers.{heading, refusal_bytes};
+ghost use Rattle.slp_headers.specs.Headers.{heading, refusal_bytes};
 ghost use Rattle.slp_answer.specs.Auditing.{action_text, addr_text};
 ghost use Rattle.slp_answer.specs.Refusing.{action_of, is_unsent, refused_line, refused_reply};
 

@@ -1,6 +1,6 @@
 ghost use Rattle.std.specs.Prelude.{◌≡◌, ◌≤◌, [], false, ℕ, List, Option, Some, IfOk, OnErr};
 ghost use Rattle.std.specs.Prelude.{Ok as Read};
-ghost use Rattle.slp_wire.specs.Headers.{Heading};
+ghost use Rattle.slp_headers.specs.Headers.{Heading};
 ghost use Rattle.access_rules.specs.declared.rule.Action.TheVariants.{See};
 ghost use Rattle.access_rules.specs.declared.rule.Rule.{Rule as AnyRule};
 ghost use Rattle.directory_judge.specs.History.{History};

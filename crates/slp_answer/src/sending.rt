@@ -1,5 +1,5 @@
 ghost use Rattle.std.specs.Prelude.{◌≡◌, [], false, IfOk};
-ghost use Rattle.slp_wire.specs.Headers.{refusal_bytes};
+ghost use Rattle.slp_headers.specs.Headers.{refusal_bytes};
 ghost use Rattle.slp_wire.specs.Spelling.{plain};
 ghost use Rattle.slp_answer.specs.Answering.{Tells, coded, telling};
 

@@ -11,8 +11,9 @@ use Rattle.slp_messages.specs.declared.message.Message.TheVariants as message
 use Rattle.slp_messages.specs.declared.message.ServiceReply.TheVariants as service_reply
 use Rattle.slp_messages.specs.declared.message.TypeReply.TheVariants as type_reply
 use Rattle.slp_fields.specs.declared.fault.WireFault.{WireFault}
-use Rattle.slp_wire.specs.Bodies.{service_request_at, service_reply_at, registration_at, withdrawal_at, attribute_request_at, attribute_reply_at, directory_advert_at, type_request_at, type_reply_at, service_agent_at, as_message, body_at}
-use Rattle.slp_wire.specs.Replies.{SpellsReply}
+use Rattle.slp_bodies.specs.Bodies.{service_request_at, service_reply_at, registration_at, withdrawal_at, attribute_request_at, attribute_reply_at, directory_advert_at, type_request_at, type_reply_at, service_agent_at}
+use Rattle.slp_wire.specs.Bodies.{as_message, body_at}
+use Rattle.slp_bodies.specs.Replies.{SpellsReply}
 use Rattle.slp_wire.specs.Spelling.{SpellsBody, body_of}
 use Rattle.slp_wire.proofs.Coded.{reply_takes, found_again, refused_again, reply_is_spelled}
 use Rattle.slp_wire.proofs.Lawful.{laid_takes, laid_again, service_request_lawful, registration_lawful, withdrawal_lawful, acknowledgement_lawful, attribute_request_lawful, type_request_lawful, service_agent_lawful, services_lawful, attributes_lawful, directory_agent_lawful, types_lawful}

@@ -8,7 +8,7 @@ use Rattle.slp_messages.specs.Layouts.{Layout, IsLaid, Reply, Found, Refused}
 use Rattle.slp_messages.specs.declared.kind.Kind.{Kind}
 use Rattle.slp_fields.specs.Reading.{number_at, laid_at}
 use Rattle.slp_fields.specs.Spelling.{SpellsValues}
-use Rattle.slp_wire.specs.Replies.{IsRest, SpellsReply, reply_bytes, rest_at, reply_at}
+use Rattle.slp_bodies.specs.Replies.{IsRest, SpellsReply, reply_bytes, rest_at, reply_at}
 use Rattle.slp_wire.proofs.Lawful.{IsLawful, laid_takes, laid_again}
 use Rattle.slp_wire.proofs.Numbers.{number_takes, number_again}
 use Rattle.slp_wire.proofs.Steps.{IsBytes, Takes, joined, bind_ok, chosen, from_ok}

@@ -1,59 +1,15 @@
--- The body of each message, as it is read (RFC 2608, sections 8 to 10).
+-- The body of a message, by its function (RFC 2608, section 8).
 use Rattle.std.specs.Prelude.{ℕ, List, ◌==◌, if◌then◌else◌, Result, Ok, Err}
-use Rattle.slp_messages.specs.Layouts.{service_request, registration, withdrawal, acknowledgement, attribute_request, type_request, service_agent, services, attributes, directory_agent, types}
+use Rattle.slp_messages.specs.Layouts.{acknowledgement}
 use Rattle.slp_messages.specs.declared.function.TheConstants.{SERVICE_REQUEST, SERVICE_REPLY, REGISTRATION, WITHDRAWAL, ACKNOWLEDGEMENT, ATTRIBUTE_REQUEST, ATTRIBUTE_REPLY, DIRECTORY_ADVERT, TYPE_REQUEST, TYPE_REPLY, SERVICE_ADVERT}
 use Rattle.slp_messages.specs.declared.header.Header.{Header}
-use Rattle.slp_messages.specs.declared.message.AttributeReply.TheVariants as attribute_reply
-use Rattle.slp_messages.specs.declared.message.AttributeReply.{AttributeReply}
-use Rattle.slp_messages.specs.declared.message.AttributeRequest.{AttributeRequest}
-use Rattle.slp_messages.specs.declared.message.DirectoryAdvert.TheVariants as directory_advert
-use Rattle.slp_messages.specs.declared.message.DirectoryAdvert.{DirectoryAdvert}
 use Rattle.slp_messages.specs.declared.message.Message.TheVariants as message
 use Rattle.slp_messages.specs.declared.message.Message.{Message}
-use Rattle.slp_messages.specs.declared.message.Registration.{Registration}
-use Rattle.slp_messages.specs.declared.message.ServiceAgent.{ServiceAgent}
-use Rattle.slp_messages.specs.declared.message.ServiceReply.TheVariants as service_reply
-use Rattle.slp_messages.specs.declared.message.ServiceReply.{ServiceReply}
-use Rattle.slp_messages.specs.declared.message.ServiceRequest.{ServiceRequest}
-use Rattle.slp_messages.specs.declared.message.TypeReply.TheVariants as type_reply
-use Rattle.slp_messages.specs.declared.message.TypeReply.{TypeReply}
-use Rattle.slp_messages.specs.declared.message.TypeRequest.{TypeRequest}
-use Rattle.slp_messages.specs.declared.message.Withdrawal.{Withdrawal}
 use Rattle.slp_fields.specs.Reading.{laid_at}
 use Rattle.slp_fields.specs.Steps.{◌>>=◌}
 use Rattle.slp_fields.specs.declared.fault.WireFault.TheVariants.{Unknown}
 use Rattle.slp_fields.specs.declared.fault.WireFault.{WireFault}
-use Rattle.slp_wire.specs.Replies.{reply_at}
-
-unfoldable pub service_request_at : List ℕ → Result (ServiceRequest × List ℕ) WireFault
-service_request_at bytes = laid_at service_request bytes
-
-unfoldable pub service_reply_at : ℕ → List ℕ → Result (ServiceReply × List ℕ) WireFault
-service_reply_at tail bytes = reply_at services service_reply.Found service_reply.Refused tail bytes
-
-unfoldable pub registration_at : List ℕ → Result (Registration × List ℕ) WireFault
-registration_at bytes = laid_at registration bytes
-
-unfoldable pub withdrawal_at : List ℕ → Result (Withdrawal × List ℕ) WireFault
-withdrawal_at bytes = laid_at withdrawal bytes
-
-unfoldable pub attribute_request_at : List ℕ → Result (AttributeRequest × List ℕ) WireFault
-attribute_request_at bytes = laid_at attribute_request bytes
-
-unfoldable pub attribute_reply_at : ℕ → List ℕ → Result (AttributeReply × List ℕ) WireFault
-attribute_reply_at tail bytes = reply_at attributes attribute_reply.Found attribute_reply.Refused tail bytes
-
-unfoldable pub directory_advert_at : ℕ → List ℕ → Result (DirectoryAdvert × List ℕ) WireFault
-directory_advert_at tail bytes = reply_at directory_agent directory_advert.Present directory_advert.Refused tail bytes
-
-unfoldable pub type_request_at : List ℕ → Result (TypeRequest × List ℕ) WireFault
-type_request_at bytes = laid_at type_request bytes
-
-unfoldable pub type_reply_at : ℕ → List ℕ → Result (TypeReply × List ℕ) WireFault
-type_reply_at tail bytes = reply_at types type_reply.Found type_reply.Refused tail bytes
-
-unfoldable pub service_agent_at : List ℕ → Result (ServiceAgent × List ℕ) WireFault
-service_agent_at bytes = laid_at service_agent bytes
+use Rattle.slp_bodies.specs.Bodies.{service_request_at, service_reply_at, registration_at, withdrawal_at, attribute_request_at, attribute_reply_at, directory_advert_at, type_request_at, type_reply_at, service_agent_at}
 
 -- what was read, as a message
 abbrev pub as_message : {A : Type 0} → (A → Message) → Result (A × List ℕ) WireFault → Result (Message × List ℕ) WireFault

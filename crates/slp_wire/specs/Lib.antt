@@ -1,5 +1,4 @@
 pub mod Bodies
 pub mod Extensions
 pub mod Reading
-pub mod Replies
 pub mod Spelling

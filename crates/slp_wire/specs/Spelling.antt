@@ -11,7 +11,7 @@ use Rattle.slp_headers.specs.declared.place.TheConstants as place
 use Rattle.slp_fields.specs.Spelling.{SpellsLaid, laid_bytes}
 pub use Rattle.slp_fields.specs.Writing.{longest}
 use Rattle.slp_wire.specs.Extensions.{Extension, IsSkipped, begins_at, chain_bytes}
-use Rattle.slp_wire.specs.Replies.{SpellsReply, reply_bytes}
+use Rattle.slp_bodies.specs.Replies.{SpellsReply, reply_bytes}
 
 -- ---- bodies
 

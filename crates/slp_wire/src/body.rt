@@ -3,11 +3,11 @@ ghost use Rattle.std.specs.Prelude.{◌<◌};
 ghost use Rattle.slp_fields.specs.Steps.{Gives};
 ghost use Rattle.slp_wire.specs.Bodies.{body_at};
 
-use crate::adverts::{directory_advert_of, service_agent_of};
-use crate::attributes::{attribute_reply_of, attribute_request_of};
-use crate::registrations::{registration_of, withdrawal_of};
-use crate::services::{service_reply_of, service_request_of};
-use crate::types::{type_reply_of, type_request_of};
+use slp_bodies::{
+    attribute_reply_of, attribute_request_of, directory_advert_of, registration_of,
+    service_agent_of, service_reply_of, service_request_of, type_reply_of, type_request_of,
+    withdrawal_of,
+};
 use slp_fields::{WireFault, number_of};
 use slp_messages::{Header, Message, function};
 use std::alloc::Global;

@@ -2,16 +2,10 @@
 //! where they spell nothing.
 #![tactic(auto)]
 
-mod adverts;
-mod attributes;
 mod body;
 mod extensions;
 pub mod laws;
 mod reading;
-mod registrations;
-mod replies;
-mod services;
-mod types;
 mod writing;
 
 pub use reading::decode;

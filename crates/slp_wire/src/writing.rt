@@ -4,12 +4,11 @@ ghost use Rattle.slp_headers.specs.Headers.{word_of};
 ghost use Rattle.slp_fields.specs.declared.fault.WireFault.TheVariants.{NoMemory as Lacking, TooLong as Long};
 ghost use Rattle.slp_wire.specs.Spelling.{plain, body_of, longest};
 
-use crate::adverts::{directory_agent_fields, service_agent_fields};
-use crate::attributes::{attribute_request_fields, attributes_fields};
-use crate::registrations::{registration_fields, withdrawal_fields};
-use crate::replies::refusal_fields;
-use crate::services::{service_request_fields, services_fields};
-use crate::types::{type_request_fields, types_fields};
+use slp_bodies::{
+    attribute_request_fields, attributes_fields, directory_agent_fields, refusal_fields,
+    registration_fields, service_agent_fields, service_request_fields, services_fields,
+    type_request_fields, types_fields, withdrawal_fields,
+};
 use slp_fields::{Field, LONGEST, WireFault, append, put_fields, with_fields};
 use slp_headers::{flag, opening, place};
 use slp_messages::{

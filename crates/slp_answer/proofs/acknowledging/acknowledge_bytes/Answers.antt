@@ -1,6 +1,6 @@
 use Rattle.std.proofs.Common.{subst, sym, ◌∙◌}
 use Rattle.std.specs.Prelude.{MatchResult}
-use Rattle.slp_wire.specs.Headers.{heading_of}
+use Rattle.slp_headers.specs.Headers.{heading_of}
 use Rattle.slp_answer.specs.Understanding.{IsRead, IsUnread}
 use Rattle.directory_state.proofs.Judged.{IfOk-more}
 use Rattle.slp_answer.proofs.Tellings.{may-change, unread-acknowledges, read-acknowledges}

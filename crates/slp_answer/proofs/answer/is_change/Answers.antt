@@ -1,7 +1,7 @@
 use Rattle.std.proofs.Common.{ap, sym, ◌∙◌, false}
 use Rattle.std.specs.Prelude.{◌==◌, ◌||◌}
 use Rattle.std.specs.Option.{option_map_or}
-use Rattle.slp_wire.specs.Headers.{Heading}
+use Rattle.slp_headers.specs.Headers.{Heading}
 use Rattle.slp_answer.specs.Answering.{is_change_of}
 use Rattle.slp_answer.proofs.answer.is_change.Goals as goal
 

@@ -1,5 +1,5 @@
 use Rattle.std.proofs.Common.{take}
-use Rattle.slp_wire.specs.Headers.{heading}
+use Rattle.slp_headers.specs.Headers.{heading}
 use Rattle.slp_answer.proofs.Refusals.{line_is_refused}
 use Rattle.slp_answer.proofs.refusing.refusal.Goals as goal
 

@@ -6,7 +6,7 @@ ghost use Rattle.slp_messages.specs.Layouts.{IsLaid};
 ghost use Rattle.slp_fields.specs.Spelling.{laid_bytes};
 ghost use Rattle.slp_fields.specs.Steps.{Gives};
 ghost use Rattle.slp_fields.specs.Writing.{fields_bytes, IsField};
-ghost use Rattle.slp_wire.specs.Bodies.{registration_at, withdrawal_at};
+ghost use Rattle.slp_bodies.specs.Bodies.{registration_at, withdrawal_at};
 
 use slp_fields::{Field, WireFault, behind_no_block, entry_of, text_of};
 use slp_messages::{Registration, Withdrawal};
@@ -14,10 +14,7 @@ use std::alloc::Global;
 
 /// Reads a registration.
 #[tactic(auto, unfolding(crate::specs::Bodies::registration_at))]
-pub(crate) fn registration_of(
-    alloc: Global,
-    bytes: &[u8],
-) -> Result<(Registration, &[u8]), WireFault>
+pub fn registration_of(alloc: Global, bytes: &[u8]) -> Result<(Registration, &[u8]), WireFault>
     ensures { Gives (λ x. (x.0, x.1.now)) result (registration_at bytes.now) }
 {
     let (entry, rest) = entry_of(alloc, bytes)?;
@@ -35,7 +32,7 @@ pub(crate) fn registration_of(
 }
 
 /// The fields of a registration.
-pub(crate) fn registration_fields(registration: &Registration) -> [Field<'_>; 5]
+pub fn registration_fields(registration: &Registration) -> [Field<'_>; 5]
     ensures bytes { fields_bytes result ≡ laid_bytes layout.registration registration.now }
     ensures sound { AllByRecursion IsField result → IsLaid layout.registration registration.now }
 {
@@ -50,7 +47,7 @@ pub(crate) fn registration_fields(registration: &Registration) -> [Field<'_>; 5]
 
 /// Reads a withdrawal.
 #[tactic(auto, unfolding(crate::specs::Bodies::withdrawal_at))]
-pub(crate) fn withdrawal_of(alloc: Global, bytes: &[u8]) -> Result<(Withdrawal, &[u8]), WireFault>
+pub fn withdrawal_of(alloc: Global, bytes: &[u8]) -> Result<(Withdrawal, &[u8]), WireFault>
     ensures { Gives (λ x. (x.0, x.1.now)) result (withdrawal_at bytes.now) }
 {
     let (scopes, rest) = text_of(alloc, bytes)?;
@@ -65,7 +62,7 @@ pub(crate) fn withdrawal_of(alloc: Global, bytes: &[u8]) -> Result<(Withdrawal, 
 }
 
 /// The fields of a withdrawal.
-pub(crate) fn withdrawal_fields(withdrawal: &Withdrawal) -> [Field<'_>; 3]
+pub fn withdrawal_fields(withdrawal: &Withdrawal) -> [Field<'_>; 3]
     ensures bytes { fields_bytes result ≡ laid_bytes layout.withdrawal withdrawal.now }
     ensures sound { AllByRecursion IsField result → IsLaid layout.withdrawal withdrawal.now }
 {

@@ -8,7 +8,7 @@ ghost use Rattle.slp_fields.specs.Reading.{laid_at};
 ghost use Rattle.slp_fields.specs.Spelling.{laid_bytes};
 ghost use Rattle.slp_fields.specs.Steps.{Gives};
 ghost use Rattle.slp_fields.specs.Writing.{fields_bytes, IsField};
-ghost use Rattle.slp_wire.specs.Bodies.{directory_advert_at, service_agent_at};
+ghost use Rattle.slp_bodies.specs.Bodies.{directory_advert_at, service_agent_at};
 
 use crate::replies::behind_code;
 use slp_fields::{Field, WireFault, behind_no_block, long_of, number_of, text_of};
@@ -36,7 +36,7 @@ fn directory_agent_of(alloc: Global, bytes: &[u8]) -> Result<(DirectoryAgent, &[
 
 /// Reads a directory agent's advert. So many bytes at the end are no part of it.
 #[tactic(auto, unfolding(crate::specs::Bodies::directory_advert_at))]
-pub(crate) fn directory_advert_of(
+pub fn directory_advert_of(
     alloc: Global,
     tail: usize,
     bytes: &[u8],
@@ -61,7 +61,7 @@ pub(crate) fn directory_advert_of(
 }
 
 /// The fields of an advert of this agent.
-pub(crate) fn directory_agent_fields(agent: &DirectoryAgent) -> [Field<'_>; 7]
+pub fn directory_agent_fields(agent: &DirectoryAgent) -> [Field<'_>; 7]
     ensures bytes { fields_bytes result ≡ big_bytes 2 0 ++ laid_bytes layout.directory_agent agent.now }
     ensures sound { AllByRecursion IsField result → IsLaid layout.directory_agent agent.now }
 {
@@ -78,10 +78,7 @@ pub(crate) fn directory_agent_fields(agent: &DirectoryAgent) -> [Field<'_>; 7]
 
 /// Reads a service agent's advert.
 #[tactic(auto, unfolding(crate::specs::Bodies::service_agent_at))]
-pub(crate) fn service_agent_of(
-    alloc: Global,
-    bytes: &[u8],
-) -> Result<(ServiceAgent, &[u8]), WireFault>
+pub fn service_agent_of(alloc: Global, bytes: &[u8]) -> Result<(ServiceAgent, &[u8]), WireFault>
     ensures { Gives (λ x. (x.0, x.1.now)) result (service_agent_at bytes.now) }
 {
     let (url, rest) = text_of(alloc, bytes)?;
@@ -97,7 +94,7 @@ pub(crate) fn service_agent_of(
 }
 
 /// The fields of an advert of this agent.
-pub(crate) fn service_agent_fields(service: &ServiceAgent) -> [Field<'_>; 4]
+pub fn service_agent_fields(service: &ServiceAgent) -> [Field<'_>; 4]
     ensures bytes { fields_bytes result ≡ laid_bytes layout.service_agent service.now }
     ensures sound { AllByRecursion IsField result → IsLaid layout.service_agent service.now }
 {

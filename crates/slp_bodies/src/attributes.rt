@@ -7,7 +7,7 @@ ghost use Rattle.slp_messages.specs.Layouts.{IsLaid};
 ghost use Rattle.slp_fields.specs.Spelling.{laid_bytes};
 ghost use Rattle.slp_fields.specs.Steps.{Gives};
 ghost use Rattle.slp_fields.specs.Writing.{fields_bytes, IsField};
-ghost use Rattle.slp_wire.specs.Bodies.{attribute_request_at, attribute_reply_at};
+ghost use Rattle.slp_bodies.specs.Bodies.{attribute_request_at, attribute_reply_at};
 
 use crate::replies::behind_code;
 use slp_fields::{Field, WireFault, behind_no_block, behind_no_index, number_of, text_of};
@@ -17,7 +17,7 @@ use std::alloc::Global;
 
 /// Reads a request.
 #[tactic(auto, unfolding(crate::specs::Bodies::attribute_request_at))]
-pub(crate) fn attribute_request_of(
+pub fn attribute_request_of(
     alloc: Global,
     bytes: &[u8],
 ) -> Result<(AttributeRequest, &[u8]), WireFault>
@@ -38,7 +38,7 @@ pub(crate) fn attribute_request_of(
 }
 
 /// The fields of a request.
-pub(crate) fn attribute_request_fields(request: &AttributeRequest) -> [Field<'_>; 5]
+pub fn attribute_request_fields(request: &AttributeRequest) -> [Field<'_>; 5]
     ensures bytes { fields_bytes result ≡ laid_bytes layout.attribute_request request.now }
     ensures sound { AllByRecursion IsField result → IsLaid layout.attribute_request request.now }
 {
@@ -53,7 +53,7 @@ pub(crate) fn attribute_request_fields(request: &AttributeRequest) -> [Field<'_>
 
 /// Reads a reply. So many bytes at the end are no part of it.
 #[tactic(auto, unfolding(crate::specs::Bodies::attribute_reply_at))]
-pub(crate) fn attribute_reply_of(
+pub fn attribute_reply_of(
     alloc: Global,
     tail: usize,
     bytes: &[u8],
@@ -71,7 +71,7 @@ pub(crate) fn attribute_reply_of(
 }
 
 /// The fields of a reply with this attribute list.
-pub(crate) fn attributes_fields(list: &Text) -> [Field<'_>; 3]
+pub fn attributes_fields(list: &Text) -> [Field<'_>; 3]
     ensures bytes { fields_bytes result ≡ big_bytes 2 0 ++ laid_bytes layout.attributes list.now }
     ensures sound { AllByRecursion IsField result → IsLaid layout.attributes list.now }
 {

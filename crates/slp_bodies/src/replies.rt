@@ -5,7 +5,7 @@ ghost use Rattle.byteorder.specs.Endian.{big_bytes};
 ghost use Rattle.slp_messages.specs.Fields.{IsRefusal};
 ghost use Rattle.slp_fields.specs.Steps.{Gives};
 ghost use Rattle.slp_fields.specs.Writing.{fields_bytes, IsField};
-ghost use Rattle.slp_wire.specs.Replies.{rest_at};
+ghost use Rattle.slp_bodies.specs.Replies.{rest_at};
 
 use slp_fields::{Field, WireFault, skip_fields};
 use slp_messages::{ErrorCode, Kind};
@@ -26,7 +26,7 @@ pub(crate) fn behind_code<'a>(
 }
 
 /// The fields of a reply that ends with its code.
-pub(crate) fn refusal_fields(code: &ErrorCode) -> [Field<'static>; 1]
+pub fn refusal_fields(code: &ErrorCode) -> [Field<'static>; 1]
     ensures bytes { fields_bytes result ≡ big_bytes 2 code.now }
     ensures sound { AllByRecursion IsField result → IsRefusal code.now }
 {

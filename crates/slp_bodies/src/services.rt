@@ -7,7 +7,7 @@ ghost use Rattle.slp_messages.specs.Layouts.{IsLaid};
 ghost use Rattle.slp_fields.specs.Spelling.{laid_bytes};
 ghost use Rattle.slp_fields.specs.Steps.{Gives};
 ghost use Rattle.slp_fields.specs.Writing.{fields_bytes, IsField};
-ghost use Rattle.slp_wire.specs.Bodies.{service_request_at, service_reply_at};
+ghost use Rattle.slp_bodies.specs.Bodies.{service_request_at, service_reply_at};
 
 use crate::replies::behind_code;
 use slp_fields::{Field, WireFault, behind_no_index, listing_of, number_of, text_of};
@@ -16,10 +16,7 @@ use std::alloc::Global;
 
 /// Reads a request.
 #[tactic(auto, unfolding(crate::specs::Bodies::service_request_at))]
-pub(crate) fn service_request_of(
-    alloc: Global,
-    bytes: &[u8],
-) -> Result<(ServiceRequest, &[u8]), WireFault>
+pub fn service_request_of(alloc: Global, bytes: &[u8]) -> Result<(ServiceRequest, &[u8]), WireFault>
     ensures { Gives (λ x. (x.0, x.1.now)) result (service_request_at bytes.now) }
 {
     let (responders, rest) = text_of(alloc, bytes)?;
@@ -37,7 +34,7 @@ pub(crate) fn service_request_of(
 }
 
 /// The fields of a request.
-pub(crate) fn service_request_fields(request: &ServiceRequest) -> [Field<'_>; 5]
+pub fn service_request_fields(request: &ServiceRequest) -> [Field<'_>; 5]
     ensures bytes { fields_bytes result ≡ laid_bytes layout.service_request request.now }
     ensures sound { AllByRecursion IsField result → IsLaid layout.service_request request.now }
 {
@@ -52,7 +49,7 @@ pub(crate) fn service_request_fields(request: &ServiceRequest) -> [Field<'_>; 5]
 
 /// Reads a reply. So many bytes at the end are no part of it.
 #[tactic(auto, unfolding(crate::specs::Bodies::service_reply_at))]
-pub(crate) fn service_reply_of(
+pub fn service_reply_of(
     alloc: Global,
     tail: usize,
     bytes: &[u8],
@@ -69,7 +66,7 @@ pub(crate) fn service_reply_of(
 }
 
 /// The fields of a reply with these entries.
-pub(crate) fn services_fields(entries: &[UrlEntry]) -> [Field<'_>; 2]
+pub fn services_fields(entries: &[UrlEntry]) -> [Field<'_>; 2]
     ensures bytes { fields_bytes result ≡ big_bytes 2 0 ++ laid_bytes layout.services entries.now }
     ensures sound { AllByRecursion IsField result → IsLaid layout.services entries.now }
 {

@@ -7,7 +7,7 @@ ghost use Rattle.slp_messages.specs.Layouts.{IsLaid};
 ghost use Rattle.slp_fields.specs.Spelling.{laid_bytes};
 ghost use Rattle.slp_fields.specs.Steps.{Gives};
 ghost use Rattle.slp_fields.specs.Writing.{fields_bytes, IsField};
-ghost use Rattle.slp_wire.specs.Bodies.{type_request_at, type_reply_at};
+ghost use Rattle.slp_bodies.specs.Bodies.{type_request_at, type_reply_at};
 
 use crate::replies::behind_code;
 use slp_fields::{Field, WireFault, authority_of, number_of, text_of};
@@ -17,10 +17,7 @@ use std::alloc::Global;
 
 /// Reads a request.
 #[tactic(auto, unfolding(crate::specs::Bodies::type_request_at))]
-pub(crate) fn type_request_of(
-    alloc: Global,
-    bytes: &[u8],
-) -> Result<(TypeRequest, &[u8]), WireFault>
+pub fn type_request_of(alloc: Global, bytes: &[u8]) -> Result<(TypeRequest, &[u8]), WireFault>
     ensures { Gives (λ x. (x.0, x.1.now)) result (type_request_at bytes.now) }
 {
     let (responders, rest) = text_of(alloc, bytes)?;
@@ -35,7 +32,7 @@ pub(crate) fn type_request_of(
 }
 
 /// The fields of a request.
-pub(crate) fn type_request_fields(request: &TypeRequest) -> [Field<'_>; 3]
+pub fn type_request_fields(request: &TypeRequest) -> [Field<'_>; 3]
     ensures bytes { fields_bytes result ≡ laid_bytes layout.type_request request.now }
     ensures sound { AllByRecursion IsField result → IsLaid layout.type_request request.now }
 {
@@ -48,7 +45,7 @@ pub(crate) fn type_request_fields(request: &TypeRequest) -> [Field<'_>; 3]
 
 /// Reads a reply. So many bytes at the end are no part of it.
 #[tactic(auto, unfolding(crate::specs::Bodies::type_reply_at))]
-pub(crate) fn type_reply_of(
+pub fn type_reply_of(
     alloc: Global,
     tail: usize,
     bytes: &[u8],
@@ -65,7 +62,7 @@ pub(crate) fn type_reply_of(
 }
 
 /// The fields of a reply with these types.
-pub(crate) fn types_fields(list: &Text) -> [Field<'_>; 2]
+pub fn types_fields(list: &Text) -> [Field<'_>; 2]
     ensures bytes { fields_bytes result ≡ big_bytes 2 0 ++ laid_bytes layout.types list.now }
     ensures sound { AllByRecursion IsField result → IsLaid layout.types list.now }
 {
