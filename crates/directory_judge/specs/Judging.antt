@@ -9,6 +9,7 @@ use Rattle.slp_text.specs.Key.{key_of}
 use Rattle.slp_text.specs.Scopes.{scopes_of, common_of}
 use Rattle.slp_text.specs.Tags.{Part, tags_of}
 use Rattle.slp_text.specs.Words.{bytes_eq, bytes_cmp, is_blank}
+use Rattle.slp_messages.specs.declared.code.TheConstants.{PARSE_ERROR, INVALID_REGISTRATION, SCOPE_NOT_SUPPORTED, DIRECTORY_BUSY}
 use Rattle.slp_messages.specs.declared.header.Header.{Header}
 use Rattle.slp_messages.specs.declared.message.Message.{Message}
 use Rattle.slp_messages.specs.declared.message.Message.TheVariants as message
@@ -76,7 +77,7 @@ abbrev pub denial_of : List AnyRule → ℕ → Action → List ℕ → List (Li
 denial_of rules asker action kind scopes = option_map (by_rule rules asker action kind) (find (is_denied rules asker action kind) scopes)
 
 abbrev pub denial_in : Grounds → Action → List ℕ → List (List ℕ) → Option Judgement
-denial_in g action kind scopes = option_map (Denies 4) (denial_of g.rules g.asker action kind scopes)
+denial_in g action kind scopes = option_map (Denies SCOPE_NOT_SUPPORTED) (denial_of g.rules g.asker action kind scopes)
 
 -- ---- what is not judged yet
 
@@ -111,14 +112,14 @@ denied_by code d = Denies code (by_step d None)
 -- the type, and those of the scopes that the site supports; or the first fault, where something is not read
 abbrev pub named_as : Place → Option (List ℕ) → Option (List ℕ) → Option (List (List ℕ)) → Result Taken Judgement
 named_as site (Some kind) (Some url) (Some scopes) = Ok (record { kind = kind; scopes = common_of site.scopes scopes })
-named_as site (Some kind) (Some url) None = Err (denied_by 2 decider.Parse)
-named_as site (Some kind) None scopes = Err (denied_by 3 decider.Registration)
-named_as site None url scopes = Err (denied_by 3 decider.Registration)
+named_as site (Some kind) (Some url) None = Err (denied_by PARSE_ERROR decider.Parse)
+named_as site (Some kind) None scopes = Err (denied_by INVALID_REGISTRATION decider.Registration)
+named_as site None url scopes = Err (denied_by INVALID_REGISTRATION decider.Registration)
 
 -- a registration has a language and a lifetime first of all
 abbrev pub named : Place → Header → Registration → Result Taken Judgement
 named site h r =
-    if length h.language == 0 || r.entry.lifetime == 0 then Err (denied_by 3 decider.Registration)
+    if length h.language == 0 || r.entry.lifetime == 0 then Err (denied_by INVALID_REGISTRATION decider.Registration)
     else named_as site (result_ok (type_of r.kind)) (result_ok (url_of r.entry.url)) (result_ok (scopes_of r.scopes))
 
 -- what the code finds of it
@@ -142,7 +143,7 @@ supports site scope = list_any (λ s. bytes_eq s scope) site.scopes
 
 -- none of the scopes is supported
 abbrev pub unsupported : Taken → Option Judgement
-unsupported t = if length t.scopes == 0 then Some (Denies 4 (by_step decider.Scope (Some t.kind))) else None
+unsupported t = if length t.scopes == 0 then Some (Denies SCOPE_NOT_SUPPORTED (by_step decider.Scope (Some t.kind))) else None
 
 -- its type may not be registered in some scope
 abbrev pub denied_new : Grounds → Taken → Option Judgement
@@ -155,7 +156,7 @@ denied_old g (Some e) = denial_in g Register e.kind e.scopes
 
 -- the pair is not live, and the live entries fill the capacity
 abbrev pub no_room : Grounds → Pair → Taken → Option Judgement
-no_room g q t = if is_none (fin.get g.live q) && (nat_le g.site.capacity (fin.len g.live)) then Some (Denies 11 (by_step decider.Full (Some t.kind))) else None
+no_room g q t = if is_none (fin.get g.live q) && (nat_le g.site.capacity (fin.len g.live)) then Some (Denies DIRECTORY_BUSY (by_step decider.Full (Some t.kind))) else None
 
 -- the registration that is made
 abbrev pub putting : Grounds → Header → Registration → Taken → Putting
@@ -218,7 +219,7 @@ withdrawing g url scopes = record { moment = g.now; act = EndOf (record { url = 
 -- Where no entry is concerned the scopes are other ones. The first denial is that of the entry whose language comes first among those that may not
 -- be withdrawn.
 abbrev pub judged_concerned : Grounds → List ℕ → List (List ℕ) → Option Entry → Option Entry → Judgement
-judged_concerned g url scopes None kept = denied_by 4 decider.Scope
+judged_concerned g url scopes None kept = denied_by SCOPE_NOT_SUPPORTED decider.Scope
 judged_concerned g url scopes (Some first) kept = unwrap_or (keeps g kept) (Accepts (withdrawing g url scopes) (release g first))
 
 -- the entries concerned: those of the URL in just these scopes
@@ -233,15 +234,15 @@ judged_stored g url scopes =
     else Ignores
 
 abbrev pub judged_within : Grounds → List ℕ → List (List ℕ) → Judgement
-judged_within g url [] = denied_by 4 decider.Scope
+judged_within g url [] = denied_by SCOPE_NOT_SUPPORTED decider.Scope
 judged_within g url (s ∷ ss) = judged_stored g url (s ∷ ss)
 
 -- a URL, a list of tags and scopes that were read, each if it is one
 abbrev pub judged_from : Grounds → Option (List ℕ) → Option (List Part) → Option (List (List ℕ)) → Judgement
 judged_from g (Some url) (Some tags) (Some scopes) = judged_within g url (common_of g.site.scopes scopes)
-judged_from g (Some url) (Some tags) None = denied_by 2 decider.Parse
-judged_from g (Some url) None scopes = denied_by 2 decider.Parse
-judged_from g None tags scopes = denied_by 2 decider.Parse
+judged_from g (Some url) (Some tags) None = denied_by PARSE_ERROR decider.Parse
+judged_from g (Some url) None scopes = denied_by PARSE_ERROR decider.Parse
+judged_from g None tags scopes = denied_by PARSE_ERROR decider.Parse
 
 abbrev pub judgement_to : Grounds → Header → Withdrawal → Judgement
 judgement_to g h w = if is_unjudged h w then Waits else judged_from g (result_ok (url_of w.entry.url)) (result_ok (tags_of w.tags)) (result_ok (scopes_of w.scopes))

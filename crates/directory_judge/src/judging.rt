@@ -21,8 +21,8 @@ use crate::withdrawing::judge_withdrawal;
 use access_rules::{Action, Addr, Rules};
 use registry_core::{Entry, Registry};
 use service_url::Url;
+use slp_messages::{Header, Message, Registration, code};
 use slp_text::{Key, NoMemory, is_blank, key};
-use slp_messages::{Header, Message, Registration};
 use std::alloc::Global;
 use std::sync::Arc;
 
@@ -82,10 +82,10 @@ fn judge_entry<R: Registry>(
     let moment = u64::from(now);
     let old = live_entry(registry, &entry.url, &entry.language, moment);
     if lacks_room(registry, site, old, moment) {
-        return Ok(deny(11, Decider::Full, Some(entry.kind)));
+        return Ok(deny(code::DIRECTORY_BUSY, Decider::Full, Some(entry.kind)));
     }
     match denial_on(alloc, rules, asker, Action::Register, old)? {
-        Some(because) => Ok(Judged::Deny(4, because)),
+        Some(because) => Ok(Judged::Deny(code::SCOPE_NOT_SUPPORTED, because)),
         None => accept(alloc, rules, asker, now, entry),
     }
 }
@@ -133,11 +133,11 @@ fn judge_taken<R: Registry>(
         IsJudged live j (judged_taken (record { rules = rules.now; site = site.now; live = live; now = now; asker = asker }) header.now registration.now taken)) }
 {
     if taken.scopes.is_empty() {
-        return Ok(deny(4, Decider::Scope, Some(taken.kind)));
+        return Ok(deny(code::SCOPE_NOT_SUPPORTED, Decider::Scope, Some(taken.kind)));
     }
     let entry = founded(alloc, now, header, registration, url, taken)?;
     match denial_on(alloc, rules, asker, Action::Register, Some(&entry))? {
-        Some(because) => Ok(Judged::Deny(4, because)),
+        Some(because) => Ok(Judged::Deny(code::SCOPE_NOT_SUPPORTED, because)),
         None => judge_entry(alloc, registry, rules, site, now, asker, entry),
     }
 }

@@ -10,8 +10,8 @@ ghost use Rattle.directory_judge.specs.Judging.{names_tags as names_tags_of, is_
 use crate::because::Decider;
 use crate::site::Site;
 use service_url::{ServiceType, Url, UrlFault};
+use slp_messages::{Header, Registration, code};
 use slp_text::{NoMemory, ScopeList, TagList, TextFault};
-use slp_messages::{Header, Registration};
 use std::alloc::Global;
 
 /// What a registration names: its type, and those of its scopes that the site supports.
@@ -120,16 +120,16 @@ pub fn name(
     ensures url { IfOk result (IsNamedAt registration.now.entry.url) }
 {
     if header.language.as_str().is_empty() || registration.entry.lifetime == 0 {
-        return Ok(Named::Denied(3, Decider::Registration));
+        return Ok(Named::Denied(code::INVALID_REGISTRATION, Decider::Registration));
     }
     let Some(kind) = kind else {
-        return Ok(Named::Denied(3, Decider::Registration));
+        return Ok(Named::Denied(code::INVALID_REGISTRATION, Decider::Registration));
     };
     let Some(url) = read_url(alloc, registration.entry.url.as_str())? else {
-        return Ok(Named::Denied(3, Decider::Registration));
+        return Ok(Named::Denied(code::INVALID_REGISTRATION, Decider::Registration));
     };
     let Some(scopes) = read_supported(alloc, site, registration.scopes.as_str())? else {
-        return Ok(Named::Denied(2, Decider::Parse));
+        return Ok(Named::Denied(code::PARSE_ERROR, Decider::Parse));
     };
     Ok(Named::Taken(url, Taken { kind, scopes }))
 }

@@ -21,8 +21,8 @@ use crate::site::Site;
 use access_rules::{Action, Addr, Rules};
 use registry_core::{Entry, Registry};
 use service_url::Url;
+use slp_messages::{Header, Withdrawal, code};
 use slp_text::{NoMemory, ScopeList};
-use slp_messages::{Header, Withdrawal};
 use std::alloc::Global;
 use std::cmp::Ordering;
 use std::sync::Arc;
@@ -148,11 +148,11 @@ fn judge_stored<R: Registry>(
         return Ok(Judged::Nothing);
     }
     let Some(entry) = first(registry, rules, moment, asker, &url, &scopes, false) else {
-        return Ok(deny(4, Decider::Scope, None));
+        return Ok(deny(code::SCOPE_NOT_SUPPORTED, Decider::Scope, None));
     };
     let kept = first(registry, rules, moment, asker, &url, &scopes, true);
     match denial_on(alloc, rules, asker, Action::Withdraw, kept)? {
-        Some(because) => Ok(Judged::Deny(4, because)),
+        Some(because) => Ok(Judged::Deny(code::SCOPE_NOT_SUPPORTED, because)),
         None => release(alloc, rules, now, asker, entry, url, scopes),
     }
 }
@@ -193,14 +193,14 @@ pub fn judge_withdrawal<R: Registry>(
         return Ok(Judged::Unjudged);
     }
     if tags.is_none() {
-        return Ok(deny(2, Decider::Parse, None));
+        return Ok(deny(code::PARSE_ERROR, Decider::Parse, None));
     }
     let Some(withdrawn) = read_withdrawn(alloc, site, withdrawal)? else {
-        return Ok(deny(2, Decider::Parse, None));
+        return Ok(deny(code::PARSE_ERROR, Decider::Parse, None));
     };
     let Withdrawn { url, scopes } = withdrawn;
     if scopes.is_empty() {
-        return Ok(deny(4, Decider::Scope, None));
+        return Ok(deny(code::SCOPE_NOT_SUPPORTED, Decider::Scope, None));
     }
     judge_stored(alloc, registry, rules, site, now, asker, url, scopes)
 }

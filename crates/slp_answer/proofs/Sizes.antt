@@ -13,11 +13,8 @@ use Rattle.slp_answer.specs.Cutting.{reply_of}
 abbrev pub size : List UrlEntry → ℕ
 size es = length (flat_map (entry_bytes 0) es)
 
-size_of_one : (e : UrlEntry) (es : List UrlEntry) → size (e ∷ es) ≡ 6 + length e.url + size es
-size_of_one e es =
-    let whole : length (entry_bytes 0 e ++ flat_map (entry_bytes 0) es) ≡ length (entry_bytes 0 e) + size es = length-append (entry_bytes 0 e) (flat_map (entry_bytes 0) es) in
-    let one : length (entry_bytes 0 e) ≡ 6 + length e.url = omega (arith, length-append e.url (0 ∷ [])) in
-    omega (arith, whole, one)
+size_of_one : (e : UrlEntry) (es : List UrlEntry) → size (e ∷ es) ≡ length (entry_bytes 0 e) + size es
+size_of_one e es = length-append (entry_bytes 0 e) (flat_map (entry_bytes 0) es)
 
 pub size_grows : (es : List UrlEntry) (i k : ℕ) → i ≤ k → size (take i es) ≤ size (take k es)
 size_grows [] zero zero h = omega arith
@@ -32,20 +29,20 @@ size_grows (e ∷ es) (suc i) (suc k) h =
 
 pub reply_size : (h : Header) (items : List UrlEntry) (k : ℕ) → length (plain (reply_of h items k)) ≡ 18 + length h.language + size (take k items)
 reply_size h items k =
-    omega (arith, length-append h.language (body_of (reply_of h items k)))
+    omega (arith, length-append h.language (body_of (reply_of h items k)), length-append (flat_map (entry_bytes 0) (take k items)) [])
 
-size_more : (es : List UrlEntry) (i : ℕ) (e : UrlEntry) → i < length es → e ≡ get_or es i e → size (take (suc i) es) ≡ 6 + length e.url + size (take i es)
+size_more : (es : List UrlEntry) (i : ℕ) (e : UrlEntry) → i < length es → e ≡ get_or es i e → size (take (suc i) es) ≡ length (entry_bytes 0 e) + size (take i es)
 size_more [] i e h g = omega arith
-size_more (x ∷ es) zero e h g = let same = ap (λ (y : UrlEntry). length y.url) g in omega (arith, same, size_of_one x [])
+size_more (x ∷ es) zero e h g = let same = ap (λ (y : UrlEntry). length (entry_bytes 0 y)) g in omega (arith, same, size_of_one x [])
 size_more (x ∷ es) (suc i) e h g =
     let rest = size_more es i e (omega arith) g in
-    let one : size (take (suc (suc i)) (x ∷ es)) ≡ 6 + length x.url + size (take (suc i) es) = size_of_one x (take (suc i) es) in
-    let other : size (take (suc i) (x ∷ es)) ≡ 6 + length x.url + size (take i es) = size_of_one x (take i es) in
+    let one : size (take (suc (suc i)) (x ∷ es)) ≡ length (entry_bytes 0 x) + size (take (suc i) es) = size_of_one x (take (suc i) es) in
+    let other : size (take (suc i) (x ∷ es)) ≡ length (entry_bytes 0 x) + size (take i es) = size_of_one x (take i es) in
     omega (arith, rest, one, other)
 
 -- where the item at a place does not fit, no longer prefix fits
 pub is_longest : (h : Header) (items : List UrlEntry) (count left tag limit other : ℕ) (e : UrlEntry) → count < length items → e ≡ get_or items count e
-    → 18 + tag + size (take count items) + left ≡ limit → left < 6 + length e.url → length h.language ≡ tag
+    → 18 + tag + size (take count items) + left ≡ limit → left < length (entry_bytes 0 e) → length h.language ≡ tag
     → length (plain (reply_of h items other)) ≤ limit → other ≤ count
 is_longest h items count left tag limit other e inside here sum short language fits =
     elim (cases_lt count other) [

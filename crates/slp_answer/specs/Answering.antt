@@ -10,6 +10,8 @@ use Rattle.slp_headers.specs.Headers.{Heading, heading_of, refusal_bytes, reply_
 use Rattle.slp_wire.specs.Reading.{reading}
 use Rattle.slp_fields.specs.declared.fault.WireFault.{WireFault}
 use Rattle.slp_fields.specs.declared.fault.WireFault.TheVariants as fault
+use Rattle.slp_messages.specs.declared.code.TheConstants.{OK, PARSE_ERROR, SCOPE_NOT_SUPPORTED, AUTHENTICATION_UNKNOWN, VERSION_NOT_SUPPORTED, OPTION_NOT_UNDERSTOOD}
+use Rattle.slp_messages.specs.declared.function.TheConstants.{SERVICE_REPLY, REGISTRATION, WITHDRAWAL, ACKNOWLEDGEMENT}
 use Rattle.slp_messages.specs.declared.header.Header.{Header}
 use Rattle.slp_messages.specs.declared.message.Message.{Message}
 use Rattle.slp_messages.specs.declared.message.Message.TheVariants as message
@@ -45,7 +47,7 @@ use Rattle.slp_answer.specs.Refusing.{action_of, is_unsent}
 
 -- a readable header of a registration or a withdrawal
 unfoldable pub is_change_of : List ℕ → Bool
-is_change_of bytes = option_map_or (λ h. h.function == 3 || h.function == 4) (heading_of bytes) false
+is_change_of bytes = option_map_or (λ h. h.function == REGISTRATION || h.function == WITHDRAWAL) (heading_of bytes) false
 
 -- ---- service requests
 
@@ -112,19 +114,19 @@ abbrev pub nobody : Because
 nobody = by_step decider.Nobody None
 
 abbrev pub acknowledged : List AnyRule → ℕ → Action → Header → Judgement → Told
-acknowledged rs asker action h (Accepts c because) = telling rs (audit_of asker action 0 because) (coded 5 h 0)
-acknowledged rs asker action h Ignores = telling rs (audit_of asker action 0 nobody) (coded 5 h 0)
-acknowledged rs asker action h (Denies code because) = telling rs (audit_of asker action code because) (coded 5 h code)
+acknowledged rs asker action h (Accepts c because) = telling rs (audit_of asker action OK because) (coded ACKNOWLEDGEMENT h OK)
+acknowledged rs asker action h Ignores = telling rs (audit_of asker action OK nobody) (coded ACKNOWLEDGEMENT h OK)
+acknowledged rs asker action h (Denies code because) = telling rs (audit_of asker action code because) (coded ACKNOWLEDGEMENT h code)
 acknowledged rs asker action h Waits = silence
 
 -- ---- bytes that are no message that is read
 
 -- the code of a fault, and the name of the step that asks for it
 abbrev pub code_of_fault : WireFault → Option (ℕ × Decider)
-code_of_fault fault.Version = Some (9, decider.Version)
-code_of_fault fault.Parse = Some (2, decider.Parse)
-code_of_fault fault.Auth = Some (5, decider.Auth)
-code_of_fault fault.Option = Some (12, decider.Option)
+code_of_fault fault.Version = Some (VERSION_NOT_SUPPORTED, decider.Version)
+code_of_fault fault.Parse = Some (PARSE_ERROR, decider.Parse)
+code_of_fault fault.Auth = Some (AUTHENTICATION_UNKNOWN, decider.Auth)
+code_of_fault fault.Option = Some (OPTION_NOT_UNDERSTOOD, decider.Option)
 code_of_fault fault.NoHeader = None
 code_of_fault fault.Unknown = None
 code_of_fault fault.NoMemory = None
@@ -153,27 +155,27 @@ faulted rs asker (Some h) e = faulted_by rs asker h (reply_function_of h.functio
 
 -- why none of the scopes of a request is answered for, and why it is answered
 abbrev pub unsupported_audit : ℕ → ServiceQuery → Audit
-unsupported_audit asker q = audit_of asker See 4 (by_step decider.Scope (Some q.kind))
+unsupported_audit asker q = audit_of asker See SCOPE_NOT_SUPPORTED (by_step decider.Scope (Some q.kind))
 
 abbrev pub found_audit : ℕ → ServiceQuery → Audit
-found_audit asker q = audit_of asker See 0 (by_step decider.Nobody (Some q.kind))
+found_audit asker q = audit_of asker See OK (by_step decider.Nobody (Some q.kind))
 
 -- what is told of a question: none of its scopes is supported, or these services are found
 pub data IsFound (opening : List AnyRule) (site : Place) (h : History) (m asker limit : ℕ) (sent : Header) (q : ServiceQuery) (t : Told) : Type 0 where
   Unsupported : list_any (supports site) q.scopes ≡ false
-      → t ≡ telling (rules opening h) (unsupported_audit asker q) (coded 2 sent 4) → IsFound opening site h m asker limit sent q t
+      → t ≡ telling (rules opening h) (unsupported_audit asker q) (coded SERVICE_REPLY sent SCOPE_NOT_SUPPORTED) → IsFound opening site h m asker limit sent q t
   Listed : IsTrue (list_any (supports site) q.scopes) → (items : List UrlEntry) → AreServices opening site h m asker q items
       → (reply : List ℕ) → IsCut sent items limit reply
       → t ≡ telling (rules opening h) (found_audit asker q) reply → IsFound opening site h m asker limit sent q t
 
 -- why a request is not read
 abbrev pub unreadable_audit : ℕ → Audit
-unreadable_audit asker = audit_of asker See 2 (by_step decider.Parse None)
+unreadable_audit asker = audit_of asker See PARSE_ERROR (by_step decider.Parse None)
 
 -- what is told of what is asked
 abbrev pub IsToldOf : List AnyRule → Place → History → ℕ → ℕ → ℕ → Header → Question → Told → Type 0
 IsToldOf opening site h m asker limit header Silent t = t ≡ silence
-IsToldOf opening site h m asker limit header Unreadable t = t ≡ telling (rules opening h) (unreadable_audit asker) (coded 2 header 2)
+IsToldOf opening site h m asker limit header Unreadable t = t ≡ telling (rules opening h) (unreadable_audit asker) (coded SERVICE_REPLY header PARSE_ERROR)
 IsToldOf opening site h m asker limit header (Asks query) t = IsFound opening site h m asker limit header query t
 
 -- what is told of a service request

@@ -1,5 +1,6 @@
 -- What bytes that come in are read as.
 use Rattle.std.specs.Prelude.{◌≡◌, ℕ, Bool, ◌==◌, ◌||◌, List, Option, Some, None, Ok, Err}
+use Rattle.slp_messages.specs.declared.function.TheConstants.{REGISTRATION, WITHDRAWAL}
 use Rattle.slp_messages.specs.Messages.{IsMessage, function_of}
 use Rattle.slp_wire.specs.Reading.{reading}
 use Rattle.slp_fields.specs.declared.fault.WireFault.{WireFault}
@@ -11,7 +12,7 @@ use Rattle.slp_answer.specs.Answering.{is_change_of}
 
 -- a registration or a withdrawal, by its function
 abbrev pub may_change : Message → Bool
-may_change m = function_of m == 3 || function_of m == 4
+may_change m = function_of m == REGISTRATION || function_of m == WITHDRAWAL
 
 -- the bytes are read as this message, and their header says whether it may change something
 pub record IsRead (bytes : List ℕ) (m : Message) : Type 0 where

@@ -1,5 +1,6 @@
 ghost use Rattle.std.specs.Prelude.{◌≡◌, [], true, List, Option, IfOk, OnErr};
 ghost use Rattle.slp_headers.specs.Headers.{Heading};
+ghost use Rattle.slp_messages.specs.declared.function.TheConstants.{ACKNOWLEDGEMENT};
 ghost use Rattle.slp_messages.specs.Messages.{IsMessage, header_of};
 ghost use Rattle.access_rules.specs.declared.rule.Rule.{Rule as AnyRule};
 ghost use Rattle.directory_judge.specs.History.{History};
@@ -19,7 +20,7 @@ use directory_judge::{Because, Change, Decider, Judged};
 use directory_state::Directory;
 use registry_core::Registry;
 use slp_text::NoMemory;
-use slp_wire::{Header, Message};
+use slp_wire::{Header, Message, code, function};
 use std::alloc::Global;
 
 // What a message asks for: a withdrawal, or a registration.
@@ -55,7 +56,7 @@ fn acknowledge_with<R: Registry>(
 ) -> Result<Sent, NoMemory>
     requires no_reply { answer.old.bytes.items ≡ [] }
     requires no_line { answer.old.audit.items ≡ [] }
-    ensures { IfOk result (λ what. Tells (telling directory.now.rules (audit_of asker action code because) (coded 5 header.now code)) what answer.new.bytes.items answer.new.audit.items) }
+    ensures { IfOk result (λ what. Tells (telling directory.now.rules (audit_of asker action code because) (coded ACKNOWLEDGEMENT header.now code)) what answer.new.bytes.items answer.new.audit.items) }
 {
     let audit = Audit {
         code,
@@ -63,7 +64,13 @@ fn acknowledge_with<R: Registry>(
         action,
         asker,
     };
-    let sent = send_coded(directory.rules(), header, 5, &audit, answer);
+    let sent = send_coded(
+        directory.rules(),
+        header,
+        function::ACKNOWLEDGEMENT,
+        &audit,
+        answer,
+    );
     drop(audit);
     sent
 }
@@ -88,7 +95,7 @@ fn acknowledge_message<R: Registry>(
     let judged = directory.judge(alloc, moment, asker, message)?;
     match judged {
         Judged::Accept(change, because) => {
-            match acknowledge_with(directory, asker, action, header, 0, because, answer) {
+            match acknowledge_with(directory, asker, action, header, code::OK, because, answer) {
                 Ok(sent) => Ok((sent, Some(change))),
                 Err(fault) => {
                     drop(change);
@@ -102,7 +109,15 @@ fn acknowledge_message<R: Registry>(
                 kind: None,
                 scope: None,
             };
-            let sent = acknowledge_with(directory, asker, action, header, 0, nobody, answer)?;
+            let sent = acknowledge_with(
+                directory,
+                asker,
+                action,
+                header,
+                code::OK,
+                nobody,
+                answer,
+            )?;
             Ok((sent, None))
         }
         Judged::Unjudged => Ok((Sent::Silence, None)),

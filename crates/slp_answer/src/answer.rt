@@ -1,7 +1,8 @@
 ghost use Rattle.std.specs.Prelude.{◌≡◌, ◌==◌, ◌||◌, []};
+ghost use Rattle.slp_messages.specs.declared.function.TheConstants.{REGISTRATION, WITHDRAWAL};
 ghost use Rattle.slp_answer.specs.Answering.{is_change_of};
 
-use slp_wire::read_header;
+use slp_wire::{function, read_header};
 use std::alloc::Global;
 
 /// The bytes of a reply, and those of its audit line. Either may be empty.
@@ -42,9 +43,9 @@ pub enum Sent {
 
 // Whether a message of a function may change something.
 fn is_change_function(function: u8) -> bool
-    ensures { result ≡ (function == 3 || function == 4) }
+    ensures { result ≡ (function == REGISTRATION || function == WITHDRAWAL) }
 {
-    function == 3 || function == 4
+    function == function::REGISTRATION || function == function::WITHDRAWAL
 }
 
 /// Whether bytes ask for a change: they have a readable header of a registration or a withdrawal.

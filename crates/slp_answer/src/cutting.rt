@@ -3,13 +3,10 @@ ghost use Rattle.slp_wire.specs.Spelling.{plain};
 ghost use Rattle.slp_messages.specs.declared.header.Header.{Header};
 ghost use Rattle.slp_answer.specs.Cutting.{reply_of};
 
-use slp_wire::UrlEntry;
+use slp_wire::{UrlEntry, entry_length, place};
 
-// The bytes of a reply with no item, but for the language tag.
-const EMPTY_REPLY: usize = 18;
-
-// The bytes of a URL entry, but for its URL.
-const EMPTY_ENTRY: usize = 6;
+// The bytes of a reply with no item, but for the language tag: a header, a code and a count.
+const EMPTY_REPLY: usize = place::TAG + 2 + 2;
 
 /// How many whole items, from the front, a reply to a request with a language tag of this length
 /// takes within a limit, all in bytes (RFC 2608, section 8.2).
@@ -24,11 +21,11 @@ pub fn fitting(items: &[UrlEntry], tag: usize, limit: usize) -> usize
     }
     let mut left = limit - EMPTY_REPLY - tag;
     for (count, item) in items.iter().enumerate() {
-        let url = item.url.as_str().len();
-        if left < EMPTY_ENTRY || left - EMPTY_ENTRY < url {
+        let length = entry_length(item);
+        if left < length {
             return count;
         }
-        left -= EMPTY_ENTRY + url;
+        left -= length;
     }
     items.len()
 }

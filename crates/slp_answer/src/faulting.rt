@@ -11,17 +11,17 @@ use crate::sending::put_code;
 use access_rules::{Addr, Rules};
 use directory_judge::{Because, Decider};
 use slp_text::NoMemory;
-use slp_wire::{HeaderView, WireFault, read_header, reply_function};
+use slp_wire::{HeaderView, WireFault, code, read_header, reply_function};
 
 // The code of a fault (RFC 2608, section 7), and the step that asks for it.
 fn code_in(fault: WireFault) -> Option<(u16, Decider)>
     ensures { result ≡ code_of_fault fault }
 {
     match fault {
-        WireFault::Version => Some((9, Decider::Version)),
-        WireFault::Parse => Some((2, Decider::Parse)),
-        WireFault::Auth => Some((5, Decider::Auth)),
-        WireFault::Option => Some((12, Decider::Option)),
+        WireFault::Version => Some((code::VERSION_NOT_SUPPORTED, Decider::Version)),
+        WireFault::Parse => Some((code::PARSE_ERROR, Decider::Parse)),
+        WireFault::Auth => Some((code::AUTHENTICATION_UNKNOWN, Decider::Auth)),
+        WireFault::Option => Some((code::OPTION_NOT_UNDERSTOOD, Decider::Option)),
         WireFault::NoHeader => None,
         WireFault::Unknown => None,
         WireFault::NoMemory => None,

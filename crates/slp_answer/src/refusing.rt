@@ -1,18 +1,13 @@
 ghost use Rattle.std.specs.Prelude.{◌≡◌, ◌≤◌, ◌+◌, ◌++◌, ◌∷◌, [], length, take, codes, if◌then◌else◌};
 ghost use Rattle.std.specs.Fmt.{decimal};
 ghost use Rattle.slp_headers.specs.Headers.{heading, refusal_bytes};
+ghost use Rattle.slp_messages.specs.declared.code.TheConstants.{INTERNAL_ERROR};
 ghost use Rattle.slp_answer.specs.Auditing.{action_text, addr_text};
 ghost use Rattle.slp_answer.specs.Refusing.{action_of, is_unsent, refused_line, refused_reply};
 
 use crate::audit::action_word;
 use access_rules::{Action, Addr};
-use slp_wire::{HeaderView, error_reply, read_header, reply_function};
-
-/// The code of an error of the agent's own (RFC 2608, section 7).
-const INTERNAL_ERROR: u16 = 10;
-
-// The flag that a request was sent to many.
-const MULTICAST: u16 = 0x2000;
+use slp_wire::{HeaderView, code, error_reply, flag, function, read_header, reply_function};
 
 // ---- each function below writes at a place, and answers the place behind what it wrote
 
@@ -105,8 +100,8 @@ pub(crate) fn action_in(function: u8) -> Action
     ensures { result ≡ action_of function }
 {
     match function {
-        3 => Action::Register,
-        4 => Action::Withdraw,
+        function::REGISTRATION => Action::Register,
+        function::WITHDRAWAL => Action::Withdraw,
         _ => Action::See,
     }
 }
@@ -115,17 +110,21 @@ pub(crate) fn action_in(function: u8) -> Action
 pub(crate) fn is_silent(header: &HeaderView<'_>) -> bool
     ensures { result ≡ is_unsent (heading header.now) }
 {
-    header.flags & MULTICAST != 0 && matches!(header.function, 1 | 6 | 9)
+    header.flags & flag::MULTICAST != 0
+        && matches!(
+            header.function,
+            function::SERVICE_REQUEST | function::ATTRIBUTE_REQUEST | function::TYPE_REQUEST
+        )
 }
 
 fn put_reply(header: &HeaderView<'_>, function: u8, reply: &mut [u8; 80]) -> usize
-    ensures bytes { take result reply.new ≡ (if is_unsent (heading header.now) then [] else refusal_bytes function 10 header.now.xid header.now.language.now) }
+    ensures bytes { take result reply.new ≡ (if is_unsent (heading header.now) then [] else refusal_bytes function INTERNAL_ERROR header.now.xid header.now.language.now) }
     ensures room { result ≤ 80 }
 {
     if is_silent(header) {
         0
     } else {
-        error_reply(header, function, INTERNAL_ERROR, reply)
+        error_reply(header, function, code::INTERNAL_ERROR, reply)
     }
 }
 

@@ -1,6 +1,7 @@
 ghost use Rattle.std.specs.Prelude.{◌≡◌, ◌≤◌, [], false, ℕ, List, Option, Some, IfOk, OnErr};
 ghost use Rattle.std.specs.Prelude.{Ok as Read};
 ghost use Rattle.slp_headers.specs.Headers.{Heading};
+ghost use Rattle.slp_messages.specs.declared.function.TheConstants.{SERVICE_REPLY};
 ghost use Rattle.access_rules.specs.declared.rule.Action.TheVariants.{See};
 ghost use Rattle.access_rules.specs.declared.rule.Rule.{Rule as AnyRule};
 ghost use Rattle.directory_judge.specs.History.{History};
@@ -25,7 +26,7 @@ use directory_state::{Directory, QueryFault, ServiceQuery};
 use registry_core::Registry;
 use service_url::ServiceType;
 use slp_text::{NoMemory, Row};
-use slp_wire::{Header, Message, ServiceReply, ServiceRequest, UrlEntry};
+use slp_wire::{Header, Message, ServiceReply, ServiceRequest, UrlEntry, code, function};
 use std::alloc::Global;
 
 // What is told of a question, of which a type may be known.
@@ -65,7 +66,7 @@ fn answer_found<R: Registry>(
     let header = reply_header(alloc, header, overflow)?;
     items.truncate(count);
     let message = Message::ServiceReply(header, ServiceReply::Found(Row::wrap(items)));
-    let audit = seen(asker, 0, Decider::Nobody, Some(kind));
+    let audit = seen(asker, code::OK, Decider::Nobody, Some(kind));
     let sent = send(directory.rules(), &message, &audit, answer);
     drop(message);
     drop(audit);
@@ -81,9 +82,15 @@ fn answer_code<R: Registry>(
 ) -> Result<Sent, NoMemory>
     requires no_reply { answer.old.bytes.items ≡ [] }
     requires no_line { answer.old.audit.items ≡ [] }
-    ensures { IfOk result (λ what. Tells (telling directory.now.rules audit (coded 2 header.now audit.code)) what answer.new.bytes.items answer.new.audit.items) }
+    ensures { IfOk result (λ what. Tells (telling directory.now.rules audit (coded SERVICE_REPLY header.now audit.code)) what answer.new.bytes.items answer.new.audit.items) }
 {
-    let sent = send_coded(directory.rules(), header, 2, &audit, answer);
+    let sent = send_coded(
+        directory.rules(),
+        header,
+        function::SERVICE_REPLY,
+        &audit,
+        answer,
+    );
     drop(audit);
     sent
 }
@@ -107,7 +114,7 @@ fn answer_request<R: Registry>(
     let query = match read_question(alloc, header, request)? {
         Question::Silent => return Ok(Sent::Silence),
         Question::Unreadable => {
-            let audit = seen(asker, 2, Decider::Parse, None);
+            let audit = seen(asker, code::PARSE_ERROR, Decider::Parse, None);
             return answer_code(directory, header, audit, answer);
         }
         Question::Asks(query) => query,
@@ -121,7 +128,7 @@ fn answer_request<R: Registry>(
     match found {
         Ok(items) => answer_found(alloc, directory, asker, header, kind, items, limit, answer),
         Err(QueryFault::Scope) => {
-            let audit = seen(asker, 4, Decider::Scope, Some(kind));
+            let audit = seen(asker, code::SCOPE_NOT_SUPPORTED, Decider::Scope, Some(kind));
             answer_code(directory, header, audit, answer)
         }
         Err(_) => Err(NoMemory),
