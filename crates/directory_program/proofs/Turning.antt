@@ -1,5 +1,6 @@
 -- What each order makes of a session.
 use Rattle.std.proofs.Common.{◌≡◌, ℕ, ◌+◌, Bool, true, false, List, [], ◌∷◌, ◌++◌, Option, Some, None, Result, Ok, Err, codes, refl, sym, ap, subst, ◌∙◌, inl, inr}
+use Rattle.std.specs.Prelude.{MatchResult}
 use Rattle.std.specs.Option.{option_map, option_map_or}
 use Rattle.hex.specs.Hex.{encode_lower}
 use Rattle.site_config.specs.Configuring.{config_of}
@@ -81,3 +82,8 @@ TurnsTo-outside p l now q off number turns =
 pub TurnsTo-inside : (p : Place) (l now : List ℕ) (q : Place) (b : Block) → p.block ≡ Some b → q.number ≡ p.number + 1 → TurnsInside p.session l b now q.session q.block → TurnsTo p l now q
 TurnsTo-inside p l now q b within number turns =
     record { number = number; turns = subst (λ (o : Option Block). Turns o p l now q) (sym within) turns }
+
+-- more is known where it ended well
+pub MatchResult-more : {A E : Type 0} (r : Result A E) (P Q : A → Type 0) (R : E → Type 0) → ((x : A) → P x → Q x) → MatchResult r P R → MatchResult r Q R
+MatchResult-more (Ok x) P Q R more h = more x h
+MatchResult-more (Err e) P Q R more h = h

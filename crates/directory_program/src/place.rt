@@ -2,7 +2,8 @@ ghost use Rattle.std.specs.Prelude.{◌≡◌, ◌≤◌, ◌<◌, ◌+◌, ◌^
 ghost use Rattle.std.specs.Io.KnownBytes.{Appends, Keeps};
 ghost use Rattle.std.specs.Option.{option_map, option_copied};
 ghost use Rattle.directory_program.specs.Commands.{longest_line};
-ghost use Rattle.directory_program.specs.Holding.{fault_told, config_told};
+ghost use Rattle.directory_program.specs.Commands.{Single, Udp as Datagram, Tcp as Piece, Tidy as Sweeping};
+ghost use Rattle.directory_program.specs.Holding.{Acts, fault_told, config_told};
 ghost use Rattle.directory_program.specs.Standing.{Closes, lengthened, TurnsOutside, TurnsInside, OutsideFails, InsideFails, TurnsTo, TurnFails};
 ghost use Rattle.directory_program.specs.declared.fault.RunFault.TheVariants.{Write as Unwritten, NoMemory as Lacking};
 
@@ -96,6 +97,58 @@ fn close<W: Write>(
     }
 }
 
+// Answers a datagram, after which it is too late for another site.
+fn take_datagram<W: Write>(
+    session: &mut Session,
+    alloc: Global,
+    bytes: Vec<u8>,
+    answer: &mut Answer,
+    writer: &mut W,
+) -> Result<(), RunFault>
+    ensures { MatchResult result
+        (λ _. (now : List ℕ) × Appends (W.contents writer.old) (W.contents writer.new) now × Acts session.old (Single (Datagram bytes.items)) now session.new)
+        (λ e. e ≡ Unwritten) }
+{
+    session.late = true;
+    meet(
+        session,
+        alloc,
+        bytes.as_slice(),
+        LONGEST_REPLY,
+        answer,
+        writer,
+    )
+}
+
+// Takes the next bytes of the stream, after which it is too late for another site.
+fn take_stream<W: Write>(
+    session: &mut Session,
+    alloc: Global,
+    bytes: Vec<u8>,
+    answer: &mut Answer,
+    writer: &mut W,
+) -> Result<(), RunFault>
+    ensures { MatchResult result
+        (λ _. (now : List ℕ) × Appends (W.contents writer.old) (W.contents writer.new) now × Acts session.old (Single (Piece bytes.items)) now session.new)
+        (λ e. (e ≡ Unwritten) ⊎ ((e ≡ Lacking) × Keeps (W.contents writer.old) (W.contents writer.new))) }
+{
+    session.late = true;
+    take_piece(session, alloc, bytes.as_slice(), answer, writer)
+}
+
+// Drops what is dead, and says so.
+fn sweep<W: Write>(session: &mut Session, writer: &mut W) -> Result<(), RunFault>
+    ensures { MatchResult result
+        (λ _. (now : List ℕ) × Appends (W.contents writer.old) (W.contents writer.new) now × Acts session.old (Single Sweeping) now session.new)
+        (λ e. e ≡ Unwritten) }
+{
+    session.tidy();
+    match writer.write_all(b"# sweep\n") {
+        Ok(()) => Ok(()),
+        Err(_) => Err(RunFault::Write),
+    }
+}
+
 // Carries out a line outside a block: the block that it begins, if it begins one, at this number.
 fn turn_outside<W: Write>(
     session: &mut Session,
@@ -114,28 +167,10 @@ fn turn_outside<W: Write>(
         Said::Blank => {}
         Said::At(moment) => session.moment = moment,
         Said::From(asker) => session.asker = Addr(asker),
-        Said::Udp(bytes) => {
-            session.late = true;
-            meet(
-                session,
-                alloc,
-                bytes.as_slice(),
-                LONGEST_REPLY,
-                answer,
-                writer,
-            )?;
-        }
+        Said::Udp(bytes) => take_datagram(session, alloc, bytes, answer, writer)?,
         Said::Open => session.stream = Framer::new(alloc, LONGEST_ON_STREAM),
-        Said::Tcp(bytes) => {
-            session.late = true;
-            take_piece(session, alloc, bytes.as_slice(), answer, writer)?;
-        }
-        Said::Tidy => {
-            session.tidy();
-            if writer.write_all(b"# sweep\n").is_err() {
-                return Err(RunFault::Write);
-            }
-        }
+        Said::Tcp(bytes) => take_stream(session, alloc, bytes, answer, writer)?,
+        Said::Tidy => sweep(session, writer)?,
         Said::Opens => {
             let text = Some(String::new(alloc));
             return Ok(Some(Block {

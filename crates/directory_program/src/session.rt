@@ -1,17 +1,19 @@
-ghost use Rattle.std.specs.Prelude.{◌≡◌, ◌≤◌, IfOk, MatchResult, string_bytes};
+ghost use Rattle.std.specs.Prelude.{◌≡◌, ◌≤◌, [], IfOk, MatchResult, string_bytes};
 ghost use Rattle.std.specs.Option.{option_map, option_map_or, option_copied};
-ghost use Rattle.site_config.specs.Configuring.{config_of};
+ghost use Rattle.access_rules.specs.Opening.{opening_rules};
+ghost use Rattle.directory_state.specs.Folding.{Fold};
+ghost use Rattle.directory_state.specs.State.{beginning};
+ghost use Rattle.directory_program.specs.Running.{place_of};
+ghost use Rattle.site_config.specs.Configuring.{config_of, IsWithin};
 ghost use Rattle.site_config.specs.declared.fault.ConfigFault.TheVariants.{Range};
-ghost use Rattle.std.specs.FinMap as fin;
 ghost use Rattle.hex.specs.Hex.{encode_lower};
-ghost use Rattle.registry_core.specs.Entries.{of_list};
 ghost use Rattle.slp_answer.specs.Answering.{code_of};
 ghost use Rattle.directory_program.specs.Sites.{opening_place};
 
 use access_rules::{Addr, Rules};
 use directory_judge::{Change, Site};
 use directory_state::Directory;
-use registry_core::{ListRegistry, RegistryFault};
+use registry_core::ListRegistry;
 use site_config::{Config, ConfigFault};
 use slp_answer::{Answer, Sent, acknowledge, is_change, reply};
 use slp_stream::Framer;
@@ -59,19 +61,32 @@ fn opening_site(alloc: Global) -> Result<Site, NoMemory>
     }
 }
 
-// A registry of no entry.
-fn opening_registry(alloc: Global) -> Result<ListRegistry, NoMemory>
-    ensures empty { IfOk result (λ r. of_list r.entries ≡ fin.empty) }
-    ensures limit { IfOk result (λ r. r.limit ≡ 16) }
+// The site that a configuration describes.
+fn site_of(config: Config) -> Site
+    requires { IsWithin config }
+    ensures { result ≡ place_of config }
 {
-    match ListRegistry::new(alloc, CAPACITY) {
-        Ok(registry) => Ok(registry),
+    let Config {
+        scopes,
+        capacity,
+        ..
+    } = config;
+    Site::new(scopes, capacity, BOOT)
+}
+
+// A directory to which nothing happened, with rules that allow everything to everyone.
+fn begin(alloc: Global, site: &Site) -> Result<Directory<ListRegistry>, NoMemory>
+    ensures state { IfOk result (λ d. d ≡ beginning opening_rules site.now) }
+    ensures fold { IfOk result (λ d. Fold opening_rules site.now [] d) }
+{
+    let rules = Arc::new(alloc, Rules::opening(alloc)?)?;
+    match ListRegistry::new(alloc, site.capacity()) {
+        Ok(registry) => Directory::open(alloc, registry, site, rules),
         Err(_) => Err(NoMemory),
     }
 }
 
 impl Session {
-    ghost use Rattle.access_rules.specs.Opening.{opening_rules};
     ghost use Rattle.directory_judge.specs.History.{History};
     ghost use Rattle.slp_answer.specs.Answering.{Told, Tells, HandsOut, IsAnswer};
     ghost use Rattle.directory_program.specs.Opening.{opening_session};
@@ -84,10 +99,8 @@ impl Session {
         ensures { IfOk result (λ s. s ≡ opening_session) }
     {
         let site = opening_site(alloc)?;
-        let registry = opening_registry(alloc)?;
-        let rules = Arc::new(alloc, Rules::opening(alloc)?)?;
         Ok(Session {
-            directory: Directory::open(alloc, registry, &site, rules)?,
+            directory: begin(alloc, &site)?,
             moment: 0,
             asker: FIRST_ASKER,
             stream: Framer::new(alloc, LONGEST_ON_STREAM),
@@ -108,23 +121,15 @@ impl Session {
         let Some(text) = text else {
             return Ok(Err(ConfigFault::Range));
         };
-        let config = match Config::from_text(alloc, text) {
-            Ok(config) => config,
-            Err(ConfigFault::NoMemory) => return Err(NoMemory),
-            Err(fault) => return Ok(Err(fault)),
-        };
-        let Config {
-            scopes,
-            capacity,
-            ..
-        } = config;
-        let site = Site::new(scopes, capacity, BOOT);
-        let Ok(registry) = ListRegistry::new(alloc, capacity) else {
-            return Err(NoMemory);
-        };
-        let rules = Arc::new(alloc, Rules::opening(alloc)?)?;
-        self.directory = Directory::open(alloc, registry, &site, rules)?;
-        Ok(Ok(()))
+        match Config::from_text(alloc, text) {
+            Ok(config) => {
+                let site = site_of(config);
+                self.directory = begin(alloc, &site)?;
+                Ok(Ok(()))
+            }
+            Err(ConfigFault::NoMemory) => Err(NoMemory),
+            Err(fault) => Ok(Err(fault)),
+        }
     }
 
     /// Sweeps at the moment that was set, or at the clock where that is greater.

@@ -8,14 +8,10 @@ use Rattle.directory_program.specs.declared.session.Session.{Session}
 use Rattle.directory_program.proofs.Known.{Keeps-same, Appends-none}
 use Rattle.directory_program.proofs.Turning.{Acts-blank, Acts-at, Acts-from, Acts-udp, Acts-open, Acts-tcp, Acts-tidy}
 use Rattle.directory_program.proofs.place.turn_outside.Goals as goal
-use Rattle.directory_program.proofs.place.turn_outside.Goals.{in-Blank, in-At, in-From, in-Udp+in_ok-meet-in-Udp, in-Open, in-Tcp+in_ok-take_piece-in-Tcp, in-Tidy+else-is_err}
+use Rattle.directory_program.proofs.place.turn_outside.Goals.{in-Blank, in-At, in-From, in-Udp+in_ok-take_datagram-in-Udp, in-Open, in-Tcp+in_ok-take_stream-in-Tcp, in-Tidy+in_ok-sweep-in-Tidy}
 
 Acts-same : (s : Session) (c : Command) (now : List ℕ) (t u : Session) → Acts s c now t → u ≡ t → Acts s c now u
 Acts-same s c now t u h e = subst (λ (v : Session). Acts s c now v) (sym e) h
-
-unless_err : {A E : Type 0} (r : Result A E) (P : Type 0) → OnOk r P → is_err r ≡ false → P
-unless_err (Ok x) P h e = h
-unless_err (Err x) P h e = absurd cc
 
 pub returns-in-Opens : goal.returns-in-Opens
 unfolding Says
@@ -41,19 +37,19 @@ returns g c = elim c.match-branch-2.branch [
   | in-From w ↦
       let says = rw w.in-From.is at c.in_ok-read_line.ensures in
       ([], rw w.writer-is (Appends-none _), inl (From w.in-From.asker, says, Acts-from _ _ w.in-From.asker w.session-is, refl))
-  | in-Udp+in_ok-meet-in-Udp w ↦
+  | in-Udp+in_ok-take_datagram-in-Udp w ↦
       let says = rw w.in-Udp.is at c.in_ok-read_line.ensures in
-      let done = w.in_ok-meet-in-Udp.ensures in
-      (done.0, rw w.writer-is done.1, inl (Udp w.in-Udp.bytes.items, says, Acts-same c.args.session.now (Single (Udp w.in-Udp.bytes.items)) done.0 w.meet.new.session _ (Acts-udp c.args.session.now w.meet.new.session w.in-Udp.bytes.items done.0 (rw (← w.as_slice.ensures.value) done.2)) w.session-is, refl))
+      let done = w.in_ok-take_datagram-in-Udp.ensures in
+      (done.0, rw w.writer-is done.1, inl (Udp w.in-Udp.bytes.items, says, Acts-same c.args.session.now (Single (Udp w.in-Udp.bytes.items)) done.0 w.take_datagram.new.session _ done.2 w.session-is, refl))
   | in-Open w ↦
       let says = rw w.in-Open.is at c.in_ok-read_line.ensures in
       ([], rw w.writer-is (Appends-none _), inl (Open, says, Acts-open _ _ (w.session-is ∙ ap (λ (f : Frames). record c.args.session.now { stream = f }) w.new.ensures), refl))
-  | in-Tcp+in_ok-take_piece-in-Tcp w ↦
+  | in-Tcp+in_ok-take_stream-in-Tcp w ↦
       let says = rw w.in-Tcp.is at c.in_ok-read_line.ensures in
-      let done = w.in_ok-take_piece-in-Tcp.ensures in
-      (done.0, rw w.writer-is done.1, inl (Tcp w.in-Tcp.bytes.items, says, Acts-same c.args.session.now (Single (Tcp w.in-Tcp.bytes.items)) done.0 w.take_piece.new.session _ (Acts-tcp c.args.session.now w.take_piece.new.session w.in-Tcp.bytes.items done.0 (rw (← w.as_slice-in-Tcp.ensures.value) done.2)) w.session-is, refl))
-  | in-Tidy+else-is_err w ↦
+      let done = w.in_ok-take_stream-in-Tcp.ensures in
+      (done.0, rw w.writer-is done.1, inl (Tcp w.in-Tcp.bytes.items, says, Acts-same c.args.session.now (Single (Tcp w.in-Tcp.bytes.items)) done.0 w.take_stream.new.session _ done.2 w.session-is, refl))
+  | in-Tidy+in_ok-sweep-in-Tidy w ↦
       let says = rw w.in-Tidy.is at c.in_ok-read_line.ensures in
-      let done = unless_err _ _ w.write_all.ensures.bytes (sym w.is_err.ensures.value ∙ w.if-is_err.false) in
-      (codes "# sweep" ++ 10 ∷ [], rw w.writer-is done, inl (Tidy, says, Acts-same c.args.session.now (Single Tidy) _ w.tidy.new.self _ (Acts-tidy c.args.session.now w.tidy.new.self w.tidy.ensures) w.session-is, refl))
+      let done = w.in_ok-sweep-in-Tidy.ensures in
+      (done.0, rw w.writer-is done.1, inl (Tidy, says, Acts-same c.args.session.now (Single Tidy) done.0 w.sweep.new.session _ done.2 w.session-is, refl))
 ]
