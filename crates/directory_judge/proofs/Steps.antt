@@ -18,7 +18,7 @@ use Rattle.registry_core.specs.declared.entry.Entry.{Entry}
 use Rattle.registry_core.specs.Entries.{Pair, Entries, pair_of, is_of_url}
 use Rattle.directory_judge.specs.History.{Putting, Put}
 use Rattle.directory_judge.specs.Making.{Content, Stores, Withdraws, content, entry_of}
-use Rattle.directory_judge.specs.Judging.{Grounds, Judgement, Accepts, Ignores, Waits, Denies, names_tags, judged_within, judged_from, judgement_to, entries_in, first_of, is_kept, concerned, judged_concerned, judged_stored, release, withdrawing, by_step, by_rule, denial_of, denied_by, denied_new, denied_old, no_room, pair_in, putting, allowance, judged_taken, IsJudged}
+use Rattle.directory_judge.specs.Judging.{Grounds, Judgement, Accepts, Ignores, Waits, Denies, names_tags, judged_within, judged_from, judgement_to, entries_in, first_of, is_kept, concerned, judged_concerned, judged_stored, release, withdrawing, by_step, by_rule, denial_of, denied_new, denied_old, no_room, pair_in, putting, allowance, judged_taken, IsJudged}
 use Rattle.directory_judge.specs.declared.because.Because.{Because}
 use Rattle.directory_judge.specs.declared.because.Decider.TheVariants as decider
 use Rattle.directory_judge.specs.declared.change.Change.{Change}
@@ -167,21 +167,11 @@ judged_from-withdrawn g None tags scopes w h e = absurd (none-some w e)
 judged_from-withdrawn g (Some url) (Some tags) None w h e = absurd (none-some w e)
 judged_from-withdrawn g (Some url) (Some tags) (Some scopes) w h e = ap (λ (x : Withdrawn). judged_within g x.url x.scopes) (same_Some _ w e)
 
-judged_from-unread : (g : Grounds) (url : Option (List ℕ)) (tags : Option (List Part)) (scopes : Option (List (List ℕ))) → withdrawn_in g.site url scopes ≡ None → judged_from g url tags scopes ≡ denied_by 2 decider.Parse
-judged_from-unread g None tags scopes e = refl
-judged_from-unread g (Some url) None scopes e = refl
-judged_from-unread g (Some url) (Some tags) None e = refl
-judged_from-unread g (Some url) (Some tags) (Some scopes) e = absurd (none-some _ (sym e))
-
 untagged : (g : Grounds) (h : Header) (w : Withdrawal) → h.flags.multicast ≡ false → names_tags (result_ok (tags_of w.tags)) ≡ false
     → judgement_to g h w ≡ judged_from g (result_ok (url_of w.entry.url)) (result_ok (tags_of w.tags)) (result_ok (scopes_of w.scopes))
 untagged g h w one no_tag =
     let tags = result_ok (tags_of w.tags) in
     ap (λ b. cond b Waits (judged_from g (result_ok (url_of w.entry.url)) tags (result_ok (scopes_of w.scopes)))) (or_false h.flags.multicast (names_tags tags) one no_tag)
-
-pub judged-unread : (g : Grounds) (h : Header) (w : Withdrawal) → h.flags.multicast ≡ false → names_tags (result_ok (tags_of w.tags)) ≡ false
-    → withdrawn_in g.site (result_ok (url_of w.entry.url)) (result_ok (scopes_of w.scopes)) ≡ None → judgement_to g h w ≡ denied_by 2 decider.Parse
-judged-unread g h w one no_tag none = untagged g h w one no_tag ∙ judged_from-unread g (result_ok (url_of w.entry.url)) (result_ok (tags_of w.tags)) (result_ok (scopes_of w.scopes)) none
 
 module _ (g : Grounds) (h : Header) (w : Withdrawal) (asked : Withdrawn) (one : h.flags.multicast ≡ false) (no_tag : names_tags (result_ok (tags_of w.tags)) ≡ false) (tags_are : is_some (result_ok (tags_of w.tags)) ≡ true) (is : withdrawn_in g.site (result_ok (url_of w.entry.url)) (result_ok (scopes_of w.scopes)) ≡ Some asked) where
   judged-within : judgement_to g h w ≡ judged_within g asked.url asked.scopes
@@ -189,9 +179,6 @@ module _ (g : Grounds) (h : Header) (w : Withdrawal) (asked : Withdrawn) (one : 
 
   pub judged-asked : asked.scopes ≢ [] → judgement_to g h w ≡ judged_stored g asked.url asked.scopes
   judged-asked some = judged-within ∙ within-some g asked.url asked.scopes some
-
-  pub judged-elsewhere : asked.scopes ≡ [] → judgement_to g h w ≡ denied_by 4 decider.Scope
-  judged-elsewhere none = judged-within ∙ ap (judged_within g asked.url) none
 
 -- the test of a list of tags, where it is read
 pub no_tag : (tags : Option (List Part)) (b : Option Bool) → b ≡ option_map (λ t. names_tags (Some t)) tags → unwrap_or b false ≡ false → names_tags tags ≡ false
