@@ -1,9 +1,15 @@
 //! Replays a script of datagrams from standard input, and prints each reply and audit line.
 #![tactic(auto)]
 
+ghost use Rattle.std.specs.Prelude.{◌≡◌, ◌<◌, ◌⊎◌, ◌++◌, ◌∷◌, [], codes, length};
+ghost use Rattle.std.specs.Io.KnownBytes.{Appends};
+ghost use Rattle.std.specs.Process.{exit_status};
+ghost use Rattle.directory_program.specs.Reporting.{Reports};
+
 use directory_program::replay_run;
+use std::alloc::Global;
 use std::env;
-use std::io::{self, BufWriter, Write};
+use std::io::{self, BufWriter, Read, Write};
 use std::process::ExitCode;
 
 /// The status where no memory is found before the first line of the script is read.
@@ -13,30 +19,44 @@ const USAGE: u8 = 64;
 /// The status where writing fails.
 const UNWRITTEN: u8 = 2;
 
-fn replay(rt: &HostRuntime) -> io::Result<u8> {
+// Leaves with the status that the replay answers.
+fn leave<R: Read, W: Write>(
+    alloc: Global,
+    words: &[String],
+    reader: &mut R,
+    writer: &mut W,
+) -> ExitCode
+    ensures usage { 0 < length words.now → (exit_status result ≡ 2) ⊎ ((exit_status result ≡ 64) × Appends (W.contents writer.old) (W.contents writer.new) (codes "usage: slpreplay" ++ 10 ∷ [])) }
+    ensures runs { length words.now ≡ 0 → Reports (R.remaining reader.old) (R.remaining reader.new) (W.contents writer.old) (W.contents writer.new) (exit_status result) }
+{
+    ExitCode::from(replay_run(alloc, words, reader, writer))
+}
+
+fn replay(rt: &HostRuntime) -> io::Result<ExitCode> {
     let mut words = Vec::new(rt.alloc());
     for word in env::args(rt)?.skip(1) {
         words.push(word)?;
     }
     let mut reader = rt.reader();
     let mut writer = BufWriter::new(rt.alloc(), io::writer(rt))?;
-    Ok(replay_run(rt.alloc(), words.as_slice(), &mut reader, &mut writer))
+    Ok(leave(rt.alloc(), words.as_slice(), &mut reader, &mut writer))
 }
 
-fn usage(rt: &HostRuntime) -> u8 {
+fn usage(rt: &HostRuntime) -> ExitCode
+    ensures { (exit_status result ≡ 64) ⊎ (exit_status result ≡ 2) }
+{
     match io::writer(rt).write_all(b"usage: slpreplay\n") {
-        Ok(()) => USAGE,
-        Err(_) => UNWRITTEN,
+        Ok(()) => ExitCode::from(USAGE),
+        Err(_) => ExitCode::from(UNWRITTEN),
     }
 }
 
 fn main(rt: HostRuntime) -> ExitCode {
-    let status = match replay(&rt) {
-        Ok(status) => status,
+    match replay(&rt) {
+        Ok(left) => left,
         Err(fault) => match fault.kind() {
             io::ErrorKind::InvalidData => usage(&rt),
-            _ => NO_MEMORY,
+            _ => ExitCode::from(NO_MEMORY),
         },
-    };
-    ExitCode::from(status)
+    }
 }
