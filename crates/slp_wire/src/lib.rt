@@ -15,8 +15,6 @@ mod message;
 mod reading;
 mod registrations;
 mod services;
-#[cfg(test)]
-mod tests;
 mod types;
 mod writing;
 

@@ -1,7 +1,8 @@
-use crate::{
+use slp_text::{
     Key, Place, Row, ScopeList, TagList, Text, TextFault, cut, escape_into, is_blank, key,
     unescape, unescape_any,
 };
+use std::alloc::Global;
 use std::test::Fail;
 
 #[test]
@@ -16,6 +17,7 @@ fn keys_fold_and_squeeze(rt: HostRuntime) -> Result<(), Fail> {
         assert_eq!(rt; made.as_str(), want);
         let copied = made.copy(rt.alloc())?;
         assert_eq!(rt; copied.as_str(), want);
+        assert_eq!(rt; copied.into_string().as_str(), want);
     }
     Ok(())
 }
@@ -37,23 +39,75 @@ fn a_place_says_what_is_written_as_an_escape(rt: HostRuntime) -> Result<(), Fail
 }
 
 #[test]
-fn list_escapes_stand_for_what_is_reserved(rt: HostRuntime) -> Result<(), Fail> {
+fn escapes_stand_for_characters_and_bytes(rt: HostRuntime) -> Result<(), Fail> {
     let alloc = rt.alloc();
     assert_eq!(rt; unescape(alloc, "a\\2cb\\5F\\2Ač*;")?.as_str(), "a,b_*č*;");
-    for text in ["\\41", "\\2", "\\", "\\2g", "\\c4\\8d", "\\+2"] {
-        assert!(rt; matches!(unescape(alloc, text), Err(TextFault::BadEscape)));
-    }
+    assert_eq!(rt; unescape_any(alloc, "\\41b\\c4\\8D")?.as_str(), "Abč");
     Ok(())
 }
 
+// What reads a text.
+#[derive(Clone, Copy, Debug)]
+enum Reader {
+    Escapes,
+    AnyEscapes,
+    Scopes,
+    Tags,
+}
+
+impl Reader {
+    // Why the text is not read, if it is not.
+    fn fault(self, alloc: Global, text: &str) -> Option<TextFault> {
+        match self {
+            Reader::Escapes => unescape(alloc, text).err(),
+            Reader::AnyEscapes => unescape_any(alloc, text).err(),
+            Reader::Scopes => ScopeList::parse(alloc, text).err(),
+            Reader::Tags => TagList::parse(alloc, text).err(),
+        }
+    }
+}
+
+static REFUSED: [(Reader, TextFault, &[&str]); 7] = [
+    (
+        Reader::Escapes,
+        TextFault::BadEscape,
+        &["\\41", "\\2", "\\", "\\2g", "\\c4\\8d", "\\+2"],
+    ),
+    (Reader::AnyEscapes, TextFault::NotUtf8, &["\\ff", "\\c4"]),
+    (Reader::AnyEscapes, TextFault::BadEscape, &["\\ff\\f"]),
+    (
+        Reader::Scopes,
+        TextFault::BadEscape,
+        &["a\\41", "a\\", "a\\,b", "a\\2,b", "a\\2", "b\\zz;"],
+    ),
+    (
+        Reader::Scopes,
+        TextFault::Reserved,
+        &["a;b", "a*", "(a)", "a=b", ";\\zz", "a\u{1}"],
+    ),
+    (
+        Reader::Tags,
+        TextFault::BadEscape,
+        &["a\\41", "a\\", "a\\,b", "\\*", "a\\2*", "b\\zz_", "\\2ﬀ"],
+    ),
+    (
+        Reader::Tags,
+        TextFault::Reserved,
+        &["a_b", "(a)", "a=b", "*,_\\zz", "a\u{1}", "x,a~"],
+    ),
+];
+
 #[test]
-fn an_escape_may_stand_for_any_byte(rt: HostRuntime) -> Result<(), Fail> {
-    let alloc = rt.alloc();
-    assert_eq!(rt; unescape_any(alloc, "\\41b\\c4\\8D")?.as_str(), "Abč");
-    assert!(rt; matches!(unescape_any(alloc, "\\ff"), Err(TextFault::NotUtf8)));
-    assert!(rt; matches!(unescape_any(alloc, "\\c4"), Err(TextFault::NotUtf8)));
-    assert!(rt; matches!(unescape_any(alloc, "\\ff\\f"), Err(TextFault::BadEscape)));
-    Ok(())
+fn the_first_fault_of_a_text_is_named(rt: HostRuntime) {
+    for (reader, fault, texts) in &REFUSED {
+        for text in *texts {
+            assert_eq!(rt;
+                reader.fault(rt.alloc(), text),
+                Some(*fault),
+                "{reader:?}: {text}"
+            );
+        }
+    }
 }
 
 #[test]
@@ -82,79 +136,54 @@ fn scope_lists_are_sets_of_keys(rt: HostRuntime) -> Result<(), Fail> {
 }
 
 #[test]
-fn scope_lists_answer_the_first_fault(rt: HostRuntime) -> Result<(), Fail> {
-    let alloc = rt.alloc();
-    for text in ["a\\41", "a\\", "a\\,b", "a\\2,b", "a\\2", "b\\zz;"] {
-        assert!(rt; matches!(ScopeList::parse(alloc, text), Err(TextFault::BadEscape)));
-    }
-    for text in ["a;b", "a*", "(a)", "a=b", ";\\zz", "a\u{1}"] {
-        assert!(rt; matches!(ScopeList::parse(alloc, text), Err(TextFault::Reserved)));
-    }
-    Ok(())
-}
-
-#[test]
 fn scopes_are_found_and_shared(rt: HostRuntime) -> Result<(), Fail> {
     let alloc = rt.alloc();
     let scopes = ScopeList::parse(alloc, "c,B,a")?;
     assert_eq!(rt; scopes.len(), 3);
-    let second = scopes.at(1).ok_or("three scopes")?;
-    assert_eq!(rt; second.as_str(), "b");
+    assert_eq!(rt; scopes.at(1).map(|scope| scope.as_str()), Some("b"));
     assert!(rt; scopes.at(3).is_none());
     assert!(rt; scopes.has(&key(alloc, " C ")?));
     assert!(rt; !scopes.has(&key(alloc, "d")?));
-    let common = scopes.common(alloc, &ScopeList::parse(alloc, "x,b,C")?)?;
-    assert!(rt; common == ScopeList::parse(alloc, "b,c")?);
-    assert!(rt;
-        scopes
-            .common(alloc, &ScopeList::parse(alloc, "x")?)?
-            .is_empty()
-    );
+    for (other, want) in [("x,b,C", "b,c"), ("x", "")] {
+        let common = scopes.common(alloc, &ScopeList::parse(alloc, other)?)?;
+        assert!(rt; common == ScopeList::parse(alloc, want)?);
+        assert_eq!(rt; common.is_empty(), want.is_empty());
+    }
     Ok(())
 }
+
+static SELECTED: [(&str, &str, bool); 18] = [
+    ("", "color", true),
+    (" , ,", "color", true),
+    ("color", "COLOR", true),
+    ("color", "colors", false),
+    ("size, Col*", "color", true),
+    ("*or", "color", true),
+    ("*o*o*", "color", true),
+    ("*o*o*o*", "color", false),
+    ("c*r", "cr", true),
+    ("*", "", true),
+    ("a *", "a b", true),
+    ("a *", "ab", false),
+    (" * a", "x a", true),
+    ("\\2A", "*", true),
+    ("\\2a", "x", false),
+    ("x\\5F\\09 y", "x_ y", true),
+    ("STRAß*", "strasse", true),
+    ("ﬁ", "fi", true),
+];
 
 #[test]
 fn a_part_of_a_tag_list_selects_what_it_matches(rt: HostRuntime) -> Result<(), Fail> {
     let alloc = rt.alloc();
-    for (text, tag, want) in [
-        ("", "color", true),
-        (" , ,", "color", true),
-        ("color", "COLOR", true),
-        ("color", "colors", false),
-        ("size, Col*", "color", true),
-        ("*or", "color", true),
-        ("*o*o*", "color", true),
-        ("*o*o*o*", "color", false),
-        ("c*r", "cr", true),
-        ("*", "", true),
-        ("a *", "a b", true),
-        ("a *", "ab", false),
-        (" * a", "x a", true),
-        ("\\2A", "*", true),
-        ("\\2a", "x", false),
-        ("x\\5F\\09 y", "x_ y", true),
-        ("STRAß*", "strasse", true),
-        ("ﬁ", "fi", true),
-    ] {
+    for (text, tag, want) in &SELECTED {
         let tags = TagList::parse(alloc, text)?;
         let made = key(alloc, tag)?;
-        assert_eq!(rt; tags.selects(&made), want);
-        assert_eq!(rt; tags.copy(alloc)?.selects(&made), want);
+        assert_eq!(rt; tags.selects(&made), *want, "{text}: {tag}");
+        assert_eq!(rt; tags.copy(alloc)?.selects(&made), *want, "{text}: {tag}");
     }
     for (text, want) in [("", true), (" ,\\09,", true), ("*", false), ("a,", false)] {
-        assert_eq!(rt; TagList::parse(alloc, text)?.is_empty(), want);
-    }
-    Ok(())
-}
-
-#[test]
-fn tag_lists_answer_the_first_fault(rt: HostRuntime) -> Result<(), Fail> {
-    let alloc = rt.alloc();
-    for text in ["a\\41", "a\\", "a\\,b", "\\*", "a\\2*", "b\\zz_", "\\2ﬀ"] {
-        assert!(rt; matches!(TagList::parse(alloc, text), Err(TextFault::BadEscape)));
-    }
-    for text in ["a_b", "(a)", "a=b", "*,_\\zz", "a\u{1}", "x,a~"] {
-        assert!(rt; matches!(TagList::parse(alloc, text), Err(TextFault::Reserved)));
+        assert_eq!(rt; TagList::parse(alloc, text)?.is_empty(), want, "{text}");
     }
     Ok(())
 }
