@@ -1,4 +1,5 @@
 use crate::directories::opened;
+use crate::holding::assert_holds;
 use crate::messages::{REGISTRATION, WITHDRAWAL};
 use crate::registries::one_scope;
 use access_rules::Addr;
@@ -8,30 +9,43 @@ use slp_wire::{Message, decode};
 use std::alloc::Global;
 use std::test::Fail;
 
+fn is_kept(site: &Site) -> bool {
+    let is_default = match site.scopes().at(0) {
+        Some(scope) => scope.as_str() == "default",
+        None => false,
+    };
+    is_default && site.capacity() == 16 && site.boot() == 7
+}
+
 #[test]
 fn a_site_keeps_what_it_is_made_of(rt: HostRuntime) -> Result<(), Fail> {
-    let alloc = rt.alloc();
-    let site = Site::new(one_scope(alloc, "Default")?, 16, 7).copy(alloc)?;
-    assert_eq!(rt;
-        site.scopes().at(0).map(|scope| scope.as_str()),
-        Some("default")
-    );
-    assert_eq!(rt; site.capacity(), 16);
-    assert_eq!(rt; site.boot(), 7);
+    let scopes = one_scope(rt.alloc(), "Default")?;
+    let site = Site::new(scopes, 16, 7);
+    let copied = site.copy(rt.alloc())?;
+    assert_holds(&rt, is_kept(&site) && is_kept(&copied), "a site");
     Ok(())
+}
+
+fn names_type(alloc: Global, text: &str, want: &str) -> Result<bool, Fail> {
+    match read_kind(alloc, text)? {
+        Some(kind) => Ok(kind.text() == want),
+        None => Ok(false),
+    }
+}
+
+fn names_scopes(alloc: Global, text: &str, want: usize) -> Result<bool, Fail> {
+    match read_scopes(alloc, text)? {
+        Some(scopes) => Ok(scopes.len() == want),
+        None => Ok(false),
+    }
 }
 
 #[test]
 fn types_and_scopes_are_read_where_there_are_some(rt: HostRuntime) -> Result<(), Fail> {
-    let alloc = rt.alloc();
-    for (text, want) in [(" HTTP", Some("http")), ("-http", None)] {
-        let kind = read_kind(alloc, text)?;
-        assert_eq!(rt; kind.as_ref().map(|kind| kind.text()), want);
-    }
-    for (text, want) in [("b, A", Some(2)), ("a;", None)] {
-        let scopes = read_scopes(alloc, text)?;
-        assert_eq!(rt; scopes.as_ref().map(|scopes| scopes.len()), want);
-    }
+    assert_holds(&rt, names_type(rt.alloc(), " HTTP", "http")?, "a type");
+    assert_holds(&rt, read_kind(rt.alloc(), "-http")?.is_none(), "no type");
+    assert_holds(&rt, names_scopes(rt.alloc(), "b, A", 2)?, "two scopes");
+    assert_holds(&rt, read_scopes(rt.alloc(), "a;")?.is_none(), "no scopes");
     Ok(())
 }
 
@@ -116,7 +130,7 @@ static JUDGED: [(&str, Option<Told<'static>>); 3] = [
 #[test]
 fn messages_are_judged(rt: HostRuntime) -> Result<(), Fail> {
     for (digits, want) in &JUDGED {
-        assert!(rt; is_judged(rt.alloc(), digits, want)?, "{digits}");
+        assert_holds(&rt, is_judged(rt.alloc(), digits, want)?, digits);
     }
     Ok(())
 }

@@ -11,6 +11,8 @@ mod configurations;
 #[cfg(test)]
 mod directories;
 #[cfg(test)]
+mod holding;
+#[cfg(test)]
 mod judging;
 #[cfg(test)]
 mod messages;

@@ -1,5 +1,6 @@
 mod rows;
 
+use crate::holding::assert_holds;
 use rows::*;
 pub use rows::{REGISTRATION, REQUEST, WITHDRAWAL};
 use slp_text::{Row, Text};
@@ -116,33 +117,39 @@ fn has_fields(
 #[test]
 fn fields_are_read(rt: HostRuntime) -> Result<(), Fail> {
     for (digits, function, number, texts) in &FIELDS {
-        assert!(rt;
-            has_fields(rt.alloc(), digits, *function, *number, texts)?,
-            "{digits}"
-        );
+        let told = has_fields(rt.alloc(), digits, *function, *number, texts)?;
+        assert_holds(&rt, told, digits);
     }
     Ok(())
+}
+
+// The message in front of the bytes, as it is written behind other bytes.
+fn written(alloc: Global, bytes: &[u8]) -> Result<Vec<u8>, WireFault> {
+    let mut written = Vec::from_slice(alloc, b"before")?;
+    let message = decode(alloc, bytes)?;
+    let told = encode(&message, &mut written);
+    drop(message);
+    match told {
+        Ok(()) => Ok(written),
+        Err(fault) => Err(fault),
+    }
 }
 
 // Whether the message in front of the bytes is written as these digits, behind other bytes.
 fn is_written_as(alloc: Global, digits: &str, want: &str) -> Result<bool, Fail> {
     let bytes = hex::decode(alloc, digits)?;
-    let want = hex::decode(alloc, want)?;
-    let mut written = Vec::from_slice(alloc, b"before")?;
-    let message = decode(alloc, bytes.as_slice())?;
-    let told = encode(&message, &mut written);
-    drop(message);
-    told?;
-    Ok(written.starts_with(b"before") && written.get(6..) == Some(want.as_slice()))
+    let written = written(alloc, bytes.as_slice())?;
+    let told = hex::encode(alloc, written.as_slice())?;
+    Ok(written.starts_with(b"before") && told.as_str().get(12..) == Some(want))
 }
 
 #[test]
 fn messages_keep_their_bytes(rt: HostRuntime) -> Result<(), Fail> {
     for digits in &KEPT {
-        assert!(rt; is_written_as(rt.alloc(), digits, digits)?, "{digits}");
+        assert_holds(&rt, is_written_as(rt.alloc(), digits, digits)?, digits);
     }
     for (digits, want) in &SHORTENED {
-        assert!(rt; is_written_as(rt.alloc(), digits, want)?, "{digits}");
+        assert_holds(&rt, is_written_as(rt.alloc(), digits, want)?, digits);
     }
     Ok(())
 }
@@ -151,33 +158,39 @@ fn fault_of(alloc: Global, bytes: &[u8]) -> Option<WireFault> {
     decode(alloc, bytes).err()
 }
 
+fn has_fault(alloc: Global, digits: &str, want: Option<WireFault>) -> Result<bool, Fail> {
+    let bytes = hex::decode(alloc, digits)?;
+    Ok(fault_of(alloc, bytes.as_slice()) == want)
+}
+
 #[test]
 fn each_fault_is_named(rt: HostRuntime) -> Result<(), Fail> {
-    let alloc = rt.alloc();
     for (name, digits, want) in &FAULTS {
-        let bytes = hex::decode(alloc, *digits)?;
-        assert_eq!(rt; fault_of(alloc, bytes.as_slice()), *want, "{name}");
+        assert_holds(&rt, has_fault(rt.alloc(), digits, *want)?, name);
     }
     Ok(())
 }
 
-#[test]
-fn cut_messages_are_faults(rt: HostRuntime) -> Result<(), Fail> {
-    let alloc = rt.alloc();
-    let request = hex::decode(alloc, REQUEST)?;
-    assert_eq!(rt; request.len(), 48);
-    for length in 0..request.len() {
+// Whether each front of the bytes has its fault.
+fn fronts_have_faults(alloc: Global, bytes: &[u8]) -> bool {
+    for length in 0..bytes.len() {
         let want = if length < 16 {
             WireFault::NoHeader
         } else {
             WireFault::Parse
         };
-        assert_eq!(rt;
-            fault_of(alloc, &request[..length]),
-            Some(want),
-            "cut to {length}"
-        );
+        if fault_of(alloc, &bytes[..length]) != Some(want) {
+            return false;
+        }
     }
+    true
+}
+
+#[test]
+fn cut_messages_are_faults(rt: HostRuntime) -> Result<(), Fail> {
+    let request = hex::decode(rt.alloc(), REQUEST)?;
+    let told = request.len() == 48 && fronts_have_faults(rt.alloc(), request.as_slice());
+    assert_holds(&rt, told, "the request");
     Ok(())
 }
 
@@ -201,15 +214,25 @@ fn fault_of_front(alloc: Global, bytes: &[u8], length: usize) -> Result<Option<W
     Ok(fault_of(alloc, front.as_slice()))
 }
 
+// Whether each front of the message, with the length field to match, is malformed.
+fn fronts_are_malformed(alloc: Global, bytes: &[u8]) -> Result<bool, Fail> {
+    for length in 16..bytes.len() {
+        if fault_of_front(alloc, bytes, length)? != Some(WireFault::Parse) {
+            return Ok(false);
+        }
+    }
+    Ok(true)
+}
+
 #[test]
 fn cut_bodies_are_faults(rt: HostRuntime) -> Result<(), Fail> {
-    let alloc = rt.alloc();
     for digits in &BODIES {
-        let bytes = hex::decode(alloc, *digits)?;
-        for length in 16..bytes.len() {
-            let fault = fault_of_front(alloc, bytes.as_slice(), length)?;
-            assert_eq!(rt; fault, Some(WireFault::Parse), "{digits} cut to {length}");
-        }
+        let bytes = hex::decode(rt.alloc(), *digits)?;
+        assert_holds(
+            &rt,
+            fronts_are_malformed(rt.alloc(), bytes.as_slice())?,
+            digits,
+        );
     }
     Ok(())
 }
@@ -253,52 +276,86 @@ fn long_reply(alloc: Global) -> Result<ServiceReply, Fail> {
     Ok(ServiceReply::Found(Row::wrap(vec![in alloc; entry]?)))
 }
 
+// Why a reply with the header of the request is not written behind the bytes, if it is not.
+fn fault_behind(
+    alloc: Global,
+    reply: ServiceReply,
+    bytes: &mut Vec<u8>,
+) -> Result<Option<WireFault>, Fail> {
+    let header = header_of_request(alloc)?;
+    Ok(fault_of_reply(header, reply, bytes))
+}
+
 #[test]
 fn long_strings_are_refused(rt: HostRuntime) -> Result<(), Fail> {
-    let alloc = rt.alloc();
-    let mut bytes = Vec::from_slice(alloc, b"before")?;
-    let reply = long_reply(alloc)?;
-    let fault = fault_of_reply(header_of_request(alloc)?, reply, &mut bytes);
-    assert_eq!(rt; fault, Some(WireFault::TooLong));
-    assert_eq!(rt; bytes.as_slice(), b"before".as_slice());
+    let mut bytes = Vec::from_slice(rt.alloc(), b"before")?;
+    let fault = fault_behind(rt.alloc(), long_reply(rt.alloc())?, &mut bytes)?;
+    let told = fault == Some(WireFault::TooLong) && bytes.as_slice() == b"before".as_slice();
+    assert_holds(&rt, told, "65,536 letters");
     Ok(())
 }
 
 #[test]
-fn codes_and_tags(rt: HostRuntime) -> Result<(), Fail> {
-    let alloc = rt.alloc();
+fn tags_are_copied(rt: HostRuntime) -> Result<(), Fail> {
+    let header = header_of_request(rt.alloc())?;
+    assert_holds(
+        &rt,
+        header.language.as_str() == "en" && header.xid == 1,
+        "en",
+    );
+    Ok(())
+}
+
+#[test]
+fn codes_are_written(rt: HostRuntime) -> Result<(), Fail> {
     let code = ErrorCode::new(4);
-    assert_eq!(rt; code.get(), 4);
-    let header = header_of_request(alloc)?;
-    assert_eq!(rt; header.language.as_str(), "en");
-    assert_eq!(rt; header.xid, 1);
-    let mut bytes = Vec::new(alloc);
-    let fault = fault_of_reply(header, ServiceReply::Refused(code), &mut bytes);
-    assert_eq!(rt; fault, None);
-    let digits = hex::encode(alloc, bytes.as_slice())?;
-    assert_eq!(rt; digits.as_str(), REFUSED_SERVICES);
+    assert_holds(&rt, code.get() == 4, "4");
+    let mut bytes = Vec::new(rt.alloc());
+    let fault = fault_behind(rt.alloc(), ServiceReply::Refused(code), &mut bytes)?;
+    let digits = hex::encode(rt.alloc(), bytes.as_slice())?;
+    assert_holds(
+        &rt,
+        fault.is_none() && digits.as_str() == REFUSED_SERVICES,
+        "a refusal",
+    );
     Ok(())
 }
 
+static REPLIES: [(u8, Option<u8>); 6] = [
+    (1, Some(2)),
+    (3, Some(5)),
+    (4, Some(5)),
+    (6, Some(7)),
+    (9, Some(10)),
+    (2, None),
+];
+
 #[test]
-fn replies_that_take_no_memory(rt: HostRuntime) -> Result<(), Fail> {
-    for (function, want) in [
-        (1, Some(2)),
-        (3, Some(5)),
-        (4, Some(5)),
-        (6, Some(7)),
-        (9, Some(10)),
-        (2, None),
-    ] {
-        assert_eq!(rt; reply_function(function), want);
+fn functions_have_their_replies(rt: HostRuntime) {
+    for (function, want) in &REPLIES {
+        assert_holds(&rt, reply_function(*function) == *want, "a function");
     }
-    let bytes = hex::decode(rt.alloc(), REGISTRATION)?;
-    let header = read_header(bytes.as_slice()).ok_or("a header")?;
-    assert_eq!(rt; header.language, "en");
-    assert_eq!(rt; header.flags, 0x4000);
+}
+
+// Whether the bytes have the header of the registration, and its refusal is written.
+fn is_refused(alloc: Global, bytes: &[u8]) -> Result<bool, Fail> {
+    let Some(header) = read_header(bytes) else {
+        return Ok(false);
+    };
     let mut reply = [0xaa; 80];
     let length = error_reply(&header, 5, 13, &mut reply);
-    let digits = hex::encode(rt.alloc(), reply.get(..length).ok_or("a reply")?)?;
-    assert_eq!(rt; digits.as_str(), "0205000012000000000000020002656e000d");
+    let digits = hex::encode(alloc, &reply[..length])?;
+    let is_written = digits.as_str() == "0205000012000000000000020002656e000d";
+    Ok(is_written && header.language == "en" && header.flags == 0x4000)
+}
+
+#[test]
+fn refusals_take_no_memory(rt: HostRuntime) -> Result<(), Fail> {
+    let bytes = hex::decode(rt.alloc(), REGISTRATION)?;
+    assert_holds(
+        &rt,
+        is_refused(rt.alloc(), bytes.as_slice())?,
+        "the registration",
+    );
     Ok(())
 }

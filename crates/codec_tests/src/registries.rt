@@ -1,11 +1,11 @@
 ghost use Rattle.std.specs.Prelude.{◌≡◌, length, IfOk};
 ghost use Rattle.std.specs.Arc.{arc_value};
 
+use crate::holding::assert_holds;
 use registry_core::{Entry, ListRegistry, Registry, RegistryFault};
 use service_url::{ServiceType, Url};
 use slp_text::{ScopeList, key};
 use std::alloc::Global;
-use std::process::Abort;
 use std::sync::Arc;
 use std::test::Fail;
 
@@ -51,11 +51,9 @@ pub fn entry_in(
 }
 
 // What is done with a registry, or asked of it.
-#[derive(Debug)]
 enum Step {
     // of a scope, a URL, a type and a language, with a deadline
-    Put(&'static str, &'static str, &'static str, &'static str, u64),
-    Full(&'static str, &'static str, &'static str, &'static str, u64),
+    Put(&'static str, &'static str, &'static str, &'static str, u64, Result<(), RegistryFault>),
     Sweep(u64),
     // the entries of a URL in these scopes
     Remove(&'static str, &'static str),
@@ -71,62 +69,94 @@ enum Step {
 }
 
 // The steps of a registry of no entry that takes three pairs.
-static STEPS: [Step; 50] = [
-    Step::Length(0),
-    Step::Capacity(3),
-    Step::Deadline(LPR, "en", None),
-    Step::Put("DEFAULT", LPR, PRINTER, "en", 10),
-    Step::Put("DEFAULT", LPR, PRINTER, "de", 20),
-    Step::Put("DEFAULT", MAIL, "service:mail:smtp", "en", 30),
-    Step::Length(3),
-    Step::Full("DEFAULT", IPP, "service:printer:ipp", "en", 40),
-    Step::Deadline(IPP, "en", None),
-    Step::Put("DEFAULT", LPR, PRINTER, "EN", 15),
-    Step::Length(3),
-    Step::Deadline(LPR, "en", Some(15)),
-    Step::Deadline(LPR, "de", Some(20)),
-    // walks
-    Step::Walk("default", None, &[15, 20, 30]),
-    Step::Walk("default", Some("service:printer"), &[15, 20]),
-    Step::Walk("default", Some("service:mail:smtp"), &[30]),
-    Step::Walk("default", Some("service:print"), &[]),
-    Step::Walk("other", None, &[]),
-    Step::Urls(LPR, &[15, 20]),
-    Step::Urls(MAIL, &[30]),
-    Step::Urls(IPP, &[]),
-    // what is live
-    Step::Live(0, 3),
-    Step::Live(14, 3),
-    Step::Live(15, 2),
-    Step::Live(20, 1),
-    Step::Live(29, 1),
-    Step::Live(30, 0),
-    Step::Length(3),
-    // sweeps
-    Step::Sweep(14),
-    Step::Length(3),
-    Step::Sweep(15),
-    Step::Length(2),
-    Step::Capacity(3),
-    Step::Deadline(LPR, "en", None),
-    Step::Deadline(LPR, "de", Some(20)),
-    // two languages of one URL go together, and only with their scopes
-    Step::Put("DEFAULT", LPR, PRINTER, "en", 40),
-    Step::Remove(LPR, "other"),
-    Step::Remove(IPP, "default"),
-    Step::Length(3),
-    Step::Remove(LPR, "default"),
-    Step::Length(1),
-    Step::Capacity(3),
-    Step::Urls(LPR, &[]),
-    Step::Deadline(MAIL, "en", Some(30)),
-    // two languages of one URL in scopes of their own
-    Step::Put("other", LPR, PRINTER, "en", 50),
-    Step::Put("DEFAULT", LPR, PRINTER, "de", 60),
-    Step::Remove(LPR, "default"),
-    Step::Urls(LPR, &[50]),
-    Step::Remove(LPR, "OTHER"),
-    Step::Length(1),
+static STEPS: [(&str, &[Step]); 6] = [
+    (
+        "an empty registry takes three pairs",
+        &[
+            Step::Length(0),
+            Step::Capacity(3),
+            Step::Deadline(LPR, "en", None),
+            Step::Put("DEFAULT", LPR, PRINTER, "en", 10, Ok(())),
+            Step::Put("DEFAULT", LPR, PRINTER, "de", 20, Ok(())),
+            Step::Put("DEFAULT", MAIL, "service:mail:smtp", "en", 30, Ok(())),
+            Step::Length(3),
+            Step::Put(
+                "DEFAULT",
+                IPP,
+                "service:printer:ipp",
+                "en",
+                40,
+                Err(RegistryFault::Full),
+            ),
+            Step::Deadline(IPP, "en", None),
+            Step::Put("DEFAULT", LPR, PRINTER, "EN", 15, Ok(())),
+            Step::Length(3),
+            Step::Deadline(LPR, "en", Some(15)),
+            Step::Deadline(LPR, "de", Some(20)),
+        ],
+    ),
+    (
+        "walks",
+        &[
+            Step::Walk("default", None, &[15, 20, 30]),
+            Step::Walk("default", Some("service:printer"), &[15, 20]),
+            Step::Walk("default", Some("service:mail:smtp"), &[30]),
+            Step::Walk("default", Some("service:print"), &[]),
+            Step::Walk("other", None, &[]),
+            Step::Urls(LPR, &[15, 20]),
+            Step::Urls(MAIL, &[30]),
+            Step::Urls(IPP, &[]),
+        ],
+    ),
+    (
+        "what is live",
+        &[
+            Step::Live(0, 3),
+            Step::Live(14, 3),
+            Step::Live(15, 2),
+            Step::Live(20, 1),
+            Step::Live(29, 1),
+            Step::Live(30, 0),
+            Step::Length(3),
+        ],
+    ),
+    (
+        "sweeps",
+        &[
+            Step::Sweep(14),
+            Step::Length(3),
+            Step::Sweep(15),
+            Step::Length(2),
+            Step::Capacity(3),
+            Step::Deadline(LPR, "en", None),
+            Step::Deadline(LPR, "de", Some(20)),
+        ],
+    ),
+    (
+        "two languages of one URL go together, and only with their scopes",
+        &[
+            Step::Put("DEFAULT", LPR, PRINTER, "en", 40, Ok(())),
+            Step::Remove(LPR, "other"),
+            Step::Remove(IPP, "default"),
+            Step::Length(3),
+            Step::Remove(LPR, "default"),
+            Step::Length(1),
+            Step::Capacity(3),
+            Step::Urls(LPR, &[]),
+            Step::Deadline(MAIL, "en", Some(30)),
+        ],
+    ),
+    (
+        "two languages of one URL in scopes of their own",
+        &[
+            Step::Put("other", LPR, PRINTER, "en", 50, Ok(())),
+            Step::Put("DEFAULT", LPR, PRINTER, "de", 60, Ok(())),
+            Step::Remove(LPR, "default"),
+            Step::Urls(LPR, &[50]),
+            Step::Remove(LPR, "OTHER"),
+            Step::Length(1),
+        ],
+    ),
 ];
 
 // The deadlines of what stands in a scope and is of a type, the least first.
@@ -194,55 +224,49 @@ fn remove_url<R: Registry>(
     Ok(())
 }
 
-fn take_step<R: Registry>(
-    rt: &impl Abort,
-    alloc: Global,
-    registry: &mut R,
-    step: &Step,
-) -> Result<(), Fail> {
+// Whether what the step asks for holds.
+fn holds<R: Registry>(alloc: Global, registry: &R, step: &Step) -> Result<bool, Fail> {
     match step {
-        Step::Put(scope, url, kind, language, at) => {
-            registry.put(entry_in(alloc, scope, url, kind, language, *at)?)?;
-        }
-        Step::Full(scope, url, kind, language, at) => {
-            let told = registry.put(entry_in(alloc, scope, url, kind, language, *at)?);
-            assert_eq!(rt; told, Err(RegistryFault::Full));
-        }
-        Step::Sweep(now) => registry.sweep(*now),
-        Step::Remove(url, scopes) => remove_url(alloc, registry, url, scopes)?,
-        Step::Length(want) => assert_eq!(rt; registry.len(), *want, "{step:?}"),
-        Step::Capacity(want) => assert_eq!(rt; registry.capacity(), *want, "{step:?}"),
+        Step::Length(want) => Ok(registry.len() == *want),
+        Step::Capacity(want) => Ok(registry.capacity() == *want),
         Step::Deadline(url, language, want) => {
-            assert_eq!(rt;
-                deadline(alloc, registry, url, language)?,
-                *want,
-                "{step:?}"
-            );
+            Ok(deadline(alloc, registry, url, language)? == *want)
         }
         Step::Walk(scope, kind, want) => {
-            assert_eq!(rt;
-                walk(alloc, registry, scope, *kind)?.as_slice(),
-                *want,
-                "{step:?}"
-            );
+            Ok(walk(alloc, registry, scope, *kind)?.as_slice() == *want)
         }
-        Step::Urls(url, want) => {
-            assert_eq!(rt;
-                walk_url(alloc, registry, url)?.as_slice(),
-                *want,
-                "{step:?}"
-            );
-        }
-        Step::Live(now, want) => assert_eq!(rt; registry.live(*now), *want, "{step:?}"),
+        Step::Urls(url, want) => Ok(walk_url(alloc, registry, url)?.as_slice() == *want),
+        Step::Live(now, want) => Ok(registry.live(*now) == *want),
+        _ => Ok(false),
     }
-    Ok(())
+}
+
+// Whether the registry answers so to the step, or as the step asks.
+fn take_step<R: Registry>(alloc: Global, registry: &mut R, step: &Step) -> Result<bool, Fail> {
+    match step {
+        Step::Put(scope, url, kind, language, at, want) => {
+            let entry = entry_in(alloc, scope, url, kind, language, *at)?;
+            Ok(registry.put(entry) == *want)
+        }
+        Step::Sweep(now) => {
+            registry.sweep(*now);
+            Ok(true)
+        }
+        Step::Remove(url, scopes) => {
+            remove_url(alloc, registry, url, scopes)?;
+            Ok(true)
+        }
+        other => holds(alloc, registry, other),
+    }
 }
 
 #[test]
 fn a_list_is_a_registry(rt: HostRuntime) -> Result<(), Fail> {
     let mut registry = ListRegistry::new(rt.alloc(), 3)?;
-    for step in &STEPS {
-        take_step(&rt, rt.alloc(), &mut registry, step)?;
+    for (name, steps) in &STEPS {
+        for step in *steps {
+            assert_holds(&rt, take_step(rt.alloc(), &mut registry, step)?, name);
+        }
     }
     Ok(())
 }

@@ -1,28 +1,33 @@
+use crate::holding::assert_holds;
 use service_url::{ServiceType, Url, UrlFault, parse_authority};
-use slp_text::Key;
 use std::alloc::Global;
 use std::test::Fail;
 
+static TYPES: [(&str, &str); 6] = [
+    (" SERVICE:Printer: ", "service:printer"),
+    ("service:printer", "service:printer"),
+    ("service:printer:lpr", "service:printer:lpr"),
+    ("service:a.b:c.d", "service:a.b:c.d"),
+    ("HTTP", "http"),
+    (" http.Acme ", "http.acme"),
+];
+
+fn folds(alloc: Global, text: &str, want: &str) -> Result<bool, Fail> {
+    let parsed = ServiceType::parse(alloc, text)?;
+    let copied = parsed.copy(alloc)?;
+    Ok(parsed.text() == want && copied.text() == want)
+}
+
 #[test]
 fn types_are_folded(rt: HostRuntime) -> Result<(), Fail> {
-    for (text, want) in [
-        (" SERVICE:Printer: ", "service:printer"),
-        ("service:printer", "service:printer"),
-        ("service:printer:lpr", "service:printer:lpr"),
-        ("service:a.b:c.d", "service:a.b:c.d"),
-        ("HTTP", "http"),
-        (" http.Acme ", "http.acme"),
-    ] {
-        let parsed = ServiceType::parse(rt.alloc(), text)?;
-        assert_eq!(rt; parsed.text(), want);
-        let copied = parsed.copy(rt.alloc())?;
-        assert_eq!(rt; copied.text(), want);
+    for (text, want) in &TYPES {
+        assert_holds(&rt, folds(rt.alloc(), text, want)?, text);
     }
     Ok(())
 }
 
 // What reads a text.
-#[derive(Clone, Copy, Debug)]
+#[derive(Clone, Copy)]
 enum Reader {
     Types,
     Authorities,
@@ -67,58 +72,63 @@ static REFUSED: [(Reader, UrlFault, &[&str]); 3] = [
 fn other_texts_are_refused(rt: HostRuntime) {
     for (reader, fault, texts) in &REFUSED {
         for text in *texts {
-            assert_eq!(rt;
-                reader.fault(rt.alloc(), text),
-                Some(*fault),
-                "{reader:?}: {text}"
-            );
+            assert_holds(&rt, reader.fault(rt.alloc(), text) == Some(*fault), text);
         }
     }
 }
 
+static AUTHORITIES: [(&str, Option<&str>); 7] = [
+    ("service:a..b", Some(".b")),
+    ("http.ACME", Some("acme")),
+    ("service:a.b:c.d", Some("b")),
+    ("service:a.", None),
+    ("service:a:c.d", None),
+    ("service:a", None),
+    ("http", None),
+];
+
 #[test]
 fn authorities_follow_the_first_dot(rt: HostRuntime) -> Result<(), Fail> {
-    for (text, want) in [
-        ("service:a..b", Some(".b")),
-        ("http.ACME", Some("acme")),
-        ("service:a.b:c.d", Some("b")),
-        ("service:a.", None),
-        ("service:a:c.d", None),
-        ("service:a", None),
-        ("http", None),
-    ] {
+    for (text, want) in &AUTHORITIES {
         let kind = ServiceType::parse(rt.alloc(), text)?;
-        assert_eq!(rt; kind.authority(), want, "{text}");
+        assert_holds(&rt, kind.authority() == *want, text);
     }
     Ok(())
 }
 
+static FOLDED: [(&str, &str); 2] = [("Acme", "acme"), ("-x.", "-x.")];
+
 #[test]
 fn authorities_are_folded(rt: HostRuntime) -> Result<(), Fail> {
-    for (text, want) in [("Acme", "acme"), ("-x.", "-x.")] {
-        let authority: Key = parse_authority(rt.alloc(), text)?;
-        assert_eq!(rt; authority.as_str(), want);
+    for (text, want) in &FOLDED {
+        let authority = parse_authority(rt.alloc(), text)?;
+        assert_holds(&rt, authority.as_str() == *want, text);
     }
     Ok(())
+}
+
+static COVERED: [(&str, &str, bool); 9] = [
+    ("service:printer", "service:printer", true),
+    ("service:printer", "service:printer:lpr", true),
+    ("service:printer", "service:printer:ipp", true),
+    ("service:printer", "service:print", false),
+    ("service:print", "service:printer", false),
+    ("service:print", "service:printer:lpr", false),
+    ("service:printer:lpr", "service:printer:lpr", true),
+    ("service:printer:lpr", "service:printer", false),
+    ("service:printer:lpr", "service:printer:ipp", false),
+];
+
+fn covers(alloc: Global, text: &str, other: &str) -> Result<bool, Fail> {
+    let kind = ServiceType::parse(alloc, text)?;
+    let other = ServiceType::parse(alloc, other)?;
+    Ok(kind.covers(&other))
 }
 
 #[test]
 fn types_cover_what_is_made_from_them(rt: HostRuntime) -> Result<(), Fail> {
-    let alloc = rt.alloc();
-    for (text, other, want) in [
-        ("service:printer", "service:printer", true),
-        ("service:printer", "service:printer:lpr", true),
-        ("service:printer", "service:printer:ipp", true),
-        ("service:printer", "service:print", false),
-        ("service:print", "service:printer", false),
-        ("service:print", "service:printer:lpr", false),
-        ("service:printer:lpr", "service:printer:lpr", true),
-        ("service:printer:lpr", "service:printer", false),
-        ("service:printer:lpr", "service:printer:ipp", false),
-    ] {
-        let kind = ServiceType::parse(alloc, text)?;
-        let covered = kind.covers(&ServiceType::parse(alloc, other)?);
-        assert_eq!(rt; covered, want, "{text}: {other}");
+    for (text, other, want) in &COVERED {
+        assert_holds(&rt, covers(rt.alloc(), text, other)? == *want, other);
     }
     Ok(())
 }
@@ -132,25 +142,37 @@ fn url_of_length(alloc: Global, length: usize) -> Result<String, Fail> {
     Ok(text)
 }
 
-#[test]
-fn urls_have_at_most_1024_bytes(rt: HostRuntime) -> Result<(), Fail> {
-    let alloc = rt.alloc();
-    let longest = url_of_length(alloc, 1_024)?;
-    let read = Url::parse(alloc, longest.as_str())?;
-    assert_eq!(rt; read.text(), longest.as_str());
-    let longer = url_of_length(alloc, 1_025)?;
-    let fault = Url::parse(alloc, longer.as_str()).err();
-    assert_eq!(rt; fault, Some(UrlFault::TooLong));
-    Ok(())
+fn reads(alloc: Global, text: &str) -> Result<bool, Fail> {
+    let url = Url::parse(alloc, text)?;
+    let copied = url.copy(alloc)?;
+    Ok(url.text() == text && copied.text() == text && copied == url)
 }
 
 #[test]
 fn urls_are_kept_as_read(rt: HostRuntime) -> Result<(), Fail> {
-    let alloc = rt.alloc();
-    let url = Url::parse(alloc, "service:printer:lpr://A")?;
-    let copied = url.copy(alloc)?;
-    assert_eq!(rt; copied.text(), "service:printer:lpr://A");
-    assert!(rt; copied == url);
-    assert!(rt; url < Url::parse(alloc, "service:printer:lpr://a")?);
+    assert_holds(&rt, reads(rt.alloc(), "service:printer:lpr://A")?, "a URL");
+    let longest = url_of_length(rt.alloc(), 1_024)?;
+    assert_holds(&rt, reads(rt.alloc(), longest.as_str())?, "1024 bytes");
+    Ok(())
+}
+
+#[test]
+fn urls_have_at_most_1024_bytes(rt: HostRuntime) -> Result<(), Fail> {
+    let longer = url_of_length(rt.alloc(), 1_025)?;
+    let fault = Reader::Urls.fault(rt.alloc(), longer.as_str());
+    assert_holds(&rt, fault == Some(UrlFault::TooLong), "1025 bytes");
+    Ok(())
+}
+
+fn is_less(alloc: Global, first: &str, second: &str) -> Result<bool, Fail> {
+    let first = Url::parse(alloc, first)?;
+    let second = Url::parse(alloc, second)?;
+    Ok(first < second)
+}
+
+#[test]
+fn urls_are_in_byte_order(rt: HostRuntime) -> Result<(), Fail> {
+    let (first, second) = ("service:printer:lpr://A", "service:printer:lpr://a");
+    assert_holds(&rt, is_less(rt.alloc(), first, second)?, "A and a");
     Ok(())
 }
