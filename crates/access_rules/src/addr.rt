@@ -5,9 +5,6 @@ ghost use Rattle.access_rules.specs.Addresses.{number_of, octet_of, address_in, 
 use slp_text::cut;
 use std::marker::Model;
 
-#[cfg(test)]
-mod tests;
-
 /// An address of IPv4, its first byte the highest. Contracts see the number.
 #[derive(Clone, Copy, Debug, PartialEq, Eq)]
 pub struct Addr(pub u32);

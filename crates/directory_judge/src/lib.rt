@@ -9,8 +9,6 @@ mod judging;
 mod naming;
 mod rooms;
 mod site;
-#[cfg(test)]
-mod tests;
 mod withdrawing;
 
 pub use because::{Because, Decider};

@@ -8,14 +8,10 @@ mod meeting;
 mod place;
 mod printing;
 mod program;
-#[cfg(test)]
-mod replay_tests;
 mod running;
 mod script;
 mod session;
 mod streaming;
-#[cfg(test)]
-mod tests;
 
 pub use fault::RunFault;
 pub use place::{Block, Place};

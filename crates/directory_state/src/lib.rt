@@ -6,8 +6,6 @@ mod asking;
 mod directory;
 pub mod laws;
 mod query;
-#[cfg(test)]
-mod tests;
 
 pub use directory::Directory;
 pub use query::{QueryFault, ServiceQuery};

@@ -2,8 +2,6 @@
 #![tactic(auto)]
 
 mod fault;
-#[cfg(test)]
-mod tests;
 mod types;
 mod urls;
 

@@ -5,8 +5,6 @@ mod config;
 mod fault;
 mod keys;
 mod listening;
-#[cfg(test)]
-mod tests;
 mod values;
 
 pub use config::{Config, LONGEST_CONFIG};

@@ -10,8 +10,6 @@ mod faulting;
 mod refusing;
 mod replying;
 mod sending;
-#[cfg(test)]
-mod tests;
 mod understanding;
 
 pub use acknowledging::acknowledge;

@@ -10,8 +10,6 @@ pub mod laws;
 mod rows;
 mod scopes;
 mod tags;
-#[cfg(test)]
-mod tests;
 mod texts;
 
 pub use cutting::cut;

@@ -68,25 +68,6 @@ fn assert_allowed(rt: &impl Abort, verdict: Verdict, place: usize) {
 }
 
 #[test]
-fn opening_rules_allow_everything(rt: HostRuntime) -> Result<(), Fail> {
-    let rules = Rules::opening(rt.alloc())?;
-    let place = make_place(rt.alloc())?;
-    assert_eq!(rt; rules.len(), 3);
-    for (at, action, name) in [
-        (0, Action::Register, "all-register"),
-        (1, Action::Withdraw, "all-withdraw"),
-        (2, Action::See, "all-see"),
-    ] {
-        let verdict = rules.decide(OUTSIDE, action, &place.kind, &place.scope);
-        assert_allowed(&rt, verdict, at);
-        if at < rules.len() {
-            assert_eq!(rt; rules.name(at), name);
-        }
-    }
-    Ok(())
-}
-
-#[test]
 fn the_first_rule_that_fits_decides(rt: HostRuntime) -> Result<(), Fail> {
     let alloc = rt.alloc();
     let place = make_place(alloc)?;
