@@ -35,7 +35,7 @@ impl Prefix {
 }
 
 /// A rule of the rule file.
-#[derive(Debug, Drop)]
+#[derive(Drop)]
 pub struct Rule {
     pub name: Text,
     /// The askers that it is about.

@@ -10,9 +10,6 @@ use slp_text::{Key, NoMemory, Row, Text};
 use std::alloc::Global;
 use std::marker::Model;
 
-#[cfg(test)]
-mod tests;
-
 /// What was decided, and the place of the rule that decided it. `None` is the default, which denies.
 #[derive(Clone, Copy, Debug)]
 pub struct Verdict {
@@ -21,7 +18,7 @@ pub struct Verdict {
 }
 
 /// Rules in their order, which contracts see as a list.
-#[derive(Debug, Drop)]
+#[derive(Drop)]
 pub struct Rules {
     rules: Vec<Rule>,
 }
@@ -57,6 +54,13 @@ fn allowing(alloc: Global, name: &str, action: Action) -> Result<Rule, NoMemory>
 }
 
 impl Rules {
+    /// These rules, of which the first that fits decides.
+    pub fn new(rules: Vec<Rule>) -> Rules
+        ensures { result ≡ rules.items }
+    {
+        Rules { rules }
+    }
+
     /// The rules before any rule file is read: everyone may do everything everywhere.
     pub fn opening(alloc: Global) -> Result<Rules, NoMemory>
         ensures { IfOk result (λ r. r ≡ opening_rules) }

@@ -19,6 +19,8 @@ mod messages;
 #[cfg(test)]
 mod registries;
 #[cfg(test)]
+mod rules;
+#[cfg(test)]
 mod services;
 #[cfg(test)]
 mod streams;

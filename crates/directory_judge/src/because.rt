@@ -23,7 +23,7 @@ pub enum Decider {
 }
 
 /// Why a message was answered so: who decided, and on which type in which scope, where that is known.
-#[derive(Debug, Drop)]
+#[derive(Drop)]
 pub struct Because {
     pub decider: Decider,
     pub kind: Option<ServiceType>,

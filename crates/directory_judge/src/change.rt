@@ -7,7 +7,7 @@ use slp_text::ScopeList;
 use std::sync::Arc;
 
 /// An entry that a registration founds, of 1 to 16 scopes, and the moment of that in seconds.
-#[derive(Debug, Drop)]
+#[derive(Drop)]
 pub struct Placed {
     pub moment: u32,
     pub entry: Arc<Entry>,
@@ -16,14 +16,14 @@ pub struct Placed {
 }
 
 /// What a withdrawal ends: the entries of a URL, in every language, of exactly these scopes.
-#[derive(Debug, Drop)]
+#[derive(Drop)]
 pub struct Withdrawn {
     pub url: Url,
     pub scopes: ScopeList,
 }
 
 /// A change of a directory, at its moment in seconds.
-#[derive(Debug, Drop)]
+#[derive(Drop)]
 pub enum Change {
     Put(Placed),
     Withdraw(u32, Arc<Withdrawn>),

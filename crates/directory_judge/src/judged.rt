@@ -2,7 +2,7 @@ use crate::because::Because;
 use crate::change::Change;
 
 /// What comes of a message that may change something.
-#[derive(Debug, Drop)]
+#[derive(Drop)]
 pub enum Judged {
     Accept(Change, Because),
     /// Nothing is changed, and nobody had to decide.

@@ -15,7 +15,7 @@ use slp_text::{NoMemory, ScopeList, TagList, TextFault};
 use std::alloc::Global;
 
 /// What a registration names: its type, and those of its scopes that the site supports.
-#[derive(Debug, Drop)]
+#[derive(Drop)]
 pub struct Taken {
     pub kind: ServiceType,
     pub scopes: ScopeList,
@@ -23,7 +23,7 @@ pub struct Taken {
 
 /// What is found of a registration: its URL and what it names, or the code of the first fault and the
 /// step that asks for it.
-#[derive(Debug, Drop)]
+#[derive(Drop)]
 pub enum Named {
     Taken(Url, Taken),
     Denied(u16, Decider),

@@ -6,7 +6,7 @@ use std::marker::Model;
 
 /// What stays the same while a directory runs: the scopes that it supports, how many entries it
 /// takes, and its boot stamp.
-#[derive(Debug, Drop)]
+#[derive(Drop)]
 pub struct Site {
     scopes: ScopeList,
     capacity: usize,

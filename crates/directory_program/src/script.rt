@@ -14,7 +14,7 @@ pub const LONGEST_LINE: usize = 140_000;
 pub const LONGEST_DATAGRAM: usize = 65_535;
 
 /// What a line says.
-#[derive(Debug, Drop)]
+#[derive(Drop)]
 pub enum Said {
     /// Nothing: the line is empty.
     Blank,

@@ -7,7 +7,7 @@ use std::alloc::{AllocError, AllocFailed};
 use thiserror::Error;
 
 /// What a service request asks for. Predicates are still to come.
-#[derive(Debug, Drop)]
+#[derive(Drop)]
 pub struct ServiceQuery {
     pub kind: ServiceType,
     pub scopes: ScopeList,

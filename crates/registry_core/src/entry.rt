@@ -2,7 +2,7 @@ use service_url::{ServiceType, Url};
 use slp_text::{Key, ScopeList};
 
 /// One registered service in one language (RFC 2608, section 4.3).
-#[derive(Debug, Drop)]
+#[derive(Drop)]
 pub struct Entry {
     pub url: Url,
     pub language: Key,

@@ -11,7 +11,7 @@ use std::marker::Model;
 
 /// A service type, folded, which contracts see as its bytes: `service:A`, `service:A:C`, or a name as
 /// `http` of another scheme (RFC 2609, section 2).
-#[derive(Debug, Drop)]
+#[derive(Drop)]
 pub struct ServiceType {
     text: String,
 }

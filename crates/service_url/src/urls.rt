@@ -19,7 +19,7 @@ use std::marker::Model;
 pub const LONGEST_URL: usize = 1_024;
 
 /// A URL as it was read, which contracts see as its bytes. URLs are compared and ordered by them.
-#[derive(Debug, Drop)]
+#[derive(Drop)]
 pub struct Url {
     text: Text,
 }

@@ -14,7 +14,7 @@ use toml::Value;
 pub const LONGEST_CONFIG: usize = 1_048_576;
 
 /// The configuration of a site.
-#[derive(Debug, Drop)]
+#[derive(Drop)]
 pub struct Config {
     /// The supported scopes: 1 to 16, whose printed list has at most 1,024 bytes.
     pub scopes: ScopeList,

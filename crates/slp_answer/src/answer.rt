@@ -6,7 +6,7 @@ use slp_wire::{function, read_header};
 use std::alloc::Global;
 
 /// The bytes of a reply, and those of its audit line. Either may be empty.
-#[derive(Debug, Drop)]
+#[derive(Drop)]
 pub struct Answer {
     pub bytes: Vec<u8>,
     pub audit: Vec<u8>,

@@ -9,7 +9,7 @@ use slp_wire::{Header, ServiceRequest};
 use std::alloc::Global;
 
 /// What a service request asks.
-#[derive(Debug, Drop)]
+#[derive(Drop)]
 pub enum Question {
     /// Nothing that a directory answers.
     Silent,

@@ -9,7 +9,7 @@ use directory_judge::{Because, Decider};
 use slp_text::{NoMemory, Place, is_reserved};
 
 /// What came of a message: its code, who decided and on what, what was asked for, and by whom.
-#[derive(Debug, Drop)]
+#[derive(Drop)]
 pub struct Audit {
     pub code: u16,
     pub because: Because,

@@ -14,7 +14,7 @@ use std::marker::Model;
 
 /// A text with its white space squeezed and its case folded, which contracts see as its bytes. Keys
 /// are ordered by their UTF-8 bytes.
-#[derive(Debug, Drop)]
+#[derive(Drop)]
 pub struct Key {
     pub(crate) text: String,
 }

@@ -22,7 +22,7 @@ use std::alloc::Global;
 use std::marker::Model;
 
 /// A set of scopes, which contracts see as the list of their keys in key order.
-#[derive(Debug, Drop)]
+#[derive(Drop)]
 pub struct ScopeList {
     keys: Vec<Key>,
 }

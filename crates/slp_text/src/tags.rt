@@ -22,7 +22,7 @@ use ucd_case::full_folding;
 
 /// A list of tags with `*` for any run of characters (RFC 2608, section 10.3), which contracts see as
 /// the list of its parts: the bytes of each, and `None` for each `*`.
-#[derive(Debug, Drop)]
+#[derive(Drop)]
 pub struct TagList {
     parts: Vec<Vec<Option<u8>>>,
 }
