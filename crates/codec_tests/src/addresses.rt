@@ -1,9 +1,5 @@
 use crate::holding::assert_holds;
-use access_rules::{Action, Addr, Rules, number};
-use service_url::ServiceType;
-use slp_text::key;
-use std::alloc::Global;
-use std::test::Fail;
+use access_rules::{Addr, number};
 
 static NUMBERS: [(&str, Option<u32>); 8] = [
     ("0", Some(0)),
@@ -76,41 +72,4 @@ fn ports_follow_a_colon(rt: HostRuntime) {
     for (text, want) in &PORTS {
         assert_holds(&rt, has_port(text, *want), text);
     }
-}
-
-static OPENING: [(usize, Action, &str); 3] = [
-    (0, Action::Register, "all-register"),
-    (1, Action::Withdraw, "all-withdraw"),
-    (2, Action::See, "all-see"),
-];
-
-// Whether an action is allowed by the rule of this name at a place.
-fn is_allowed(
-    alloc: Global,
-    rules: &Rules,
-    action: Action,
-    place: usize,
-    name: &str,
-) -> Result<bool, Fail> {
-    if place >= rules.len() || rules.name(place) != name {
-        return Ok(false);
-    }
-    let kind = ServiceType::parse(alloc, "service:printer:lpr")?;
-    let scope = key(alloc, "Default")?;
-    let verdict = rules.decide(Addr(0x0b00_0000), action, &kind, &scope);
-    Ok(verdict.allow && verdict.rule == Some(place))
-}
-
-#[test]
-fn opening_rules_allow_everything(rt: HostRuntime) -> Result<(), Fail> {
-    let rules = Box::new(rt.alloc(), Rules::opening(rt.alloc())?)?;
-    assert_holds(&rt, rules.len() == 3, "three rules");
-    for (place, action, name) in &OPENING {
-        assert_holds(
-            &rt,
-            is_allowed(rt.alloc(), &rules, *action, *place, name)?,
-            name,
-        );
-    }
-    Ok(())
 }

@@ -236,10 +236,38 @@ fn without_a_rule_all_is_denied(rt: HostRuntime) -> Result<(), Fail> {
     let alloc = rt.alloc();
     let place = (PRINTER, "Default");
     let none = Rules::new(Vec::new(alloc));
-    let told = decided(alloc, &none, INSIDE, Action::Register, place)?;
-    assert_holds(&rt, told == (false, None), "no rules");
+    let told = decided(alloc, &none, INSIDE, Action::Register, place);
+    drop(none);
+    assert_holds(&rt, told? == (false, None), "no rules");
     let one = rules_of(alloc, (0, "", "", true), None)?;
-    let told = decided(alloc, &one, OUTSIDE, Action::See, place)?;
-    assert_holds(&rt, told == (false, None), "another action");
+    let told = decided(alloc, &one, OUTSIDE, Action::See, place);
+    drop(one);
+    assert_holds(&rt, told? == (false, None), "another action");
+    Ok(())
+}
+
+static OPENING: [(usize, Action, &str); 3] = [
+    (0, Action::Register, "all-register"),
+    (1, Action::Withdraw, "all-withdraw"),
+    (2, Action::See, "all-see"),
+];
+
+// Whether each action is allowed to everyone, by the rule of its name.
+fn are_open(alloc: Global, rules: &Rules) -> Result<bool, Fail> {
+    for (place, action, name) in &OPENING {
+        let told = decided(alloc, rules, OUTSIDE, *action, (PRINTER, "Default"))?;
+        if *place >= rules.len() || rules.name(*place) != *name || told != (true, Some(*place)) {
+            return Ok(false);
+        }
+    }
+    Ok(rules.len() == 3)
+}
+
+#[test]
+fn opening_rules_allow_everything(rt: HostRuntime) -> Result<(), Fail> {
+    let rules = Rules::opening(rt.alloc())?;
+    let told = are_open(rt.alloc(), &rules);
+    drop(rules);
+    assert_holds(&rt, told?, "opening rules");
     Ok(())
 }

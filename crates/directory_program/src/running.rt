@@ -56,7 +56,7 @@ fn run_through<R: Read, W: Write>(
 impl Replay {
     ghost use Rattle.directory_program.specs.Gives.{Gives, KnownGives};
 
-    /// A replay. Takes no memory.
+    /// A replay.
     pub fn new(alloc: Global) -> Replay {
         Replay {
             answer: Answer::new(alloc),

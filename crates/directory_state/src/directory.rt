@@ -123,7 +123,7 @@ impl<R: Registry> Directory<R> {
         )
     }
 
-    /// Makes a change: what is dead at its moment is dropped, and the clock raised. It takes no memory.
+    /// Makes a change: what is dead at its moment is dropped, and the clock raised. It has no answer for want of memory.
     pub fn apply(&mut self, change: Change)
         ensures made { self.new ≡ made (content change) self.old }
         ensures fold { (opening : List AnyRule) (h : History) (c : Event) → Fold opening self.old.site h self.old → IsLegal opening self.old.site (c ∷ h)

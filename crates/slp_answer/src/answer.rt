@@ -1,4 +1,4 @@
-ghost use Rattle.std.specs.Prelude.{◌≡◌, ◌==◌, ◌||◌, []};
+ghost use Rattle.std.specs.Prelude.{◌≡◌, ◌==◌, ◌||◌, [], vec_capacity};
 ghost use Rattle.slp_messages.specs.declared.function.TheConstants.{REGISTRATION, WITHDRAWAL};
 ghost use Rattle.slp_answer.specs.Answering.{is_change_of};
 
@@ -17,6 +17,8 @@ impl Answer {
     pub fn new(alloc: Global) -> Answer
         ensures bytes { result.bytes.items ≡ [] }
         ensures audit { result.audit.items ≡ [] }
+        ensures bytes_room { vec_capacity result.bytes ≡ 0 }
+        ensures audit_room { vec_capacity result.audit ≡ 0 }
     {
         Answer {
             bytes: Vec::new(alloc),
@@ -28,6 +30,8 @@ impl Answer {
     pub(crate) fn clear(&mut self)
         ensures bytes { self.new.bytes.items ≡ [] }
         ensures audit { self.new.audit.items ≡ [] }
+        ensures bytes_room { vec_capacity self.new.bytes ≡ vec_capacity self.old.bytes }
+        ensures audit_room { vec_capacity self.new.audit ≡ vec_capacity self.old.audit }
     {
         self.bytes.clear();
         self.audit.clear();
