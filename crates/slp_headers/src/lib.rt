@@ -4,6 +4,7 @@
 
 mod fixed;
 pub mod flag;
+pub mod laws;
 pub mod place;
 mod reading;
 mod reply;

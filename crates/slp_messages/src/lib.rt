@@ -6,6 +6,7 @@ pub mod code;
 pub mod function;
 mod header;
 mod kind;
+pub mod laws;
 mod message;
 
 pub use header::{Flags, Header, Tag};
