@@ -10,8 +10,8 @@ use access_rules::{Action, Addr, Rules};
 use directory_judge::Site;
 use registry_core::Registry;
 use service_url::{ServiceType, Url};
-use slp_text::{Key, NoMemory, Text};
 use slp_messages::UrlEntry;
+use slp_text::{Key, NoMemory, Text};
 use std::alloc::Global;
 use std::collections::BTreeMap;
 
