@@ -5,8 +5,8 @@ use Rattle.std.specs.List.{prefix_len}
 use Rattle.std.specs.Prelude.{find, filter, is_some, not, nat_lt, position, Option}
 use Rattle.std.proofs.lemmas.Option.{cond_some, none-some}
 use borrow.Author.Tests.{ltb-true, ltb-false}
-use Rattle.std.proofs.lemmas.List.{nil_from_length, length-map, get_or-map}
-use Rattle.std.proofs.Common.{drop-cons, add-one, length-drop}
+use Rattle.std.proofs.lemmas.List.{length-map, get_or-map}
+use Rattle.std.proofs.Common.{drop-cons, add-one}
 use Rattle.std.proofs.lemmas.Cmp.{then_total, on_total, nat_list_cmp_total}
 use Rattle.std.proofs.lemmas.Map.Lookups.{CmpEqualImpliesEq, exact_bytes, exact_pairs}
 use Rattle.std.specs.Cmp.{IsTotalOrder, eq_by_cmp_equiv}
@@ -15,6 +15,7 @@ use Rattle.std.specs.Ordering.{nat_cmp, eq_by_cmp, is_eq, ordering_then}
 use Rattle.std.specs.declared.cmp.Ordering.{Ordering}
 use Rattle.std.specs.declared.cmp.Ordering.TheVariants.{Less, Equal, Greater}
 use Rattle.std.specs.FinMap as fin
+use Rattle.slp_text.proofs.KeySets.{is_eq-true}
 use Rattle.registry_core.specs.declared.entry.Entry.{Entry}
 use Rattle.registry_core.specs.Entries.{Pair, Entries, pair_cmp, pair_eq, pair_of, is_of, of_list, kept, passing, IsDistinct, IsListing}
 
@@ -32,11 +33,6 @@ is_eq-then Greater b = refl
 
 pub cmp-pair_eq : (p q : Pair) → eq_by_cmp pair_cmp p q ≡ pair_eq p q
 cmp-pair_eq p q = is_eq-then (slice_cmp nat_cmp p.0 q.0) (slice_cmp nat_cmp p.1 q.1) ∙ ap₂ ◌&&◌ (sym (texts_ties p.0 q.0)) (sym (texts_ties p.1 q.1))
-
-is_eq-true : (o : Ordering) → is_eq o ≡ true → o ≡ Equal
-is_eq-true Less h = cc
-is_eq-true Equal h = refl
-is_eq-true Greater h = cc
 
 pub pair_eq-true : (p q : Pair) → pair_eq p q ≡ true → p ≡ q
 pair_eq-true p q h = pair_exact p q (is_eq-true _ (cmp-pair_eq p q ∙ h))
@@ -232,9 +228,6 @@ filter_here p es i d h t = ap (filter p) (drop-cons es i d h) ∙ ap (λ b. cond
 
 pub filter_past : (p : Entry → Bool) (es : List Entry) (i : ℕ) (d : Entry) → i < length es → p (get_or es i d) ≡ false → filter p (drop i es) ≡ filter p (drop (i + 1) es)
 filter_past p es i d h t = ap (filter p) (drop-cons es i d h) ∙ ap (λ b. cond b (get_or es i d ∷ filter p (drop (suc i) es)) (filter p (drop (suc i) es))) t ∙ ap (λ n. filter p (drop n es)) (sym (add-one i))
-
-pub filter_end : (p : Entry → Bool) (es : List Entry) (i : ℕ) → length es ≤ i → filter p (drop i es) ≡ []
-filter_end p es i h = ap (filter p) (nil_from_length (drop i es) (simp length-drop (omega arith)))
 
 pub listed_len : {A : Type 0} (v : A → Entry) (xs : List A) → IsDistinct (map v xs) → fin.len (of_list (map v xs)) ≡ length xs
 listed_len v xs d = len-of_list (map v xs) d ∙ length-map xs v

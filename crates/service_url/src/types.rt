@@ -1,11 +1,11 @@
-ghost use Rattle.std.specs.Prelude.{◌≡◌, ◌&&◌, ◌∷◌, ◌++◌, ◌≤◌, [], nat_eq, length, IsTrue, IfOk};
+ghost use Rattle.std.specs.Prelude.{◌≡◌, ◌&&◌, ◌||◌, ◌∷◌, ◌++◌, ◌≤◌, [], nat_eq, length, IsTrue, IfOk};
 ghost use Rattle.std.specs.Option.{option_copied};
 ghost use Rattle.std.specs.List.{list_all, starts_with, position_or_len, before_first, after_first};
 ghost use Rattle.service_url.specs.Reading.{IsReading};
-ghost use Rattle.service_url.specs.Types.{is_colon, is_name_byte as is_name_number, is_name as is_name_text, is_service as is_service_text, is_abstract as is_abstract_text, is_concrete as is_concrete_text, is_type as is_type_text, is_abstract_with_colon as is_abstract_text_with_colon, covers as covers_it, type_of, is_dot, main_name as main_name_of, authority_of, named_authority};
+ghost use Rattle.service_url.specs.Types.{is_colon, is_name_byte as is_name_number, is_name as is_name_text, is_service as is_service_text, is_abstract as is_abstract_text, is_concrete as is_concrete_text, is_abstract_with_colon as is_abstract_text_with_colon, covers as covers_it, type_of, is_dot, main_name as main_name_of, authority_of, named_authority};
 
 use crate::fault::UrlFault;
-use slp_text::{Key, NoMemory, key};
+use slp_text::{Key, NoMemory, TextFault, key};
 use std::alloc::Global;
 use std::marker::Model;
 
@@ -14,17 +14,18 @@ use std::marker::Model;
 #[derive(Drop)]
 pub struct ServiceType {
     text: String,
+    is_abstract: bool,
 }
 
 impl Model for ServiceType {
-    ghost use Rattle.std.specs.Prelude.{List, ℕ, string_bytes, IsTrue};
-    ghost use Rattle.service_url.specs.Types.{is_type};
+    ghost use Rattle.std.specs.Prelude.{◌≡◌, List, ℕ, string_bytes, IsTrue};
+    ghost use Rattle.service_url.specs.Types.{is_type, is_abstract as is_abstract_text};
 
     ghost Value = { List ℕ };
 
     ghost view = { λ a. string_bytes a.text };
 
-    ghost invariant = { λ a. IsTrue (is_type (string_bytes a.text)) };
+    ghost invariant = { λ a. IsTrue (is_type (string_bytes a.text)) × (a.is_abstract ≡ is_abstract_text (string_bytes a.text)) };
 }
 
 const SERVICE: &[u8] = b"service:";
@@ -81,11 +82,11 @@ fn is_concrete(bytes: &[u8]) -> bool
     is_service(bytes) && are_two_names(&bytes[SERVICE.len()..])
 }
 
-// Whether a folded text is a type: `service:A`, `service:A:C` or a name.
-fn is_type(bytes: &[u8]) -> bool
-    ensures { result ≡ is_type_text bytes.now }
+// Whether a folded text is `service:A:C` or a name, the types that are not `service:A`.
+fn is_made_or_named(bytes: &[u8]) -> bool
+    ensures { result ≡ (is_concrete_text bytes.now || is_name_text bytes.now) }
 {
-    is_abstract(bytes) || is_concrete(bytes) || is_name(bytes)
+    is_concrete(bytes) || is_name(bytes)
 }
 
 fn is_abstract_with_colon(bytes: &[u8]) -> bool
@@ -101,7 +102,7 @@ fn is_abstract_with_colon(bytes: &[u8]) -> bool
 fn is_followed_by_colon(front: &[u8], text: &[u8]) -> bool
     ensures { result ≡ starts_with nat_eq text.now (front.now ++ 58 ∷ []) }
 {
-    front.len() < text.len() && text.starts_with(front) && text[front.len()] == b':'
+    front.len() < text.len() && text[front.len()] == b':' && text.starts_with(front)
 }
 
 fn before_colon(text: &str) -> &str
@@ -141,16 +142,21 @@ impl ServiceType {
     {
         let mut text = match key(alloc, text) {
             Ok(folded) => folded.into_string(),
-            Err(_) => return Err(UrlFault::NoMemory),
+            Err(TextFault::NoMemory) => return Err(UrlFault::NoMemory),
+            Err(_) => unreachable!(),
         };
         if is_abstract_with_colon(text.as_bytes()) {
             text.truncate(text.len() - 1);
-            return Ok(ServiceType { text });
+            return Ok(ServiceType {
+                text,
+                is_abstract: true,
+            });
         }
-        if !is_type(text.as_bytes()) {
+        let is_abstract = is_abstract(text.as_bytes());
+        if !is_abstract && !is_made_or_named(text.as_bytes()) {
             return Err(UrlFault::BadType);
         }
-        Ok(ServiceType { text })
+        Ok(ServiceType { text, is_abstract })
     }
 
     /// The type as folded. Takes no memory.
@@ -165,8 +171,8 @@ impl ServiceType {
     pub fn covers(&self, other: &ServiceType) -> bool
         ensures { result ≡ covers_it self.now other.now }
     {
-        let (kind, other) = (self.text.as_bytes(), other.text.as_bytes());
-        kind == other || (is_abstract(kind) && is_followed_by_colon(kind, other))
+        let (kind, made) = (self.text.as_bytes(), other.text.as_bytes());
+        kind == made || (self.is_abstract && is_followed_by_colon(kind, made))
     }
 
     /// The naming authority: what follows the first dot of the name behind `service:`, or of the type
@@ -186,7 +192,10 @@ impl ServiceType {
         ensures { IfOk result (λ t. t ≡ self.now) }
     {
         let text = String::from_str(alloc, self.text.as_str())?;
-        Ok(ServiceType { text })
+        Ok(ServiceType {
+            text,
+            is_abstract: self.is_abstract,
+        })
     }
 }
 
@@ -195,8 +204,10 @@ impl ServiceType {
 pub fn parse_authority(alloc: Global, text: &str) -> Result<Key, UrlFault>
     ensures { IsReading result (named_authority text.now) }
 {
-    let Ok(folded) = key(alloc, text) else {
-        return Err(UrlFault::NoMemory);
+    let folded = match key(alloc, text) {
+        Ok(folded) => folded,
+        Err(TextFault::NoMemory) => return Err(UrlFault::NoMemory),
+        Err(_) => unreachable!(),
     };
     if folded.as_str().is_empty() || !are_name_bytes(folded.as_str().as_bytes()) {
         return Err(UrlFault::BadType);

@@ -7,7 +7,6 @@ ghost use Rattle.slp_fields.specs.Writing.{field_bytes, fields_bytes};
 use crate::field::Field;
 use slp_headers::two_bytes;
 use slp_messages::{Authority, UrlEntry};
-use slp_text::Text;
 
 /// Appends bytes, for which there is room.
 pub fn append(bytes: &mut Vec<u8>, more: &[u8])
@@ -22,26 +21,27 @@ pub fn append(bytes: &mut Vec<u8>, more: &[u8])
     }
 }
 
-fn put_text(bytes: &mut Vec<u8>, text: &Text)
+fn put_text(bytes: &mut Vec<u8>, text: &str)
     requires room { vec_len bytes.old + length (string text.now) ≤ vec_capacity bytes.old }
     ensures items { bytes.new.items ≡ bytes.old.items ++ string text.now }
     ensures length { vec_len bytes.new ≡ vec_len bytes.old + length (string text.now) }
     ensures capacity { vec_capacity bytes.old ≤ vec_capacity bytes.new }
 {
-    let text = text.as_str().as_bytes();
+    let text = text.as_bytes();
     append(bytes, &two_bytes(text.len()));
     append(bytes, text);
 }
 
-fn put_entry(bytes: &mut Vec<u8>, entry: &UrlEntry)
-    requires room { vec_len bytes.old + length (entry_bytes 0 entry.now) ≤ vec_capacity bytes.old }
-    ensures items { bytes.new.items ≡ bytes.old.items ++ entry_bytes 0 entry.now }
-    ensures length { vec_len bytes.new ≡ vec_len bytes.old + length (entry_bytes 0 entry.now) }
+/// Appends a URL entry, for which there is room, of a lifetime in seconds and a URL.
+pub fn put_entry(bytes: &mut Vec<u8>, lifetime: u16, url: &str)
+    requires room { vec_len bytes.old + length (entry_bytes 0 (record { lifetime = lifetime; url = url.now })) ≤ vec_capacity bytes.old }
+    ensures items { bytes.new.items ≡ bytes.old.items ++ entry_bytes 0 (record { lifetime = lifetime; url = url.now }) }
+    ensures length { vec_len bytes.new ≡ vec_len bytes.old + length (entry_bytes 0 (record { lifetime = lifetime; url = url.now })) }
     ensures capacity { vec_capacity bytes.old ≤ vec_capacity bytes.new }
 {
-    let [high, low] = entry.lifetime.to_be_bytes();
+    let [high, low] = lifetime.to_be_bytes();
     append(bytes, &[0, high, low]);
-    put_text(bytes, &entry.url);
+    put_text(bytes, url);
     append(bytes, &[0]);
 }
 
@@ -53,7 +53,7 @@ fn put_entries(bytes: &mut Vec<u8>, entries: &[UrlEntry])
 {
     append(bytes, &two_bytes(entries.len()));
     for entry in entries {
-        put_entry(bytes, entry);
+        put_entry(bytes, entry.lifetime, entry.url.as_str());
     }
 }
 
@@ -65,7 +65,7 @@ fn put_authority(bytes: &mut Vec<u8>, authority: &Authority)
 {
     match authority {
         Authority::All => append(bytes, &[0xff, 0xff]),
-        Authority::Named(name) => put_text(bytes, name),
+        Authority::Named(name) => put_text(bytes, name.as_str()),
     }
 }
 
@@ -78,8 +78,8 @@ fn put_field(bytes: &mut Vec<u8>, field: Field<'_>)
     match field {
         Field::Number(number) => append(bytes, &number.to_be_bytes()),
         Field::Long(number) => append(bytes, &number.to_be_bytes()),
-        Field::Text(text) => put_text(bytes, text),
-        Field::Entry(entry) => put_entry(bytes, entry),
+        Field::Text(text) => put_text(bytes, text.as_str()),
+        Field::Entry(entry) => put_entry(bytes, entry.lifetime, entry.url.as_str()),
         Field::Entries(entries) => put_entries(bytes, entries),
         Field::Authority(authority) => put_authority(bytes, authority),
         Field::NoBlock => append(bytes, &[0]),

@@ -8,7 +8,7 @@ mod measuring;
 mod reading;
 mod skipping;
 
-pub use appending::{append, put_fields};
+pub use appending::{append, put_entry, put_fields};
 pub use fault::WireFault;
 pub use field::Field;
 pub use measuring::{LONGEST, entry_length, with_fields};

@@ -1,10 +1,10 @@
 -- Keys of small texts, by computation.
-use Rattle.std.proofs.Common.{◌≡◌, [], ◌∷◌, ◌++◌, Ok, refl}
+use Rattle.std.proofs.Common.{◌≡◌, [], ◌∷◌, ◌++◌, Ok, length, refl}
 use Rattle.std.specs.Prelude.{codes}
 use Rattle.std.specs.Str.{chars}
 use Rattle.caseless.proofs.Computing.{caseless}
 use Rattle.slp_text.specs.Key.{key_of}
-use Rattle.slp_text.specs.Scopes.{scopes_of}
+use Rattle.slp_text.specs.Scopes.{printed, scopes_of}
 
 -- white space at the ends, and a run of it inside
 default_key : key_of (codes "  DEFAULT " ++ 9 ∷ codes " x ") ≡ codes "default x"
@@ -20,3 +20,8 @@ folded_key = refl
 pub default_scopes : scopes_of (codes "DEFAULT") ≡ Ok (key_of (codes "DEFAULT") ∷ [])
 unfolding scopes_of key_of caseless chars lib.Utf8.encode
 default_scopes = refl
+
+-- it has the bytes of `default` where it is written
+pub default_length : length (printed (key_of (codes "DEFAULT") ∷ [])) ≡ 7
+unfolding key_of caseless chars lib.Utf8.encode
+default_length = refl

@@ -177,7 +177,7 @@ filter_ascending p ks a = ascends (filter p ks) (IsStrictlySortedBy-filter bytes
 ties : (x y : List ℕ) → bytes_eq x y ≡ is_eq (bytes_cmp x y)
 ties x y = sym (is_eq-slice_cmp x y)
 
-is_eq-true : (o : Ordering) → is_eq o ≡ true → o ≡ Equal
+pub is_eq-true : (o : Ordering) → is_eq o ≡ true → o ≡ Equal
 is_eq-true Less h = cc
 is_eq-true Equal h = refl
 is_eq-true Greater h = cc

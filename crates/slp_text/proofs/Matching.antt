@@ -114,9 +114,6 @@ at_star p t n is =
 pub star_is : (p : Part) (t : List ℕ) (n : ℕ) → run_of p t ≡ Star n → is_match p t ≡ list_any (is_match (drop (n + 1) p)) (ends_of (drop n t))
 star_is p t n is = let h = subst (Told p t) is (told p t) in h.2
 
-pub star_within : (p : Part) (t : List ℕ) (n : ℕ) → run_of p t ≡ Star n → (n < length p) × (n ≤ length t)
-star_within p t n is = let h = subst (Told p t) is (told p t) in (h.0, h.1)
-
 pub ends_is : (p : Part) (t : List ℕ) → run_of p t ≡ Ends → is_match p t ≡ true
 ends_is p t is = subst (Told p t) is (told p t)
 
@@ -150,10 +147,6 @@ any-map f q (x ∷ xs) = ap (λ b. q (f x) || b) (any-map f q xs)
 pub selects-any : {A : Type 0} (f : A → Part) (xs : List A) (tag : List ℕ) → 0 < length xs → selects (map f xs) tag ≡ list_any (λ x. is_match (f x) tag) xs
 selects-any f [] tag some = absurd (omega (arith, some))
 selects-any f (x ∷ xs) tag some = any-map f (λ part. is_match part tag) (x ∷ xs)
-
-pub selects-none : {A : Type 0} (f : A → Part) (xs : List A) (tag : List ℕ) → length xs ≡ 0 → selects (map f xs) tag ≡ true
-selects-none f [] tag none = refl
-selects-none f (x ∷ xs) tag none = absurd (omega (arith, none))
 
 rest_all : {A : Type 0} (k : ℕ) (xs : List A) → take (length xs - k) (drop k xs) ≡ drop k xs
 rest_all k xs = ap (λ m. take m (drop k xs)) (sym (length-drop k xs)) ∙ take-length (drop k xs)

@@ -1,5 +1,5 @@
 -- What of a scope list is still to be printed.
-use Rattle.std.proofs.Common.{◌≡◌, ◌<◌, ◌+◌, ℕ, Bool, true, false, List, [], ◌∷◌, ◌++◌, length, get_or, drop, refl, sym, ap, ◌∙◌, append_assoc, append-nil, chars, encode_utf8_all, add-one, drop-cons}
+use Rattle.std.proofs.Common.{◌≡◌, ◌<◌, ◌+◌, ℕ, Bool, true, false, List, [], ◌∷◌, ◌++◌, length, get_or, drop, sym, ap, ◌∙◌, append_assoc, append-nil, chars, encode_utf8_all, add-one, drop-cons}
 use Rattle.slp_text.specs.Escapes.{escaped}
 use Rattle.slp_text.specs.Named.{scope_written}
 use Rattle.slp_text.specs.Scopes.{printed}
@@ -21,10 +21,6 @@ printed_from true ks = with_commas ks
 pub printed-first : (k : List ℕ) (ks : List (List ℕ)) → printed (k ∷ ks) ≡ written k ++ with_commas ks
 printed-first k [] = sym (append-nil (written k))
 printed-first k (j ∷ ks) = ap (λ t. written k ++ 44 ∷ t) (printed-first j ks)
-
-pub printed_from-nil : (begun : Bool) → printed_from begun [] ≡ []
-printed_from-nil false = refl
-printed_from-nil true = refl
 
 -- the key at an index and those after it
 pub key_at : (ks : List (List ℕ)) (i : ℕ) (d : List ℕ) → i < length ks → drop i ks ≡ get_or ks i d ∷ drop (i + 1) ks

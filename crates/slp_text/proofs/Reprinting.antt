@@ -150,10 +150,6 @@ read_scopes text ks u h =
 
 -- ---- what is printed
 
--- no comma
-abbrev pub HasNoComma : List ℕ → Type 0
-HasNoComma = AllByRecursion (λ c. is_comma c ≡ false)
-
 digit-no_comma : (d : ℕ) → d < 16 → is_comma (capital_digit d) ≡ false
 digit-no_comma d h = grind (arith, nat_tests)
 

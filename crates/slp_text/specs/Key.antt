@@ -1,10 +1,14 @@
 -- Keys of texts: white space squeezed, case folded (RFC 2608, section 6.4).
-use Rattle.std.specs.Prelude.{ℕ, Bool, true, false, ◌==◌, ◌||◌, List, [], ◌∷◌, chars, encode_utf8_all, if◌then◌else◌}
+use Rattle.std.specs.Prelude.{ℕ, Bool, true, false, ◌==◌, ◌&&◌, ◌||◌, nat_lt, List, [], ◌∷◌, chars, encode_utf8_all, if◌then◌else◌}
 use Rattle.caseless.specs.Caseless.{default_case_fold}
 
 -- SPACE, TAB, LF and CR
 abbrev pub is_white : ℕ → Bool
 is_white c = c == 32 || c == 9 || c == 10 || c == 13
+
+-- a byte of ASCII that is no white space, and no other control character but DEL
+abbrev pub is_word_byte : ℕ → Bool
+is_word_byte b = nat_lt 32 b && nat_lt b 128
 
 -- the characters from the first on that is no white space
 abbrev pub trim_start : List ℕ → List ℕ

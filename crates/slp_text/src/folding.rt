@@ -3,14 +3,14 @@ ghost use Rattle.slp_text.specs.Key.{is_white, key_of};
 ghost use Rattle.slp_text.specs.Words.{is_blank as is_all_white};
 ghost use Rattle.slp_text.specs.declared.faults.TextFault.TheVariants.{NoMemory as Lacking};
 
+use crate::ascii::{is_word, word_key};
 use crate::faults::TextFault;
 use crate::keys::Key;
 use caseless::Caseless;
 use std::alloc::Global;
 
-/// The key by which texts are compared (RFC 2608, section 6.4). The text is gone through once, and
-/// the key is the one text that is made.
-pub fn key(alloc: Global, text: &str) -> Result<Key, TextFault>
+// The key of any text. The text is gone through once, and the key is the one text that is made.
+fn folded_key(alloc: Global, text: &str) -> Result<Key, TextFault>
     ensures value { IfOk result (λ k. k ≡ key_of text.now) }
     ensures memory { OnErr result (result ≡ Err Lacking) }
 {
@@ -30,6 +30,17 @@ pub fn key(alloc: Global, text: &str) -> Result<Key, TextFault>
         }
     }
     Ok(Key { text: folded })
+}
+
+/// The key by which texts are compared (RFC 2608, section 6.4). It is the one text that is made.
+pub fn key(alloc: Global, text: &str) -> Result<Key, TextFault>
+    ensures value { IfOk result (λ k. k ≡ key_of text.now) }
+    ensures memory { OnErr result (result ≡ Err Lacking) }
+{
+    if is_word(text.as_bytes()) {
+        return word_key(alloc, text);
+    }
+    folded_key(alloc, text)
 }
 
 /// Whether a character is SPACE, TAB, CR or LF.

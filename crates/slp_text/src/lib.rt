@@ -1,6 +1,7 @@
 //! Texts, rows, keys, scope lists and tag lists, which contracts see as lists.
 #![tactic(auto)]
 
+mod ascii;
 mod cutting;
 mod escapes;
 mod faults;

@@ -9,8 +9,10 @@ mod reading;
 mod writing;
 
 pub use reading::decode;
-pub use slp_fields::{WireFault, entry_length};
-pub use slp_headers::{HeaderView, error_reply, flag, place, read_header, reply_function};
+pub use slp_fields::{WireFault, append, entry_length, put_entry};
+pub use slp_headers::{
+    HeaderView, error_reply, flag, opening, place, read_header, reply_function, two_bytes,
+};
 pub use slp_messages::{
     AttributeReply, AttributeRequest, Authority, DirectoryAdvert, DirectoryAgent, ErrorCode, Flags,
     Header, Message, Registration, ServiceAgent, ServiceReply, ServiceRequest, Tag, TypeReply,

@@ -1,4 +1,4 @@
-use Rattle.std.proofs.Common.{arith}
+use Rattle.std.proofs.Common.{ℕ, List, ap, arith, length}
 use Rattle.slp_fields.specs.Spelling.{entry_bytes}
 use Rattle.slp_fields.proofs.Fits.{next_fits}
 use Rattle.slp_fields.proofs.appending.put_entries.Goals as goal
@@ -6,4 +6,5 @@ use Rattle.slp_fields.proofs.appending.put_entries.Goals as goal
 pub put_entry-requires : goal.put_entry-requires
 put_entry-requires c =
     let fits = next_fits (entry_bytes 0) c.loop-entry.entry-index c.args.entries.now c.entry-item.result c.entry-item.is c.loop-entry-test.true in
-    record { room = omega (arith, fits, c.loop-entry.invariant.count, c.loop-entry.invariant.room) }
+    let same = ap (λ (u : List ℕ). length (entry_bytes 0 (record { lifetime = c.entry-item.result.lifetime; url = u }))) c.as_str.ensures in
+    record { room = omega (arith, same, fits, c.loop-entry.invariant.count, c.loop-entry.invariant.room) }

@@ -4,8 +4,8 @@ use Rattle.unicode_normalization.proofs.IterLemmas.{Spells-chars}
 use Rattle.caseless.specs.Caseless.{default_case_fold}
 use Rattle.slp_text.specs.Key.{is_white, key_of}
 use Rattle.slp_text.proofs.Squeezing.{Reaches, Reaches-white, Reaches-gap, Reaches-char, Reaches-done}
-use Rattle.slp_text.proofs.folding.key.Goals as goal
-use Rattle.slp_text.proofs.folding.key.Goals.{then-gap+in_ok-push, else-gap}
+use Rattle.slp_text.proofs.folding.folded_key.Goals as goal
+use Rattle.slp_text.proofs.folding.folded_key.Goals.{then-gap+in_ok-push, else-gap}
 
 pub loop-c-init : goal.loop-c-init
 unfolding key_of
