@@ -1,5 +1,6 @@
 -- Decimal numbers, and addresses of IPv4 as they are written.
-use Rattle.std.specs.Prelude.{ℕ, ◌+◌, ◌-◌, ◌*◌, ◌^◌, nat_lt, nat_le, Bool, ◌==◌, ◌&&◌, if◌then◌else◌, List, [], ◌∷◌, map, Option, Some, None}
+use Rattle.std.specs.Prelude.{ℕ, ◌+◌, ◌-◌, ◌*◌, ◌/◌, ◌%◌, ◌^◌, ◌++◌, nat_lt, nat_le, Bool, ◌==◌, ◌&&◌, if◌then◌else◌, List, [], ◌∷◌, map, Option, Some, None}
+use Rattle.std.specs.Fmt.{decimal}
 use Rattle.std.specs.Option.{option_and_then}
 use Rattle.std.specs.List.{slice_split}
 
@@ -52,3 +53,9 @@ socket_in _ = None
 -- an address and a port, with a colon between them
 abbrev pub socket_of : List ℕ → Option (ℕ × ℕ)
 socket_of text = socket_in (slice_split is_colon text)
+
+-- ---- as it is printed
+
+-- four decimal numbers with a dot between each two
+abbrev pub address_text : ℕ → List ℕ
+address_text a = decimal (a / 16777216) ++ 46 ∷ decimal (a / 65536 % 256) ++ 46 ∷ decimal (a / 256 % 256) ++ 46 ∷ decimal (a % 256)

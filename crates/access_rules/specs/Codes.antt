@@ -5,6 +5,7 @@ use Rattle.access_rules.specs.declared.rule.Action.{Action}
 use Rattle.access_rules.specs.declared.rule.Action.TheVariants.{Register, Withdraw, See}
 use Rattle.access_rules.specs.declared.rule.Prefix.{Prefix}
 use Rattle.access_rules.specs.declared.rule.Rule.{Rule}
+use Rattle.access_rules.specs.Deciding.{SiteRules}
 
 -- an action as two answers: whether it is a registration, and whether it is a withdrawal
 abbrev pub action_bits : Action → Bool × Bool
@@ -36,5 +37,5 @@ rule_code = code_by (Text × (List Prefix × (Action × (Option Text × (Option 
     (λ t. record { name = t.0; from = t.1.0; action = t.1.1.0; kind = t.1.1.1.0; scopes = t.1.1.1.1.0; allow = t.1.1.1.1.1 })
     (λ _. refl)
 
-abbrev pub rules_code : Coded (List Rule)
+abbrev pub rules_code : Coded SiteRules
 rules_code = coded_list rule_code

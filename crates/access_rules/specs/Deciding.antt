@@ -40,11 +40,15 @@ abbrev pub fits : ℕ → Action → List ℕ → List ℕ → Rule → Bool
 fits asker action kind scope r =
     list_any (λ p. holds p asker) r.from && action_eq r.action action && allows_kind r.kind kind && allows_scope r.scopes scope
 
+-- what decides for a site: its rules, in their order
+abbrev pub SiteRules : Type 0
+SiteRules = List Rule
+
 -- what the rule at a place says, if there is one; without a rule all is denied
-abbrev pub verdict_at : List Rule → Option ℕ → Verdict
+abbrev pub verdict_at : SiteRules → Option ℕ → Verdict
 verdict_at rules None = record { allow = false; rule = None }
 verdict_at rules (Some place) = record { allow = option_map_or (λ r. r.allow) (slice_get rules place) false; rule = Some place }
 
 -- The first rule that fits decides.
-abbrev pub deciding : List Rule → ℕ → Action → List ℕ → List ℕ → Verdict
+abbrev pub deciding : SiteRules → ℕ → Action → List ℕ → List ℕ → Verdict
 deciding rules asker action kind scope = verdict_at rules (position (fits asker action kind scope) rules)

@@ -3,6 +3,7 @@ ghost use Rattle.std.specs.Option.{option_and_then};
 ghost use Rattle.access_rules.specs.Addresses.{number_of, octet_of, address_in, address_of, within_port, socket_of};
 
 use slp_text::cut;
+use std::fmt;
 use std::marker::Model;
 
 /// An address of IPv4, its first byte the highest. Contracts see the number.
@@ -97,5 +98,19 @@ impl Addr {
     {
         let (host, digits) = cut(text, b':')?;
         Some((Addr::parse(host)?, port(digits)?))
+    }
+}
+
+impl fmt::Display for Addr {
+    ghost use Rattle.std.specs.Prelude.{Some};
+    ghost use Rattle.access_rules.specs.Addresses.{address_text};
+
+    ghost output = { λ a. Some (address_text a) };
+
+    fn fmt<W: fmt::Write>(&self, f: &mut fmt::Formatter<W>) -> fmt::Result {
+        let number = self.0;
+        let (first, second) = (number / 16_777_216, number / 65_536 % 256);
+        let (third, fourth) = (number / 256 % 256, number % 256);
+        write!(f, "{first}.{second}.{third}.{fourth}")
     }
 }

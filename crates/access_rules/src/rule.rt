@@ -87,8 +87,8 @@ impl Rule {
     pub(crate) fn fits(&self, asker: Addr, action: Action, kind: &ServiceType, scope: &Key) -> bool
         ensures { result ≡ fits_it asker action kind.now scope.now self.now }
     {
-        self.is_from(asker)
-            && is_same(self.action, action)
+        is_same(self.action, action)
+            && self.is_from(asker)
             && self.is_of_kind(kind)
             && self.is_in_scope(scope)
     }

@@ -24,11 +24,10 @@ pub struct Rules {
 }
 
 impl Model for Rules {
-    ghost use Rattle.std.specs.Prelude.{List};
-    ghost use Rattle.access_rules.specs.declared.rule.Rule.{Rule};
     ghost use Rattle.access_rules.specs.Codes.{rules_code};
+    ghost use Rattle.access_rules.specs.Deciding.{SiteRules};
 
-    ghost Value = { List Rule };
+    ghost Value = { SiteRules };
 
     ghost coded = { rules_code };
 
