@@ -1,9 +1,8 @@
 -- What is live of a URL, however it is listed: whether something is, and which language comes first.
-use Rattle.std.proofs.Common.{◌≡◌, ◌≢◌, ℕ, Bool, true, false, cond, ◌&&◌, ◌||◌, List, [], ◌∷◌, map, length, Option, Some, None, refl, sym, ap, subst, ◌∙◌, inl, inr}
-use Rattle.std.specs.Prelude.{◌⊎◌, find, filter, T, not}
+use Rattle.std.proofs.Common.{◌≡◌, ◌≢◌, ℕ, Bool, true, false, cond, ◌&&◌, ◌||◌, List, [], ◌∷◌, map, Option, Some, None, refl, sym, ap, subst, ◌∙◌, inl, inr}
+use Rattle.std.specs.Prelude.{◌⊎◌, find, filter, T}
 use Rattle.std.specs.List.{list_any}
 use Rattle.std.specs.Cmp.{both_ways, eq_by_cmp_equiv}
-use Rattle.std.specs.Cmp.Lexicographic.{as_long}
 use Rattle.std.specs.Ordering.{eq_by_cmp, is_eq, is_lt, ordering_reverse, match_ordering}
 use Rattle.std.specs.declared.cmp.Ordering.{Ordering}
 use Rattle.std.specs.declared.cmp.Ordering.TheVariants.{Less, Equal, Greater}
@@ -12,15 +11,14 @@ use Rattle.std.specs.FinMap.Entries.{below_all, is_sorted}
 use Rattle.std.proofs.lemmas.Bool.{and_parts}
 use Rattle.std.proofs.lemmas.Cmp.{nat_list_cmp_total, tied_itself}
 use Rattle.std.proofs.lemmas.Map.Lookups.{exact_bytes}
-use Rattle.std.proofs.lemmas.Map.Text.{is_eq-slice_cmp}
 use Rattle.std.proofs.lemmas.Option.{none-some, same_Some}
+use Rattle.slp_text.proofs.KeySets.{bytes_same}
 use Rattle.slp_text.specs.Words.{bytes_eq, bytes_cmp, texts_eq}
-use Rattle.access_rules.specs.declared.rule.Rule.{Rule}
 use Rattle.registry_core.specs.declared.entry.Entry.{Entry}
 use Rattle.registry_core.specs.Entries.{Pair, Entries, pair_cmp, pair_eq, pair_of, is_of, is_of_url, is_registered, outlives, passing, IsDistinct, IsListing}
 use Rattle.registry_core.proofs.Lists.{pair_total, pair_exact, pair_eq-true, pair_eq-same, get-passing}
-use Rattle.directory_judge.specs.Judging.{earlier, first_from, first_of, entries_in, is_kept}
-use Rattle.directory_judge.specs.Walking.{is_asked}
+use Rattle.directory_judge.specs.Judging.{Grounds, concerned, earlier, first_from, first_of, entries_in, is_kept}
+use Rattle.directory_judge.specs.Walking.{is_concerned, is_kept_back}
 use Rattle.directory_judge.proofs.Maps.{kept-some, some-kept}
 
 -- ---- members of a list
@@ -32,7 +30,7 @@ IsIn e (x ∷ xs) = (x ≡ e) ⊎ IsIn e xs
 false_true : false ≡ true → ⊥
 false_true h = cc
 
-or_true : (b : Bool) → (b || true) ≡ true
+pub or_true : (b : Bool) → (b || true) ≡ true
 or_true true = refl
 or_true false = refl
 
@@ -265,9 +263,6 @@ in-find (x ∷ xs) e d h = elim h [
 
 -- ---- what a registry lists of a URL, and what is live
 
-bytes_same : (a b : List ℕ) → bytes_eq a b ≡ true → a ≡ b
-bytes_same a b h = exact_bytes a b (so_equal (bytes_cmp a b) (is_eq-slice_cmp a b ∙ h))
-
 module _ (m : Entries) (url : List ℕ) (rest : List Entry) (listing : IsListing (is_of_url url) m rest) where
   in-rest : (e : Entry) → IsIn e rest → (fin.get m (pair_of e) ≡ Some e) × (is_of_url url e ≡ true)
   in-rest e h = kept-some (is_of_url url) (fin.get m (pair_of e)) e (sym (listing.each (pair_of e)) ∙ in-find rest e listing.once h)
@@ -334,32 +329,40 @@ filter-filter p q (x ∷ xs) =
 and_all : (a b : Bool) → a ≡ true → b ≡ true → (a && b) ≡ true
 and_all a b x y = ap (λ c. c && b) x ∙ y
 
-module _ (rules : List Rule) (now asker : ℕ) (m : Entries) (url : List ℕ) (scopes : List (List ℕ)) (rest : List Entry) (listing : IsListing (is_of_url url) m rest) where
-  pub first-concerned : first_of (filter (is_asked rules now asker scopes false) rest) ≡ first_of (filter (is_registered url scopes) (entries_in (passing (outlives now) m)))
-  first-concerned = first-live m url rest listing (outlives now) (is_asked rules now asker scopes false) (is_registered url scopes)
-      (λ e h.
-      let k = and_parts (outlives now e && texts_eq e.scopes scopes) true h in
-      let l = and_parts (outlives now e) (texts_eq e.scopes scopes) k.0 in
-      (l.0, λ of. and_all (bytes_eq e.url url) (texts_eq e.scopes scopes) of l.1))
-      (λ e h.
-      let k = and_parts (bytes_eq e.url url) (texts_eq e.scopes scopes) h in
-      (k.0, λ alive. and_all (outlives now e && texts_eq e.scopes scopes) true (and_all (outlives now e) (texts_eq e.scopes scopes) alive k.1) refl))
+module _ (g : Grounds) (m : Entries) (live : g.live ≡ passing (outlives g.now) m) (url : List ℕ) (rest : List Entry) (listing : IsListing (is_of_url url) m rest) where
+  pub any-of_url : list_any (outlives g.now) rest ≡ list_any (is_of_url url) (entries_in g.live)
+  any-of_url = any-live m url rest listing (outlives g.now) ∙ ap (λ l. list_any (is_of_url url) (entries_in l)) (sym live)
 
-  pub first-kept : first_of (filter (is_asked rules now asker scopes true) rest) ≡ first_of (filter (is_kept rules asker) (filter (is_registered url scopes) (entries_in (passing (outlives now) m))))
-  first-kept = first-live m url rest listing (outlives now) (is_asked rules now asker scopes true) (λ e. is_registered url scopes e && is_kept rules asker e)
-      (λ e h.
-      let k = and_parts (outlives now e && texts_eq e.scopes scopes) (is_kept rules asker e) h in
-      let l = and_parts (outlives now e) (texts_eq e.scopes scopes) k.0 in
-      (l.0, λ of. and_all (is_registered url scopes e) (is_kept rules asker e) (and_all (bytes_eq e.url url) (texts_eq e.scopes scopes) of l.1) k.1))
-      (λ e h.
-      let k = and_parts (is_registered url scopes e) (is_kept rules asker e) h in
-      let l = and_parts (bytes_eq e.url url) (texts_eq e.scopes scopes) k.0 in
-      (l.0, λ alive. and_all (outlives now e && texts_eq e.scopes scopes) (is_kept rules asker e) (and_all (outlives now e) (texts_eq e.scopes scopes) alive l.1) k.1))
-      ∙ ap first_of (sym (filter-filter (is_registered url scopes) (is_kept rules asker) (entries_in (passing (outlives now) m))))
+  module _ (scopes : List (List ℕ)) where
+    pub first-concerned : first_of (filter (is_concerned g scopes) rest) ≡ first_of (concerned g url scopes)
+    first-concerned =
+        first-live m url rest listing (outlives g.now) (is_concerned g scopes) (is_registered url scopes)
+        (λ e h.
+        let l = and_parts (outlives g.now e) (texts_eq e.scopes scopes) h in
+        (l.0, λ of. and_all (bytes_eq e.url url) (texts_eq e.scopes scopes) of l.1))
+        (λ e h.
+        let k = and_parts (bytes_eq e.url url) (texts_eq e.scopes scopes) h in
+        (k.0, λ alive. and_all (outlives g.now e) (texts_eq e.scopes scopes) alive k.1))
+        ∙ ap (λ l. first_of (filter (is_registered url scopes) (entries_in l))) (sym live)
 
--- what is asked for has as many scopes as are named
-pub asked-scopes : (rules : List Rule) (now asker : ℕ) (scopes : List (List ℕ)) (only_kept : Bool) (rest : List Entry) (e : Entry) → first_of (filter (is_asked rules now asker scopes only_kept) rest) ≡ Some e → length e.scopes ≡ length scopes
-asked-scopes rules now asker scopes only_kept rest e is =
-    let here = IsIn-filtered (is_asked rules now asker scopes only_kept) e rest (first-in (filter (is_asked rules now asker scopes only_kept) rest) e is).0 in
-    let k = and_parts (outlives now e && texts_eq e.scopes scopes) (not only_kept || is_kept rules asker e) here.1 in
-    as_long bytes_eq e.scopes scopes (and_parts (outlives now e) (texts_eq e.scopes scopes) k.0).1
+    pub first-kept : first_of (filter (is_kept_back g scopes) rest) ≡ first_of (filter (is_kept g.rules g.asker) (concerned g url scopes))
+    first-kept =
+        first-live m url rest listing (outlives g.now) (is_kept_back g scopes) (λ e. is_registered url scopes e && is_kept g.rules g.asker e)
+        (λ e h.
+        let k = and_parts (is_concerned g scopes e) (is_kept g.rules g.asker e) h in
+        let l = and_parts (outlives g.now e) (texts_eq e.scopes scopes) k.0 in
+        (l.0, λ of. and_all (is_registered url scopes e) (is_kept g.rules g.asker e) (and_all (bytes_eq e.url url) (texts_eq e.scopes scopes) of l.1) k.1))
+        (λ e h.
+        let k = and_parts (is_registered url scopes e) (is_kept g.rules g.asker e) h in
+        let l = and_parts (bytes_eq e.url url) (texts_eq e.scopes scopes) k.0 in
+        (l.0, λ alive. and_all (is_concerned g scopes e) (is_kept g.rules g.asker e) (and_all (outlives g.now e) (texts_eq e.scopes scopes) alive l.1) k.1))
+        ∙ ap first_of (sym (filter-filter (is_registered url scopes) (is_kept g.rules g.asker) (entries_in (passing (outlives g.now) m))))
+        ∙ ap (λ l. first_of (filter (is_kept g.rules g.asker) (filter (is_registered url scopes) (entries_in l)))) (sym live)
+
+-- the first of all does not pass where none does
+pub none-passes : (p : Entry → Bool) (xs : List Entry) (e : Entry) → first_of xs ≡ Some e → first_of (filter p xs) ≡ None → p e ≡ false
+none-passes p xs e is none =
+    elim (p e) as (λ b. p e ≡ b → b ≡ false) [
+      | true ↦ λ t. absurd (first-none (filter p xs) e none (IsIn-filter p e xs t (first-in xs e is).0))
+      | false ↦ λ t. refl
+    ] refl

@@ -1,7 +1,6 @@
 -- Who denies first, from a place on, and how long a filtered list is.
 use Rattle.std.proofs.Common.{◌≡◌, ℕ, suc, ◌+◌, ◌≤◌, Bool, true, false, cond, List, [], ◌∷◌, Some, drop, length, refl, add-one, arith}
-use Rattle.std.specs.Prelude.{find, filter, slice_get, ◌||◌}
-use Rattle.std.specs.List.{list_any}
+use Rattle.std.specs.Prelude.{find, filter, slice_get}
 use Rattle.std.proofs.lemmas.Option.{slice_get_within, get_or_from_slice_get}
 use Rattle.std.proofs.Math.Seq.{drop-cons}
 
@@ -11,11 +10,11 @@ find-drop p xs i x h =
     let front : drop i xs ≡ x ∷ drop (suc i) xs = rw (drop-cons xs i x (slice_get_within xs i x h), get_or_from_slice_get xs i x x h) refl in
     rw (front, add-one) refl
 
--- some from a place on is what stands there, or comes after it
-pub any-drop : {A : Type 0} (p : A → Bool) (xs : List A) (i : ℕ) (x : A) → slice_get xs i ≡ Some x → list_any p (drop i xs) ≡ (p x || list_any p (drop (i + 1) xs))
-any-drop p xs i x h =
+-- what stands at a place is the first from there on
+pub get-front : {A : Type 0} (xs : List A) (i : ℕ) (x : A) → slice_get xs i ≡ Some x → slice_get (drop i xs) 0 ≡ Some x
+get-front xs i x h =
     let front : drop i xs ≡ x ∷ drop (suc i) xs = rw (drop-cons xs i x (slice_get_within xs i x h), get_or_from_slice_get xs i x x h) refl in
-    rw (front, add-one) refl
+    rw front refl
 
 pub length-filter-le : {A : Type 0} (p : A → Bool) (xs : List A) → length (filter p xs) ≤ length xs
 length-filter-le p [] = omega arith

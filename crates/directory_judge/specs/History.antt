@@ -1,7 +1,7 @@
 -- What happened to a directory: its changes, the newest first.
 use Rattle.std.specs.Prelude.{ℕ, max, List, [], ◌∷◌, Option, None}
 use Rattle.std.specs.Option.{option_or}
-use Rattle.access_rules.specs.declared.rule.Rule.{Rule}
+use Rattle.access_rules.specs.Deciding.{SiteRules}
 use Rattle.slp_text.specs.Tags.{Part}
 use Rattle.directory_judge.specs.Attributes.{Attributes}
 
@@ -38,7 +38,7 @@ pub data Act : Type 0 where
   Remove : Removing → Act
   Withdraw : Withdrawing → Act
   Sweep : Act
-  Reload : List Rule → Act
+  Reload : SiteRules → Act
 
 -- a change, with its moment in seconds
 pub record Event : Type 0 where

@@ -1,5 +1,6 @@
 -- How registrations and withdrawals are judged: the first step whose fault is there, else they are accepted (RFC 2608, sections 7, 9.3 and 10.6).
-use Rattle.std.specs.Prelude.{◌≡◌, ℕ, ◌≤◌, Bool, true, false, not, ◌==◌, ◌&&◌, ◌||◌, List, [], ◌∷◌, map, filter, find, length, codes, slice_get, Option, Some, None, is_none, nat_le, unwrap_or, Result, Ok, Err, if◌then◌else◌}
+use Rattle.std.specs.Prelude.{◌≡◌, ℕ, ◌≤◌, Bool, true, false, not, ◌==◌, ◌&&◌, ◌||◌, List, [], ◌∷◌, map, filter, find, length, codes, slice_get, Option, Some, None, is_none, nat_le, unwrap_or, Result, Ok, Err, if◌then◌else◌, refl}
+use Rattle.std.specs.Coded.{Coded, code_by as coded_by, coded×, coded_ℕ}
 use Rattle.std.specs.Option.{option_or, option_map, option_map_or}
 use Rattle.std.specs.List.{list_any}
 use Rattle.std.specs.Ordering.{match_ordering}
@@ -9,7 +10,7 @@ use Rattle.slp_text.specs.Key.{key_of}
 use Rattle.slp_text.specs.Scopes.{scopes_of, common_of}
 use Rattle.slp_text.specs.Tags.{Part, tags_of}
 use Rattle.slp_text.specs.Words.{bytes_eq, bytes_cmp, is_blank}
-use Rattle.slp_messages.specs.declared.code.TheConstants.{PARSE_ERROR, INVALID_REGISTRATION, SCOPE_NOT_SUPPORTED, DIRECTORY_BUSY}
+use Rattle.slp_messages.specs.declared.code.TheConstants.{OK, LANGUAGE_NOT_SUPPORTED, PARSE_ERROR, INVALID_REGISTRATION, SCOPE_NOT_SUPPORTED, AUTHENTICATION_UNKNOWN, VERSION_NOT_SUPPORTED, INTERNAL_ERROR, DIRECTORY_BUSY, OPTION_NOT_UNDERSTOOD, INVALID_UPDATE}
 use Rattle.slp_messages.specs.declared.header.Header.{Header}
 use Rattle.slp_messages.specs.declared.message.Message.{Message}
 use Rattle.slp_messages.specs.declared.message.Message.TheVariants as message
@@ -17,16 +18,16 @@ use Rattle.slp_messages.specs.declared.message.Registration.{Registration}
 use Rattle.slp_messages.specs.declared.message.Withdrawal.{Withdrawal}
 use Rattle.service_url.specs.Types.{type_of}
 use Rattle.service_url.specs.Urls.{url_of}
-use Rattle.access_rules.specs.Deciding.{deciding}
+use Rattle.access_rules.specs.Codes.{rules_code}
+use Rattle.access_rules.specs.Deciding.{SiteRules, deciding}
 use Rattle.access_rules.specs.declared.rule.Action.{Action}
 use Rattle.access_rules.specs.declared.rule.Action.TheVariants.{Register, Withdraw}
-use Rattle.access_rules.specs.declared.rule.Rule.{Rule as AnyRule}
 use Rattle.access_rules.specs.declared.rules.Verdict.{Verdict}
 use Rattle.registry_core.specs.declared.entry.Entry.{Entry}
-use Rattle.registry_core.specs.Entries.{Entries, Pair, is_of_url, is_registered}
+use Rattle.registry_core.specs.Entries.{Entries, entries_code, Pair, is_of_url, is_registered}
 use Rattle.directory_judge.specs.History.{Putting, Put, Withdraw as EndOf, Event}
 use Rattle.directory_judge.specs.Making.{content, content_on}
-use Rattle.directory_judge.specs.Sites.{Place}
+use Rattle.directory_judge.specs.Sites.{Place, place_code}
 use Rattle.directory_judge.specs.declared.naming.Taken.{Taken}
 use Rattle.directory_judge.specs.declared.naming.Named.{Named}
 use Rattle.directory_judge.specs.declared.naming.Named.TheVariants as found
@@ -34,17 +35,25 @@ use Rattle.directory_judge.specs.declared.because.Because.{Because}
 use Rattle.directory_judge.specs.declared.because.Decider.{Decider}
 use Rattle.directory_judge.specs.declared.because.Decider.TheVariants as decider
 use Rattle.directory_judge.specs.declared.judged.Judged.{Judged}
+use Rattle.directory_judge.specs.declared.ruling.Ruling.{Ruling}
 use Rattle.directory_judge.specs.declared.judged.Judged.TheVariants as judged
 
 -- ---- what is judged on, and what comes of it
 
 -- The rules, the site, the entries that are live, the moment at which the message acts, and who sent it
 pub record Grounds : Type 0 where
-  pub rules : List AnyRule
+  pub rules : SiteRules
   pub site : Place
   pub live : Entries
   pub now : ℕ
   pub asker : ℕ
+
+abbrev pub grounds_code : Coded Grounds
+grounds_code = coded_by (SiteRules × (Place × (Entries × (ℕ × ℕ))))
+    (coded× rules_code (coded× place_code (coded× entries_code (coded× coded_ℕ coded_ℕ))))
+    (λ g. (g.rules, (g.site, (g.live, (g.now, g.asker)))))
+    (λ t. record { rules = t.0; site = t.1.0; live = t.1.1.0; now = t.1.1.1.0; asker = t.1.1.1.1 })
+    (λ _. refl)
 
 pub data Judgement : Type 0 where
   -- the change that it makes
@@ -66,18 +75,52 @@ abbrev pub by_step : Decider → Option (List ℕ) → Because
 by_step d kind = record { decider = d; kind = kind; scope = None }
 
 -- the rule, or the default, that decided on a type in a scope
-abbrev pub by_rule : List AnyRule → ℕ → Action → List ℕ → List ℕ → Because
+abbrev pub by_rule : SiteRules → ℕ → Action → List ℕ → List ℕ → Because
 by_rule rules asker action kind scope = record { decider = decider_of (deciding rules asker action kind scope); kind = Some kind; scope = Some scope }
 
-abbrev pub is_denied : List AnyRule → ℕ → Action → List ℕ → List ℕ → Bool
+abbrev pub is_denied : SiteRules → ℕ → Action → List ℕ → List ℕ → Bool
 is_denied rules asker action kind scope = not (deciding rules asker action kind scope).allow
 
+-- the code of a denial, by who decided (RFC 2608, section 7)
+abbrev pub code_by : Decider → ℕ
+code_by (decider.Rule place) = SCOPE_NOT_SUPPORTED
+code_by decider.Default = SCOPE_NOT_SUPPORTED
+code_by decider.Nobody = OK
+code_by decider.Memory = INTERNAL_ERROR
+code_by decider.Version = VERSION_NOT_SUPPORTED
+code_by decider.Parse = PARSE_ERROR
+code_by decider.Auth = AUTHENTICATION_UNKNOWN
+code_by decider.Option = OPTION_NOT_UNDERSTOOD
+code_by decider.Scope = SCOPE_NOT_SUPPORTED
+code_by decider.Language = LANGUAGE_NOT_SUPPORTED
+code_by decider.Registration = INVALID_REGISTRATION
+code_by decider.Attributes = PARSE_ERROR
+code_by decider.Update = INVALID_UPDATE
+code_by decider.Template = INVALID_REGISTRATION
+code_by decider.Full = DIRECTORY_BUSY
+
+-- a denial, by who decided on what
+abbrev pub denies : Because → Judgement
+denies because = Denies (code_by because.decider) because
+
 -- who denies in the first of these scopes in which there is a denial
-abbrev pub denial_of : List AnyRule → ℕ → Action → List ℕ → List (List ℕ) → Option Because
+abbrev pub denial_of : SiteRules → ℕ → Action → List ℕ → List (List ℕ) → Option Because
 denial_of rules asker action kind scopes = option_map (by_rule rules asker action kind) (find (is_denied rules asker action kind) scopes)
 
 abbrev pub denial_in : Grounds → Action → List ℕ → List (List ℕ) → Option Judgement
-denial_in g action kind scopes = option_map (Denies SCOPE_NOT_SUPPORTED) (denial_of g.rules g.asker action kind scopes)
+denial_in g action kind scopes = option_map denies (denial_of g.rules g.asker action kind scopes)
+
+-- what decides on an action in some scopes, if there are any: what denies it in the first of them in which it is denied, else what allows it in the first of all
+abbrev pub ruled : SiteRules → ℕ → Action → List ℕ → List (List ℕ) → Option (Result Because Because)
+ruled rules asker action kind scopes =
+    option_or (option_map Err (denial_of rules asker action kind scopes)) (option_map (λ s. Ok (by_rule rules asker action kind s)) (slice_get scopes 0))
+
+-- what a ruling says
+abbrev pub because_in : Ruling → Because
+because_in r = record { decider = decider_of r.verdict; kind = Some r.kind.now; scope = Some r.scope.now }
+
+abbrev pub ruling_in : Ruling → Result Because Because
+ruling_in r = if r.verdict.allow then Ok (because_in r) else Err (because_in r)
 
 -- ---- what is not judged yet
 
@@ -106,31 +149,31 @@ is_unjudged h w = h.flags.multicast || names_tags (result_ok (tags_of w.tags))
 -- ---- what a registration names
 
 -- a denial by a step that knows of no type
-abbrev pub denied_by : ℕ → Decider → Judgement
-denied_by code d = Denies code (by_step d None)
+abbrev pub denied_by : Decider → Judgement
+denied_by d = denies (by_step d None)
 
--- the type, and those of the scopes that the site supports; or the first fault, where something is not read
+-- the URL, the type, and those of the scopes that the site supports; or the first fault, where something is not read
 abbrev pub named_as : Place → Option (List ℕ) → Option (List ℕ) → Option (List (List ℕ)) → Result Taken Judgement
-named_as site (Some kind) (Some url) (Some scopes) = Ok (record { kind = kind; scopes = common_of site.scopes scopes })
-named_as site (Some kind) (Some url) None = Err (denied_by PARSE_ERROR decider.Parse)
-named_as site (Some kind) None scopes = Err (denied_by INVALID_REGISTRATION decider.Registration)
-named_as site None url scopes = Err (denied_by INVALID_REGISTRATION decider.Registration)
+named_as site (Some kind) (Some url) (Some scopes) = Ok (record { url = url; kind = kind; scopes = common_of site.scopes scopes })
+named_as site (Some kind) (Some url) None = Err (denied_by decider.Parse)
+named_as site (Some kind) None scopes = Err (denied_by decider.Registration)
+named_as site None url scopes = Err (denied_by decider.Registration)
 
 -- a registration has a language and a lifetime first of all
 abbrev pub named : Place → Header → Registration → Result Taken Judgement
 named site h r =
-    if length h.language == 0 || r.entry.lifetime == 0 then Err (denied_by INVALID_REGISTRATION decider.Registration)
+    if length h.language == 0 || r.entry.lifetime == 0 then Err (denied_by decider.Registration)
     else named_as site (result_ok (type_of r.kind)) (result_ok (url_of r.entry.url)) (result_ok (scopes_of r.scopes))
 
 -- what the code finds of it
 abbrev pub named_in : Named → Result Taken Judgement
-named_in (found.Taken url taken) = Ok taken
-named_in (found.Denied code d) = Err (denied_by code d)
+named_in (found.Taken taken) = Ok taken
+named_in (found.Denied d) = Err (denied_by d)
 
 -- the URL that is found is the one that is named, and the scopes are no more than a site has
 abbrev pub IsNamedAt : List ℕ → Named → Type 0
-IsNamedAt named (found.Taken url taken) = (url ≡ named) × (length taken.scopes ≤ 16)
-IsNamedAt named (found.Denied code d) = Unit {0}
+IsNamedAt named (found.Taken taken) = (taken.url ≡ named) × (length taken.scopes ≤ 16)
+IsNamedAt named (found.Denied d) = Unit {0}
 
 -- ---- the further steps of a registration, each with the judgement where its fault is there
 
@@ -143,7 +186,7 @@ supports site scope = list_any (λ s. bytes_eq s scope) site.scopes
 
 -- none of the scopes is supported
 abbrev pub unsupported : Taken → Option Judgement
-unsupported t = if length t.scopes == 0 then Some (Denies SCOPE_NOT_SUPPORTED (by_step decider.Scope (Some t.kind))) else None
+unsupported t = if length t.scopes == 0 then Some (denies (by_step decider.Scope (Some t.kind))) else None
 
 -- its type may not be registered in some scope
 abbrev pub denied_new : Grounds → Taken → Option Judgement
@@ -156,7 +199,7 @@ denied_old g (Some e) = denial_in g Register e.kind e.scopes
 
 -- the pair is not live, and the live entries fill the capacity
 abbrev pub no_room : Grounds → Pair → Taken → Option Judgement
-no_room g q t = if is_none (fin.get g.live q) && (nat_le g.site.capacity (fin.len g.live)) then Some (Denies DIRECTORY_BUSY (by_step decider.Full (Some t.kind))) else None
+no_room g q t = if is_none (fin.get g.live q) && (nat_le g.site.capacity (fin.len g.live)) then Some (denies (by_step decider.Full (Some t.kind))) else None
 
 -- the registration that is made
 abbrev pub putting : Grounds → Header → Registration → Taken → Putting
@@ -201,7 +244,7 @@ abbrev pub first_of : List Entry → Option Entry
 first_of = first_from None
 
 -- some scope of it is one in which its type may not be withdrawn
-abbrev pub is_kept : List AnyRule → ℕ → Entry → Bool
+abbrev pub is_kept : SiteRules → ℕ → Entry → Bool
 is_kept rules asker e = list_any (is_denied rules asker Withdraw e.kind) e.scopes
 
 -- who denies an entry's withdrawal in the first of its scopes in which there is a denial
@@ -219,7 +262,7 @@ withdrawing g url scopes = record { moment = g.now; act = EndOf (record { url = 
 -- Where no entry is concerned the scopes are other ones. The first denial is that of the entry whose language comes first among those that may not
 -- be withdrawn.
 abbrev pub judged_concerned : Grounds → List ℕ → List (List ℕ) → Option Entry → Option Entry → Judgement
-judged_concerned g url scopes None kept = denied_by SCOPE_NOT_SUPPORTED decider.Scope
+judged_concerned g url scopes None kept = denied_by decider.Scope
 judged_concerned g url scopes (Some first) kept = unwrap_or (keeps g kept) (Accepts (withdrawing g url scopes) (release g first))
 
 -- the entries concerned: those of the URL in just these scopes
@@ -234,15 +277,15 @@ judged_stored g url scopes =
     else Ignores
 
 abbrev pub judged_within : Grounds → List ℕ → List (List ℕ) → Judgement
-judged_within g url [] = denied_by SCOPE_NOT_SUPPORTED decider.Scope
+judged_within g url [] = denied_by decider.Scope
 judged_within g url (s ∷ ss) = judged_stored g url (s ∷ ss)
 
 -- a URL, a list of tags and scopes that were read, each if it is one
 abbrev pub judged_from : Grounds → Option (List ℕ) → Option (List Part) → Option (List (List ℕ)) → Judgement
 judged_from g (Some url) (Some tags) (Some scopes) = judged_within g url (common_of g.site.scopes scopes)
-judged_from g (Some url) (Some tags) None = denied_by PARSE_ERROR decider.Parse
-judged_from g (Some url) None scopes = denied_by PARSE_ERROR decider.Parse
-judged_from g None tags scopes = denied_by PARSE_ERROR decider.Parse
+judged_from g (Some url) (Some tags) None = denied_by decider.Parse
+judged_from g (Some url) None scopes = denied_by decider.Parse
+judged_from g None tags scopes = denied_by decider.Parse
 
 abbrev pub judgement_to : Grounds → Header → Withdrawal → Judgement
 judgement_to g h w = if is_unjudged h w then Waits else judged_from g (result_ok (url_of w.entry.url)) (result_ok (tags_of w.tags)) (result_ok (scopes_of w.scopes))

@@ -1,8 +1,8 @@
 -- What a change holds.
-use Rattle.std.specs.Prelude.{ℕ, ◌+◌, List, Option, Some, None}
+use Rattle.std.specs.Prelude.{ℕ, ◌+◌, Option, Some, None}
 use Rattle.std.specs.Arc.{arc_value}
 use Rattle.std.specs.FinMap as fin
-use Rattle.access_rules.specs.declared.rule.Rule.{Rule}
+use Rattle.access_rules.specs.Deciding.{SiteRules}
 use Rattle.registry_core.specs.declared.entry.Entry.{Entry}
 use Rattle.registry_core.specs.Entries.{Entries}
 use Rattle.directory_judge.specs.History.{Putting, Withdrawing, Put, Set, Remove, Withdraw, Sweep, Reload, Event}
@@ -15,7 +15,7 @@ pub data Content : Type 0 where
   Edits : ℕ → Entry → Content
   Withdraws : ℕ → Withdrawing → Content
   Sweeps : ℕ → Content
-  Reloads : ℕ → List Rule → Content
+  Reloads : ℕ → SiteRules → Content
 
 abbrev pub content : Change → Content
 content (change.Put placed) = Stores placed.moment (arc_value placed.entry)

@@ -2,9 +2,9 @@
 use Rattle.std.specs.Prelude.{◌≡◌, ℕ, ◌+◌, ◌<◌, Bool, true, false, ◌&&◌, ◌↔◌, if◌then◌else◌, List, [], ◌∷◌, Option, Some, None, is_none, is_some, unwrap_or}
 use Rattle.std.specs.List.{list_any}
 use Rattle.std.specs.FinMap as fin
+use Rattle.access_rules.specs.Deciding.{SiteRules}
 use Rattle.slp_text.specs.Tags.{selects}
 use Rattle.slp_text.specs.Words.{bytes_eq, texts_eq}
-use Rattle.access_rules.specs.declared.rule.Rule.{Rule}
 use Rattle.registry_core.specs.declared.entry.Entry.{Entry}
 use Rattle.registry_core.specs.Entries.{Pair, Entries, pair_of, pair_eq}
 use Rattle.directory_judge.specs.Attributes.{Held}
@@ -60,7 +60,7 @@ held_of q tag c = elim c.act [
   | Reload rs ↦ None
 ]
 
-abbrev pub rules_of : Event → Option (List Rule)
+abbrev pub rules_of : Event → Option (SiteRules)
 rules_of c = elim c.act [
   | Reload rs ↦ Some rs
   | Put p ↦ None
@@ -73,7 +73,7 @@ rules_of c = elim c.act [
 -- ---- what a history says
 
 -- the rules of the last reload, else the opening ones
-abbrev pub rules : List Rule → History → List Rule
+abbrev pub rules : SiteRules → History → SiteRules
 rules opening h = unwrap_or (last_that rules_of h) opening
 
 -- what came after the last registration of the pair

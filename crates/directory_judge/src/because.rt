@@ -1,4 +1,8 @@
+ghost use Rattle.std.specs.Prelude.{◌≡◌};
+ghost use Rattle.directory_judge.specs.Judging.{code_by};
+
 use service_url::ServiceType;
+use slp_messages::code;
 use slp_text::Key;
 
 /// Who decided on a message: a rule by its place, the default, or the step of judging that found a
@@ -20,6 +24,27 @@ pub enum Decider {
     Update,
     Template,
     Full,
+}
+
+impl Decider {
+    /// The error code of what it denies (RFC 2608, section 7).
+    pub fn code(self) -> u16
+        ensures { result ≡ code_by self }
+    {
+        match self {
+            Decider::Nobody => code::OK,
+            Decider::Language => code::LANGUAGE_NOT_SUPPORTED,
+            Decider::Parse | Decider::Attributes => code::PARSE_ERROR,
+            Decider::Registration | Decider::Template => code::INVALID_REGISTRATION,
+            Decider::Rule(_) | Decider::Default | Decider::Scope => code::SCOPE_NOT_SUPPORTED,
+            Decider::Auth => code::AUTHENTICATION_UNKNOWN,
+            Decider::Version => code::VERSION_NOT_SUPPORTED,
+            Decider::Memory => code::INTERNAL_ERROR,
+            Decider::Full => code::DIRECTORY_BUSY,
+            Decider::Option => code::OPTION_NOT_UNDERSTOOD,
+            Decider::Update => code::INVALID_UPDATE,
+        }
+    }
 }
 
 /// Why a message was answered so: who decided, and on which type in which scope, where that is known.

@@ -1,183 +1,134 @@
-ghost use Rattle.std.specs.Prelude.{◌≡◌, ◌<◌, ◌≤◌, ◌+◌, IfOk, [], length, slice_get, unwrap_or};
+ghost use Rattle.std.specs.Prelude.{◌≡◌, ◌<◌, ◌≤◌, ◌+◌, IfOk, length, unwrap_or};
 ghost use Rattle.std.specs.FinMap as fin;
-ghost use Rattle.std.specs.Option.{option_copied, option_or};
+ghost use Rattle.std.specs.Option.{option_map, option_or};
 ghost use Rattle.slp_text.specs.Key.{key_of};
-ghost use Rattle.access_rules.specs.declared.rule.Action.TheVariants.{Register};
-ghost use Rattle.registry_core.specs.Entries.{outlives, kept, passing, pair_of};
+ghost use Rattle.registry_core.specs.Entries.{outlives, passing, pair_of};
 ghost use Rattle.directory_judge.specs.History.{Putting, Put};
-ghost use Rattle.directory_judge.specs.Making.{content, Stores, entry_of};
-ghost use Rattle.directory_judge.specs.Judging.{Grounds, Accepts, by_rule, denied_old, no_room, judged_taken, judgement_of, judgement, IsChange, IsJudged};
-ghost use Rattle.directory_judge.specs.declared.change.Change.{Change};
+ghost use Rattle.directory_judge.specs.Making.{entry_of};
+ghost use Rattle.directory_judge.specs.Judging.{Accepts, denied_old, denies, no_room, judged_taken, judgement_of, judgement, IsChange, IsJudged};
 ghost use Rattle.directory_judge.specs.declared.naming.Taken.{Taken};
 
-use crate::because::Decider;
+use crate::because::{Because, Decider};
 use crate::change::{Change, Placed};
-use crate::denying::{allowance, denial_on, deny};
+use crate::grounds::Grounds;
 use crate::judged::Judged;
 use crate::naming::{Named, Taken, is_agent, name, read_kind};
-use crate::rooms::lacks_room;
+use crate::ruling::{deny, deny_by};
 use crate::site::Site;
-use crate::withdrawing::judge_withdrawal;
 use access_rules::{Action, Addr, Rules};
 use registry_core::{Entry, Registry};
-use service_url::Url;
-use slp_messages::{Header, Message, Registration, code};
-use slp_text::{Key, NoMemory, is_blank, key};
+use slp_messages::{Header, Message, Registration};
+use slp_text::{NoMemory, TextFault, is_blank, key};
 use std::alloc::Global;
 use std::sync::Arc;
 
-// The entry of a pair, where it is live.
-fn live_entry<'a, R: Registry>(
-    registry: &'a R,
-    url: &Url,
-    language: &Key,
-    now: u64,
-) -> Option<&'a Entry>
-    ensures { option_copied result ≡ kept (outlives now) (fin.get (R.contents registry.now) (url.now, language.now)) }
-{
-    match registry.find(url, language) {
-        Some(entry) if entry.deadline > now => Some(entry),
-        _ => None,
-    }
-}
-
-// The change of a registration that nothing speaks against, and what allowed it.
-fn accept(
-    alloc: Global,
-    rules: &Rules,
-    asker: Addr,
-    now: u32,
-    entry: Entry,
-) -> Result<Judged, NoMemory>
-    requires scoped { 0 < length entry.scopes }
-    requires few_scopes { length entry.scopes ≤ 16 }
-    ensures { let because = by_rule rules.now asker Register entry.kind (unwrap_or (slice_get entry.scopes 0) []) in
-        IfOk result (λ j. (c : Change) × (j ≡ Judged.Accept c because) × (content c ≡ Stores now entry)) }
-{
-    let entry = Arc::new(alloc, entry)?;
-    let because = allowance(alloc, rules, asker, Action::Register, &entry)?;
-    Ok(Judged::Accept(Change::Put(Placed { moment: now, entry }), because))
-}
-
-// Judges an entry by what is live of its pair: that must be allowed too, and where nothing is live
-// there must be room.
-fn judge_entry<R: Registry>(
-    alloc: Global,
-    registry: &R,
-    rules: &Rules,
-    site: &Site,
-    now: u32,
-    asker: Addr,
-    entry: Entry,
-) -> Result<Judged, NoMemory>
-    requires scoped { 0 < length entry.scopes }
-    requires few_scopes { length entry.scopes ≤ 16 }
-    ensures { IfOk result (λ j. (p : Putting) → entry_of now p ≡ entry →
-        let live = passing (outlives now) (R.contents registry.now) in
-        let g : Grounds = record { rules = rules.now; site = site.now; live = live; now = now; asker = asker } in
-        let t : Taken = record { kind = entry.kind; scopes = entry.scopes } in
-        let allowed = by_rule rules.now asker Register entry.kind (unwrap_or (slice_get entry.scopes 0) []) in
-        IsJudged live j (unwrap_or (option_or (denied_old g (fin.get live (pair_of entry))) (no_room g (pair_of entry) t)) (Accepts (record { moment = now; act = Put p }) allowed))) }
-{
-    let moment = u64::from(now);
-    let old = live_entry(registry, &entry.url, &entry.language, moment);
-    if lacks_room(registry, site, old, moment) {
-        return Ok(deny(code::DIRECTORY_BUSY, Decider::Full, Some(entry.kind)));
-    }
-    match denial_on(alloc, rules, asker, Action::Register, old)? {
-        Some(because) => Ok(Judged::Deny(code::SCOPE_NOT_SUPPORTED, because)),
-        None => accept(alloc, rules, asker, now, entry),
-    }
-}
-
-// The entry that a registration founds.
-fn founded(
-    alloc: Global,
-    now: u32,
-    header: &Header,
-    registration: &Registration,
-    url: Url,
-    taken: Taken,
-) -> Result<Entry, NoMemory>
-    ensures { IfOk result (λ e. e ≡ record { url = url; language = key_of header.now.language; kind = taken.kind; scopes = taken.scopes; deadline = now + registration.now.entry.lifetime }) }
-{
-    let Taken { kind, scopes } = taken;
-    match key(alloc, header.language.as_str()) {
-        Ok(language) => Ok(Entry {
-            url,
-            language,
-            kind,
-            scopes,
-            deadline: u64::from(now) + u64::from(registration.entry.lifetime),
-        }),
-        Err(_) => Err(NoMemory),
-    }
-}
-
-// Judges what a registration names, of a language and a lifetime.
-fn judge_taken<R: Registry>(
-    alloc: Global,
-    registry: &R,
-    rules: &Rules,
-    site: &Site,
-    now: u32,
-    asker: Addr,
-    header: &Header,
-    registration: &Registration,
-    url: Url,
-    taken: Taken,
-) -> Result<Judged, NoMemory>
-    requires named { url ≡ registration.now.entry.url }
-    requires few_scopes { length taken.scopes ≤ 16 }
-    ensures { IfOk result (λ j. let live = passing (outlives now) (R.contents registry.now) in
-        IsJudged live j (judged_taken (record { rules = rules.now; site = site.now; live = live; now = now; asker = asker }) header.now registration.now taken)) }
-{
-    if taken.scopes.is_empty() {
-        return Ok(deny(code::SCOPE_NOT_SUPPORTED, Decider::Scope, Some(taken.kind)));
-    }
-    let entry = founded(alloc, now, header, registration, url, taken)?;
-    match denial_on(alloc, rules, asker, Action::Register, Some(&entry))? {
-        Some(because) => Ok(Judged::Deny(code::SCOPE_NOT_SUPPORTED, because)),
-        None => judge_entry(alloc, registry, rules, site, now, asker, entry),
-    }
-}
-
-// Judges a registration, step by step.
-fn judge_registration<R: Registry>(
-    alloc: Global,
-    registry: &R,
-    rules: &Rules,
-    site: &Site,
-    now: u32,
-    asker: Addr,
-    header: &Header,
-    registration: &Registration,
-) -> Result<Judged, NoMemory>
-    ensures { IfOk result (λ j. let live = passing (outlives now) (R.contents registry.now) in
-        IsJudged live j (judgement_of (record { rules = rules.now; site = site.now; live = live; now = now; asker = asker }) header.now registration.now)) }
-{
-    let kind = read_kind(alloc, registration.kind.as_str())?;
-    if !header.flags.fresh
-        || header.flags.multicast
-        || !is_blank(registration.attributes.as_str())
-        || is_agent(kind.as_ref())
+impl<R: Registry> Grounds<'_, R> {
+    // What speaks against an entry that is allowed: what is live of its pair must be allowed too, and
+    // where nothing is live there must be room.
+    fn objection(&self, alloc: Global, entry: &Entry) -> Result<Option<Because>, NoMemory>
+        ensures { IfOk result (λ o. option_map denies o ≡ option_or (denied_old self.now (fin.get self.now.live (pair_of entry.now))) (no_room self.now (pair_of entry.now) (record { url = entry.now.url; kind = entry.now.kind; scopes = entry.now.scopes }))) }
     {
-        return Ok(Judged::Unjudged);
+        match self.live_entry(&entry.url, &entry.language) {
+            None if self.is_full() => Ok(Some(Because {
+                decider: Decider::Full,
+                kind: Some(entry.kind.copy(alloc)?),
+                scope: None,
+            })),
+            None => Ok(None),
+            Some(old) => match self.rule(Action::Register, &old.kind, &old.scopes) {
+                Some(ruling) if !ruling.verdict.allow => Ok(Some(ruling.because(alloc)?)),
+                _ => Ok(None),
+            },
+        }
     }
-    match name(alloc, site, header, registration, kind)? {
-        Named::Denied(code, decider) => Ok(deny(code, decider, None)),
-        Named::Taken(url, taken) => judge_taken(
-            alloc,
-            registry,
-            rules,
-            site,
-            now,
-            asker,
-            header,
-            registration,
-            url,
-            taken,
-        ),
+
+    // Judges an entry that is allowed.
+    fn judge_entry(&self, alloc: Global, entry: Entry, because: Because) -> Result<Judged, NoMemory>
+        requires scoped { 0 < length entry.scopes }
+        requires few_scopes { length entry.scopes ≤ 16 }
+        ensures { IfOk result (λ j. (p : Putting) → entry_of self.now.now p ≡ entry →
+            let t : Taken = record { url = entry.url; kind = entry.kind; scopes = entry.scopes } in
+            IsJudged self.now.live j (unwrap_or (option_or (denied_old self.now (fin.get self.now.live (pair_of entry))) (no_room self.now (pair_of entry) t)) (Accepts (record { moment = self.now.now; act = Put p }) because))) }
+    {
+        if let Some(objection) = self.objection(alloc, &entry)? {
+            return Ok(deny(objection));
+        }
+        let entry = Arc::new(alloc, entry)?;
+        let moment = self.moment;
+        Ok(Judged::Accept(Change::Put(Placed { moment, entry }), because))
+    }
+
+    // The entry that a registration founds.
+    fn founded(
+        &self,
+        alloc: Global,
+        header: &Header,
+        registration: &Registration,
+        taken: Taken,
+    ) -> Result<Entry, NoMemory>
+        ensures { IfOk result (λ e. e ≡ record { url = taken.url; language = key_of header.now.language; kind = taken.kind; scopes = taken.scopes; deadline = self.now.now + registration.now.entry.lifetime }) }
+    {
+        let Taken { url, kind, scopes } = taken;
+        match key(alloc, header.language.as_str()) {
+            Ok(language) => Ok(Entry {
+                url,
+                language,
+                kind,
+                scopes,
+                deadline: u64::from(self.moment) + u64::from(registration.entry.lifetime),
+            }),
+            Err(TextFault::NoMemory) => Err(NoMemory),
+            Err(_) => unreachable!(),
+        }
+    }
+
+    // Judges what a registration names, of a language and a lifetime.
+    fn judge_taken(
+        &self,
+        alloc: Global,
+        header: &Header,
+        registration: &Registration,
+        taken: Taken,
+    ) -> Result<Judged, NoMemory>
+        requires named { taken.url ≡ registration.now.entry.url }
+        requires few_scopes { length taken.scopes ≤ 16 }
+        ensures { IfOk result (λ j. IsJudged self.now.live j (judged_taken self.now header.now registration.now taken)) }
+    {
+        let entry = self.founded(alloc, header, registration, taken)?;
+        match self.rule(Action::Register, &entry.kind, &entry.scopes) {
+            None => Ok(deny_by(Decider::Scope, Some(entry.kind))),
+            Some(ruling) => {
+                let because = ruling.because(alloc)?;
+                if ruling.verdict.allow {
+                    self.judge_entry(alloc, entry, because)
+                } else {
+                    Ok(deny(because))
+                }
+            }
+        }
+    }
+
+    // Judges a registration, step by step.
+    fn judge_registration(
+        &self,
+        alloc: Global,
+        header: &Header,
+        registration: &Registration,
+    ) -> Result<Judged, NoMemory>
+        ensures { IfOk result (λ j. IsJudged self.now.live j (judgement_of self.now header.now registration.now)) }
+    {
+        let kind = read_kind(alloc, registration.kind.as_str())?;
+        if !header.flags.fresh
+            || header.flags.multicast
+            || !is_blank(registration.attributes.as_str())
+            || is_agent(kind.as_ref())
+        {
+            return Ok(Judged::Unjudged);
+        }
+        match name(alloc, self.site, header, registration, kind)? {
+            Named::Denied(decider) => Ok(deny_by(decider, None)),
+            Named::Taken(taken) => self.judge_taken(alloc, header, registration, taken),
+        }
     }
 }
 
@@ -196,20 +147,20 @@ pub fn judge_on<R: Registry>(
     ensures { IfOk result (λ j. let live = passing (outlives now) (R.contents registry.now) in
         IsJudged live j (judgement (record { rules = rules.now; site = site.now; live = live; now = now; asker = asker }) message.now)) }
 {
+    let grounds = Grounds {
+        registry,
+        rules,
+        site,
+        moment: now,
+        asker,
+    };
     match message {
-        Message::Registration(header, registration) => judge_registration(
-            alloc,
-            registry,
-            rules,
-            site,
-            now,
-            asker,
-            header,
-            registration,
-        ),
-        Message::Withdrawal(header, withdrawal) => judge_withdrawal(
-            alloc, registry, rules, site, now, asker, header, withdrawal,
-        ),
+        Message::Registration(header, registration) => {
+            grounds.judge_registration(alloc, header, registration)
+        }
+        Message::Withdrawal(header, withdrawal) => {
+            grounds.judge_withdrawal(alloc, header, withdrawal)
+        }
         _ => unreachable!(),
     }
 }

@@ -3,11 +3,11 @@
 
 mod because;
 mod change;
-mod denying;
+mod grounds;
 mod judged;
 mod judging;
 mod naming;
-mod rooms;
+mod ruling;
 mod site;
 mod withdrawing;
 

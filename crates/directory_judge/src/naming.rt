@@ -10,23 +10,23 @@ ghost use Rattle.directory_judge.specs.Judging.{names_tags as names_tags_of, is_
 use crate::because::Decider;
 use crate::site::Site;
 use service_url::{ServiceType, Url, UrlFault};
-use slp_messages::{Header, Registration, code};
+use slp_messages::{Header, Registration};
 use slp_text::{NoMemory, ScopeList, TagList, TextFault};
 use std::alloc::Global;
 
-/// What a registration names: its type, and those of its scopes that the site supports.
+/// What a registration names: its URL, its type, and those of its scopes that the site supports.
 #[derive(Drop)]
 pub struct Taken {
+    pub url: Url,
     pub kind: ServiceType,
     pub scopes: ScopeList,
 }
 
-/// What is found of a registration: its URL and what it names, or the code of the first fault and the
-/// step that asks for it.
+/// What is found of a registration: what it names, or the step that finds the first fault.
 #[derive(Drop)]
 pub enum Named {
-    Taken(Url, Taken),
-    Denied(u16, Decider),
+    Taken(Taken),
+    Denied(Decider),
 }
 
 /// The type that no one registers.
@@ -120,16 +120,16 @@ pub fn name(
     ensures url { IfOk result (IsNamedAt registration.now.entry.url) }
 {
     if header.language.as_str().is_empty() || registration.entry.lifetime == 0 {
-        return Ok(Named::Denied(code::INVALID_REGISTRATION, Decider::Registration));
+        return Ok(Named::Denied(Decider::Registration));
     }
     let Some(kind) = kind else {
-        return Ok(Named::Denied(code::INVALID_REGISTRATION, Decider::Registration));
+        return Ok(Named::Denied(Decider::Registration));
     };
     let Some(url) = read_url(alloc, registration.entry.url.as_str())? else {
-        return Ok(Named::Denied(code::INVALID_REGISTRATION, Decider::Registration));
+        return Ok(Named::Denied(Decider::Registration));
     };
     let Some(scopes) = read_supported(alloc, site, registration.scopes.as_str())? else {
-        return Ok(Named::Denied(code::PARSE_ERROR, Decider::Parse));
+        return Ok(Named::Denied(Decider::Parse));
     };
-    Ok(Named::Taken(url, Taken { kind, scopes }))
+    Ok(Named::Taken(Taken { url, kind, scopes }))
 }

@@ -1,4 +1,5 @@
 ghost use Rattle.std.specs.Prelude.{◌≡◌, ◌<◌, ◌≤◌, length, IfOk};
+ghost use Rattle.slp_text.specs.Scopes.{printed};
 
 use slp_text::{NoMemory, ScopeList};
 use std::alloc::Global;
@@ -28,10 +29,12 @@ impl Model for Site {
 impl Site {
     ghost use Rattle.directory_judge.specs.Sites.{IsPlace};
 
-    /// A site of 1 to 16 scopes and 1 to 65,536 entries. The boot stamp is in seconds since 1970.
+    /// A site of 1 to 16 scopes, which have at most 1,024 bytes as a list, and 1 to 65,536 entries. The
+    /// boot stamp is in seconds since 1970.
     pub fn new(scopes: ScopeList, capacity: usize, boot: u32) -> Site
         requires some_scope { 0 < length scopes }
         requires few_scopes { length scopes ≤ 16 }
+        requires short_scopes { length (printed scopes) ≤ 1024 }
         requires some_entry { 0 < capacity }
         requires few_entries { capacity ≤ 65536 }
         ensures { result ≡ record { scopes = scopes; capacity = capacity; boot = boot } }

@@ -1,0 +1,239 @@
+-- What a ruling on some scopes says of their denial and of their first scope.
+use Rattle.std.proofs.Common.{◌≡◌, ℕ, ◌+◌, ◌<◌, ◌≤◌, Bool, true, false, cond, ◌&&◌, ◌||◌, List, [], ◌∷◌, drop, length, Option, Some, None, Result, Ok, Err, refl, sym, ap, ap₂, ◌∙◌, arith}
+use Rattle.std.specs.Prelude.{find, is_some, not, slice_get, unwrap_or, IfSome}
+use Rattle.std.specs.List.{list_any}
+use Rattle.std.specs.Option.{option_map, option_or}
+use Rattle.std.specs.Ordering.{match_ordering}
+use Rattle.std.specs.declared.cmp.Ordering.TheVariants.{Less, Equal, Greater}
+use Rattle.std.proofs.lemmas.List.{drop_all}
+use Rattle.std.proofs.lemmas.Option.{none-some, same_Some}
+use Rattle.directory_judge.proofs.Concerned.{or_true}
+use Rattle.slp_text.specs.Words.{bytes_cmp, texts_eq}
+use Rattle.access_rules.specs.declared.rule.Action.{Action}
+use Rattle.access_rules.specs.declared.rule.Action.TheVariants.{Withdraw}
+use Rattle.access_rules.specs.Deciding.{SiteRules, deciding}
+use Rattle.access_rules.specs.declared.rules.Verdict.{Verdict}
+use Rattle.registry_core.specs.declared.entry.Entry.{Entry}
+use Rattle.registry_core.specs.Entries.{outlives}
+use Rattle.directory_judge.specs.Judging.{Grounds, because_in, by_rule, decider_of, denial_of, earlier, is_denied, is_kept, ruled, ruling_in}
+use Rattle.directory_judge.specs.Walking.{earlier_ruled, entry_in, with_ruled, taken_in, IsRuled, IsDenied, IsRuledWalk, IsVisit}
+use Rattle.directory_judge.proofs.Denials.{find-drop, get-front}
+use Rattle.directory_judge.specs.declared.because.Because.{Because}
+use Rattle.directory_judge.specs.declared.ruling.Ruling.{Ruling}
+use Rattle.directory_judge.specs.declared.withdrawing.Ruled.{Ruled}
+use Rattle.directory_judge.specs.declared.withdrawing.Walk.{Walk}
+
+pub not-true : (b : Bool) → not b ≡ true → b ≡ false
+not-true true h = cc
+not-true false h = refl
+
+pub not-false : (b : Bool) → not b ≡ false → b ≡ true
+not-false true h = refl
+not-false false h = cc
+
+-- ---- what a ruling is
+
+abbrev because_of : Result Because Because → Because
+because_of (Ok b) = b
+because_of (Err b) = b
+
+abbrev allows_of : Result Because Because → Bool
+allows_of (Ok b) = true
+allows_of (Err b) = false
+
+because_of-ruling : (r : Ruling) → because_of (ruling_in r) ≡ because_in r
+because_of-ruling r = elim (r.verdict.allow) as (λ b. because_of (cond b (Ok (because_in r)) (Err (because_in r))) ≡ because_in r) [ true ↦ refl | false ↦ refl ]
+
+allows_of-ruling : (r : Ruling) → allows_of (ruling_in r) ≡ r.verdict.allow
+allows_of-ruling r = elim (r.verdict.allow) as (λ b. allows_of (cond b (Ok (because_in r)) (Err (because_in r))) ≡ b) [ true ↦ refl | false ↦ refl ]
+
+-- ---- what denies, and else what allows in the first scope
+
+module _ (by : List ℕ → Because) where
+  either : Option Because → Option (List ℕ) → Option (Result Because Because)
+  either d o = option_or (option_map Err d) (option_map (λ s. Ok (by s)) o)
+
+  either-denied : (d : Option Because) (o : Option (List ℕ)) (x : Result Because Because) → either d o ≡ Some x → allows_of x ≡ false → d ≡ Some (because_of x)
+  unfolding either
+  either-denied (Some b) o x is h = ap (λ y. Some (because_of y)) (same_Some (Err b) x is)
+  either-denied None (Some s) x is h = let k : true ≡ false = ap allows_of (same_Some (Ok (by s)) x is) ∙ h in cc
+  either-denied None None x is h = absurd (none-some x is)
+
+  either-allowed : (d : Option Because) (o : Option (List ℕ)) (x : Result Because Because) → either d o ≡ Some x → allows_of x ≡ true → d ≡ None
+  unfolding either
+  either-allowed (Some b) o x is h = let k : false ≡ true = ap allows_of (same_Some (Err b) x is) ∙ h in cc
+  either-allowed None o x is h = refl
+
+  either-first : (d : Option Because) (o : Option (List ℕ)) (x : Result Because Because) → either d o ≡ Some x → d ≡ None → because_of x ≡ by (unwrap_or o [])
+  unfolding either
+  either-first (Some b) o x is none = absurd (none-some b (sym none))
+  either-first None (Some s) x is none = ap because_of (sym (same_Some (Ok (by s)) x is))
+  either-first None None x is none = absurd (none-some x is)
+
+  either-none : (d : Option Because) (o : Option (List ℕ)) → either d o ≡ None → (d ≡ None) × (o ≡ None)
+  unfolding either
+  either-none (Some b) o is = absurd (none-some _ (sym is))
+  either-none None (Some s) is = absurd (none-some _ (sym is))
+  either-none None None is = (refl, refl)
+
+module _ (rules : SiteRules) (asker : ℕ) (action : Action) (kind : List ℕ) (scopes : List (List ℕ)) where
+  pub ruled-none : ruled rules asker action kind scopes ≡ None → (denial_of rules asker action kind scopes ≡ None) × (slice_get scopes 0 ≡ None)
+  unfolding either
+  ruled-none is = either-none (by_rule rules asker action kind) (denial_of rules asker action kind scopes) (slice_get scopes 0) is
+
+  module _ (r : Ruling) (is : ruled rules asker action kind scopes ≡ Some (ruling_in r)) where
+    pub ruled-denied : r.verdict.allow ≡ false → denial_of rules asker action kind scopes ≡ Some (because_in r)
+    unfolding either
+    ruled-denied h =
+        either-denied (by_rule rules asker action kind) (denial_of rules asker action kind scopes) (slice_get scopes 0) (ruling_in r) is (allows_of-ruling r ∙ h) ∙ ap Some (because_of-ruling r)
+
+    pub ruled-allowed : r.verdict.allow ≡ true → denial_of rules asker action kind scopes ≡ None
+    unfolding either
+    ruled-allowed h = either-allowed (by_rule rules asker action kind) (denial_of rules asker action kind scopes) (slice_get scopes 0) (ruling_in r) is (allows_of-ruling r ∙ h)
+
+    pub ruled-first : denial_of rules asker action kind scopes ≡ None → because_in r ≡ by_rule rules asker action kind (unwrap_or (slice_get scopes 0) [])
+    unfolding either
+    ruled-first none = sym (because_of-ruling r) ∙ either-first (by_rule rules asker action kind) (denial_of rules asker action kind scopes) (slice_get scopes 0) (ruling_in r) is none
+
+pub ruled-some : (rules : SiteRules) (asker : ℕ) (action : Action) (kind : List ℕ) (scopes : List (List ℕ)) (x : Result Because Because) → ruled rules asker action kind scopes ≡ Some x → 0 < length scopes
+ruled-some rules asker action kind [] x is = absurd (none-some x is)
+ruled-some rules asker action kind (s ∷ ss) x is = omega arith
+
+pub no-scopes : (scopes : List (List ℕ)) → slice_get scopes 0 ≡ None → length scopes ≡ 0
+no-scopes [] is = refl
+no-scopes (s ∷ ss) is = absurd (none-some s (sym is))
+
+-- ---- the scopes asked one by one
+
+-- nothing was denied so far, and the first that was ruled on is the first of all
+pub record IsAsked (rules : SiteRules) (asker : ℕ) (action : Action) (kind : List ℕ) (scopes : List (List ℕ)) (held : Option Ruling) (place : ℕ) : Type 0 where
+  pub denied : find (is_denied rules asker action kind) scopes ≡ find (is_denied rules asker action kind) (drop place scopes)
+  pub first : option_or (option_map ruling_in held) (option_map (λ s. Ok (by_rule rules asker action kind s)) (slice_get (drop place scopes) 0)) ≡ option_map (λ s. Ok (by_rule rules asker action kind s)) (slice_get scopes 0)
+
+or-none : {A : Type 0} (o : Option A) → option_or o None ≡ o
+or-none None = refl
+or-none (Some x) = refl
+
+or-some : (o : Option Ruling) (r : Ruling) (x : Option (Result Because Because)) → option_or (option_map ruling_in (option_or o (Some r))) x ≡ option_or (option_map ruling_in o) (Some (ruling_in r))
+or-some None r x = refl
+or-some (Some f) r x = refl
+
+module _ (rules : SiteRules) (asker : ℕ) (action : Action) (kind : List ℕ) (scopes : List (List ℕ)) (first : Option Ruling) (place : ℕ) (so_far : IsAsked rules asker action kind scopes first place) where
+  pub ruled-all : length scopes ≤ place → option_map ruling_in first ≡ ruled rules asker action kind scopes
+  ruled-all all =
+      let none : drop place scopes ≡ [] = drop_all place scopes all in
+      sym (or-none (option_map ruling_in first)) ∙ ap (λ xs. option_or (option_map ruling_in first) (option_map (λ s. Ok (by_rule rules asker action kind s)) (slice_get xs 0))) (sym none) ∙ so_far.first
+      ∙ ap (λ o. option_or (option_map Err (option_map (by_rule rules asker action kind) o)) (option_map (λ s. Ok (by_rule rules asker action kind s)) (slice_get scopes 0)))
+      (sym (so_far.denied ∙ ap (find (is_denied rules asker action kind)) none))
+
+  module _ (r : Ruling) (there : slice_get scopes place ≡ Some r.scope.now) (of_kind : r.kind.now ≡ kind) (decided : r.verdict ≡ deciding rules asker action kind r.scope.now) where
+    by-ruling : because_in r ≡ by_rule rules asker action kind r.scope.now
+    by-ruling = λ i. record { decider = decider_of (decided i); kind = Some (of_kind i); scope = Some r.scope.now }
+
+    pub ruled-here : r.verdict.allow ≡ false → Some (ruling_in r) ≡ ruled rules asker action kind scopes
+    ruled-here h =
+        let found : find (is_denied rules asker action kind) scopes ≡ Some r.scope.now =
+        so_far.denied ∙ find-drop (is_denied rules asker action kind) scopes place r.scope.now there
+        ∙ ap (λ b. cond b (Some r.scope.now) (find (is_denied rules asker action kind) (drop (place + 1) scopes))) (ap (λ (v : Verdict). not v.allow) (sym decided) ∙ ap not h) in
+        ap (λ b. Some (cond b (Ok (because_in r)) (Err (because_in r)))) h ∙ ap (λ b. Some (Err b)) by-ruling
+        ∙ ap (λ o. option_or (option_map Err (option_map (by_rule rules asker action kind) o)) (option_map (λ s. Ok (by_rule rules asker action kind s)) (slice_get scopes 0))) (sym found)
+
+    pub IsAsked-more : r.verdict.allow ≡ true → IsAsked rules asker action kind scopes (option_or first (Some r)) (place + 1)
+    IsAsked-more h = record {
+      denied =
+          so_far.denied ∙ find-drop (is_denied rules asker action kind) scopes place r.scope.now there
+          ∙ ap (λ b. cond b (Some r.scope.now) (find (is_denied rules asker action kind) (drop (place + 1) scopes))) (ap (λ (v : Verdict). not v.allow) (sym decided) ∙ ap not h);
+      first =
+          or-some first r _ ∙ ap (λ b. option_or (option_map ruling_in first) (Some (cond b (Ok (because_in r)) (Err (because_in r))))) h
+          ∙ ap (λ b. option_or (option_map ruling_in first) (Some (Ok b))) by-ruling
+          ∙ ap (λ o. option_or (option_map ruling_in first) (option_map (λ s. Ok (by_rule rules asker action kind s)) o)) (sym (get-front scopes place r.scope.now there)) ∙ so_far.first;
+    }
+
+-- ---- what may not be withdrawn
+
+is_some-find : (p : List ℕ → Bool) (xs : List (List ℕ)) → is_some (find p xs) ≡ list_any p xs
+is_some-find p [] = refl
+is_some-find p (x ∷ xs) = elim (p x) as (λ b. is_some (cond b (Some x) (find p xs)) ≡ (b || list_any p xs)) [ true ↦ refl | false ↦ is_some-find p xs ]
+
+is_some-map : {A B : Type 0} (f : A → B) (o : Option A) → is_some (option_map f o) ≡ is_some o
+is_some-map f None = refl
+is_some-map f (Some x) = refl
+
+pub is_kept-denial : (rules : SiteRules) (asker : ℕ) (e : Entry) → is_kept rules asker e ≡ is_some (denial_of rules asker Withdraw e.kind e.scopes)
+is_kept-denial rules asker e =
+    sym (is_some-map (by_rule rules asker Withdraw e.kind) (find (is_denied rules asker Withdraw e.kind) e.scopes) ∙ is_some-find (is_denied rules asker Withdraw e.kind) e.scopes)
+
+none-of : (o : Option Because) → is_some o ≡ false → o ≡ None
+none-of None h = refl
+none-of (Some b) h = cc
+
+pub not-kept : (rules : SiteRules) (asker : ℕ) (e : Entry) → is_kept rules asker e ≡ false → denial_of rules asker Withdraw e.kind e.scopes ≡ None
+not-kept rules asker e h = none-of (denial_of rules asker Withdraw e.kind e.scopes) (sym (is_kept-denial rules asker e) ∙ h)
+
+-- an entry's ruling says whether it may be withdrawn
+kept-ruled : (g : Grounds) (r : Ruled) → IsRuled g r → is_kept g.rules g.asker (entry_in r) ≡ not r.ruling.verdict.allow
+kept-ruled g r is =
+    is_kept-denial g.rules g.asker (entry_in r)
+    ∙ (elim (r.ruling.verdict.allow) as (λ b. r.ruling.verdict.allow ≡ b → is_some (denial_of g.rules g.asker Withdraw (entry_in r).kind (entry_in r).scopes) ≡ not b) [
+      | true ↦ λ t. ap is_some (ruled-allowed g.rules g.asker Withdraw (entry_in r).kind (entry_in r).scopes r.ruling is t)
+      | false ↦ λ t. ap is_some (ruled-denied g.rules g.asker Withdraw (entry_in r).kind (entry_in r).scopes r.ruling is t)
+    ] refl)
+
+-- ---- a walk with one more
+
+earlier-entry : (o : Option Ruled) (r : Ruled) → entry_in (earlier_ruled o r) ≡ earlier (option_map entry_in o) (entry_in r)
+earlier-entry None r = refl
+earlier-entry (Some f) r = elim (bytes_cmp r.entry.now.language f.entry.now.language) as (λ c. entry_in (match_ordering c r f f) ≡ match_ordering c (entry_in r) (entry_in f) (entry_in f)) [
+  | Less ↦ refl
+  | Equal ↦ refl
+  | Greater ↦ refl
+]
+
+earlier-meets : (P : Ruled → Type 0) (o : Option Ruled) (r : Ruled) → IfSome o P → P r → P (earlier_ruled o r)
+earlier-meets P None r h k = k
+earlier-meets P (Some f) r h k = elim (bytes_cmp r.entry.now.language f.entry.now.language) as (λ c. P (match_ordering c r f f)) [ Less ↦ k | Equal ↦ h | Greater ↦ h ]
+
+or_false : (b : Bool) → (b || false) ≡ b
+or_false true = refl
+or_false false = refl
+
+kept-taken : (allow : Bool) (o : Option Ruled) (r : Ruled) → option_map entry_in (cond allow o (Some (earlier_ruled o r))) ≡ taken_in (not allow) (option_map entry_in o) (entry_in r)
+kept-taken true o r = refl
+kept-taken false o r = ap Some (earlier-entry o r)
+
+abbrev alive : Walk → Walk
+alive walk = record { is_live = true; first = walk.first; kept = walk.kept }
+
+module _ (g : Grounds) (scopes : List (List ℕ)) (walk : Walk) where
+  pub IsVisit-dead : (e : Entry) → outlives g.now e ≡ false → IsVisit g scopes e walk walk
+  IsVisit-dead e dead = record {
+    is_live = sym (ap (λ b. walk.is_live || b) dead ∙ or_false walk.is_live);
+    first = ap (λ b. taken_in (b && texts_eq e.scopes scopes) (option_map entry_in walk.first) e) (sym dead);
+    kept = ap (λ b. taken_in (b && texts_eq e.scopes scopes && is_kept g.rules g.asker e) (option_map entry_in walk.kept) e) (sym dead);
+  }
+
+  pub IsVisit-other : (e : Entry) → outlives g.now e ≡ true → texts_eq e.scopes scopes ≡ false → IsVisit g scopes e walk (alive walk)
+  IsVisit-other e lives other = record {
+    is_live = sym (ap (λ b. walk.is_live || b) lives ∙ or_true walk.is_live);
+    first = ap₂ (λ b c. taken_in (b && c) (option_map entry_in walk.first) e) (sym lives) (sym other);
+    kept = ap₂ (λ b c. taken_in (b && c && is_kept g.rules g.asker e) (option_map entry_in walk.kept) e) (sym lives) (sym other);
+  }
+
+  module _ (r : Ruled) (is : IsRuled g r) where
+    pub IsVisit-with : outlives g.now (entry_in r) ≡ true → texts_eq (entry_in r).scopes scopes ≡ true → IsVisit g scopes (entry_in r) walk (with_ruled (alive walk) r)
+    IsVisit-with lives same = record {
+      is_live = sym (ap (λ b. walk.is_live || b) lives ∙ or_true walk.is_live);
+      first = ap Some (earlier-entry walk.first r) ∙ ap₂ (λ b c. taken_in (b && c) (option_map entry_in walk.first) (entry_in r)) (sym lives) (sym same);
+      kept =
+          kept-taken r.ruling.verdict.allow walk.kept r ∙ ap (λ b. taken_in b (option_map entry_in walk.kept) (entry_in r)) (sym (kept-ruled g r is))
+          ∙ ap₂ (λ b c. taken_in (b && c && is_kept g.rules g.asker (entry_in r)) (option_map entry_in walk.kept) (entry_in r)) (sym lives) (sym same);
+    }
+
+    pub IsRuledWalk-with : IsRuledWalk g walk → IsRuledWalk g (with_ruled (alive walk) r)
+    IsRuledWalk-with ruled = record {
+      first = earlier-meets (IsRuled g) walk.first r ruled.first is;
+      kept = elim (r.ruling.verdict.allow) as (λ b. r.ruling.verdict.allow ≡ b → IfSome (cond b walk.kept (Some (earlier_ruled walk.kept r))) (IsDenied g)) [
+        | true ↦ λ t. ruled.kept
+        | false ↦ λ t. earlier-meets (IsDenied g) walk.kept r ruled.kept (ruled-denied g.rules g.asker Withdraw (entry_in r).kind (entry_in r).scopes r.ruling is t)
+      ] refl;
+    }

@@ -1,0 +1,5 @@
+use Rattle.directory_judge.proofs.Rulings.{IsAsked}
+use Rattle.directory_judge.proofs.grounds.Grounds.rule.Given as goal
+
+abbrev pub invariant-loop-place : goal.invariant-loop-place
+invariant-loop-place g l = IsAsked l.self.rules l.self.asker l.action l.kind l.scopes l.first l.place

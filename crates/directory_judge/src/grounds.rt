@@ -1,0 +1,86 @@
+ghost use Rattle.std.specs.Prelude.{◌≡◌, nat_le};
+ghost use Rattle.std.specs.Option.{option_copied, option_map};
+ghost use Rattle.std.specs.FinMap as fin;
+ghost use Rattle.directory_judge.specs.Judging.{ruled, ruling_in};
+
+use crate::ruling::Ruling;
+use crate::site::Site;
+use access_rules::{Action, Addr, Rules};
+use registry_core::{Entry, Registry};
+use service_url::{ServiceType, Url};
+use slp_text::{Key, ScopeList};
+use std::marker::Model;
+
+/// What a message is judged on: the entries, of which those count that are live, the rules, the site,
+/// the moment in seconds at which the message acts, and who sent it. All of it is lent.
+#[derive(Drop)]
+pub struct Grounds<'a, R: Registry> {
+    pub(crate) registry: &'a R,
+    pub(crate) rules: &'a Rules,
+    pub(crate) site: &'a Site,
+    pub(crate) moment: u32,
+    pub(crate) asker: Addr,
+}
+
+impl<'a, R: Registry> Model for Grounds<'a, R> {
+    ghost use Rattle.registry_core.specs.Entries.{outlives, passing};
+    ghost use Rattle.directory_judge.specs.Judging.{Grounds as Shown, grounds_code};
+
+    ghost Value = { Shown };
+
+    ghost coded = { grounds_code };
+
+    ghost view = { λ g. record { rules = g.rules.now; site = g.site.now; live = passing (outlives g.moment) (R.contents g.registry.now); now = g.moment; asker = g.asker } };
+}
+
+impl<'a, R: Registry> Grounds<'a, R> {
+    /// What the rules say of an action on a type in some scopes, if there are any: what denies it in the
+    /// first of them, in key order, in which it is denied, else what allows it in the first of all.
+    /// Each scope is asked once, and no memory is taken.
+    pub fn rule<'b>(
+        &self,
+        action: Action,
+        kind: &'b ServiceType,
+        scopes: &'b ScopeList,
+    ) -> Option<Ruling<'b>>
+        ensures { option_map ruling_in result ≡ ruled self.now.rules self.now.asker action kind.now scopes.now }
+    {
+        let mut first = None;
+        for place in 0..scopes.len() {
+            if let Some(scope) = scopes.at(place) {
+                let verdict = self.rules.decide(self.asker, action, kind, scope);
+                let ruling = Ruling {
+                    verdict,
+                    kind,
+                    scope,
+                };
+                if !verdict.allow {
+                    return Some(ruling);
+                }
+                first = first.or(Some(ruling));
+            }
+        }
+        first
+    }
+
+    /// The entry of a pair, where it is live.
+    pub fn live_entry(&self, url: &Url, language: &Key) -> Option<&'a Entry>
+        ensures { option_copied result ≡ fin.get self.now.live (url.now, language.now) }
+    {
+        match self.registry.find(url, language) {
+            Some(entry) if entry.deadline > u64::from(self.moment) => Some(entry),
+            _ => None,
+        }
+    }
+
+    /// Whether the entries that are live fill the capacity of the site. They are counted only where
+    /// all entries fill it.
+    pub fn is_full(&self) -> bool
+        ensures { result ≡ nat_le self.now.site.capacity (fin.len self.now.live) }
+    {
+        if self.registry.len() < self.site.capacity() {
+            return false;
+        }
+        self.registry.live(u64::from(self.moment)) >= self.site.capacity()
+    }
+}
