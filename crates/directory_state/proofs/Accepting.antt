@@ -8,7 +8,6 @@ use Rattle.std.proofs.lemmas.Bool.Decides.{nat_tests}
 use Rattle.std.proofs.lemmas.Option.{none-some}
 use Rattle.std.specs.FinMap as fin
 use Rattle.access_rules.specs.declared.rule.Action.TheVariants.{Register, Withdraw as Withdrawal-of}
-use Rattle.access_rules.specs.declared.rule.Rule.{Rule}
 use Rattle.registry_core.specs.declared.entry.Entry.{Entry}
 use Rattle.registry_core.specs.Entries.{Entries, is_of_url}
 use Rattle.service_url.specs.Types.{type_of}
@@ -20,14 +19,14 @@ use Rattle.slp_messages.specs.declared.message.Message.{Message}
 use Rattle.slp_messages.specs.declared.message.Message.TheVariants as message
 use Rattle.slp_messages.specs.declared.message.Registration.{Registration}
 use Rattle.slp_messages.specs.declared.message.Withdrawal.{Withdrawal}
+use Rattle.directory_answers.specs.Calls.{Opening}
 use Rattle.directory_judge.specs.declared.because.Because.{Because}
 use Rattle.directory_judge.specs.declared.because.Decider.TheVariants as decider
 use Rattle.directory_judge.specs.declared.naming.Taken.{Taken}
 use Rattle.directory_judge.specs.History.{Putting, Setting, Removing, Withdrawing, Act, Put, Set, Remove, Withdraw, Sweep, Reload, Event, History, now}
-use Rattle.directory_judge.specs.Judging.{Grounds, Judgement, Accepts, Ignores, Waits, Denies, denied_by, is_ignored, named, named_as, judgement, judgement_of, judged_named, judged_taken, unsupported, denied_new, denied_old, denial_of, no_room, putting, pair_in, is_unjudged, is_kept, keeps, withdrawing, entries_in, first_of, concerned, judgement_to, judged_from, judged_within, judged_stored, judged_concerned}
+use Rattle.directory_judge.specs.Judging.{Grounds, Judgement, Accepts, Ignores, Waits, Denies, denied_by, denies, is_ignored, named, named_as, judgement, judgement_of, judged_named, judged_taken, unsupported, denied_new, denied_old, denial_of, no_room, putting, pair_in, is_unjudged, is_kept, keeps, withdrawing, entries_in, first_of, concerned, judgement_to, judged_from, judged_within, judged_stored, judged_concerned}
 use Rattle.directory_judge.specs.Meaning.{AreLive}
-use Rattle.directory_judge.specs.Sites.{Place}
-use Rattle.directory_state.specs.Verdicts.{grounds, IsGrounded}
+use Rattle.directory_answers.specs.Verdicts.{grounds, IsGrounded}
 use Rattle.directory_state.proofs.Folding.{IsPossible}
 
 -- ---- a step denies, or finds nothing
@@ -60,7 +59,7 @@ cond-denial : (b : Bool) (code : ℕ) (why : Because) → IsDenial (cond b (Some
 cond-denial true code why = tt
 cond-denial false code why = tt
 
-map-denial : (o : Option Because) → IsDenial (option_map (Denies 4) o)
+map-denial : (o : Option Because) → IsDenial (option_map denies o)
 map-denial None = tt
 map-denial (Some why) = tt
 
@@ -104,7 +103,7 @@ named-taken : (g : Grounds) (h : Header) (r : Registration) (kind url : Option (
 named-taken g h r None url scopes c because is = absurd (denies_accepts _ _ because c is)
 named-taken g h r (Some kind) None scopes c because is = absurd (denies_accepts _ _ because c is)
 named-taken g h r (Some kind) (Some url) None c because is = absurd (denies_accepts _ _ because c is)
-named-taken g h r (Some kind) (Some url) (Some scopes) c because is = (record { kind = kind; scopes = common_of g.site.scopes scopes }, is)
+named-taken g h r (Some kind) (Some url) (Some scopes) c because is = (record { url = url; kind = kind; scopes = common_of g.site.scopes scopes }, is)
 
 or_parts : (a b : Bool) → (a || b) ≡ false → (a ≡ false) × (b ≡ false)
 or_parts true b h = cc
@@ -122,7 +121,7 @@ of_registration g h r c because =
           let u = result_ok (url_of r.entry.url) in
           let s = result_ok (scopes_of r.scopes) in
           elim (length h.language == 0 || r.entry.lifetime == 0) as (λ b. (length h.language == 0 || r.entry.lifetime == 0) ≡ b
-          → judged_named g h r (cond b (Err (denied_by 3 decider.Registration)) (named_as g.site k u s)) ≡ Accepts c because → IsRegistered g (message.Registration h r) c because) [
+          → judged_named g h r (cond b (Err (denied_by decider.Registration)) (named_as g.site k u s)) ≡ Accepts c because → IsRegistered g (message.Registration h r) c because) [
             | true ↦ λ e is. absurd (denies_accepts _ _ because c is)
             | false ↦ λ e is.
                 let t = named-taken g h r k u s c because is in
@@ -232,7 +231,7 @@ unset g sent moment s because is = elim (accepted g sent (record { moment = mome
   | inr by ↦ set_end s _ (act_of by.event)
 ]
 
-unremoved : (g : Grounds) (sent : Message) (moment : ℕ) (r : Removing) (because : Because) → judgement g sent ≡ Accepts (record { moment = moment; act = Remove r }) because → ⊥
+pub unremoved : (g : Grounds) (sent : Message) (moment : ℕ) (r : Removing) (because : Because) → judgement g sent ≡ Accepts (record { moment = moment; act = Remove r }) because → ⊥
 unremoved g sent moment r because is = elim (accepted g sent (record { moment = moment; act = Remove r }) because is) [
   | inl by ↦ no_remove r _ (act_of by.accepted.event)
   | inr by ↦ remove_end r _ (act_of by.event)
@@ -263,9 +262,9 @@ put_put : (p o : Putting) → Put p ≡ Put o → p ≡ o
 put_put p o h = cc
 
 -- what makes an event possible, of an event that some message makes
-pub possible : (opening : List Rule) (site : Place) (h : History) (moment : ℕ) (act : Act) → IsGrounded opening site h (record { moment = moment; act = act }) → IsPossible site.capacity h (record { moment = moment; act = act })
-possible opening site h moment (Put p) grounded =
-    let g = grounds opening site h grounded.verdict.live grounded.moment grounded.asker in
+pub possible : (o : Opening) (h : History) (moment : ℕ) (act : Act) → IsGrounded o h (record { moment = moment; act = act }) → IsPossible o.site.capacity h (record { moment = moment; act = act })
+possible o h moment (Put p) grounded =
+    let g = grounds o h grounded.verdict.live grounded.moment grounded.asker in
     let by = registered g grounded.sent moment p grounded.because (sym grounded.verdict.is) in
     let same : p ≡ putting g by.header by.registration by.named = put_put p _ (act_of by.accepted.event) in
     let at : moment ≡ now h grounded.moment = ap (λ (x : Event). x.moment) by.accepted.event in (
@@ -273,13 +272,13 @@ possible opening site h moment (Put p) grounded =
       (
         grounded.verdict.live,
         AreLive-acting h grounded.moment moment grounded.verdict.live at grounded.verdict.are_live,
-        subst (λ (x : Putting). IsTrue (is_some (fin.get grounded.verdict.live (x.url, x.language))) ⊎ (fin.len grounded.verdict.live < site.capacity)) (sym same) (has_room by.accepted),
+        subst (λ (x : Putting). IsTrue (is_some (fin.get grounded.verdict.live (x.url, x.language))) ⊎ (fin.len grounded.verdict.live < o.site.capacity)) (sym same) (has_room by.accepted),
       ),
     )
-possible opening site h moment (Set s) grounded =
-    absurd (unset (grounds opening site h grounded.verdict.live grounded.moment grounded.asker) grounded.sent moment s grounded.because (sym grounded.verdict.is))
-possible opening site h moment (Remove r) grounded =
-    absurd (unremoved (grounds opening site h grounded.verdict.live grounded.moment grounded.asker) grounded.sent moment r grounded.because (sym grounded.verdict.is))
-possible opening site h moment (Withdraw w) grounded = tt
-possible opening site h moment Sweep grounded = tt
-possible opening site h moment (Reload rs) grounded = tt
+possible o h moment (Set s) grounded =
+    absurd (unset (grounds o h grounded.verdict.live grounded.moment grounded.asker) grounded.sent moment s grounded.because (sym grounded.verdict.is))
+possible o h moment (Remove r) grounded =
+    absurd (unremoved (grounds o h grounded.verdict.live grounded.moment grounded.asker) grounded.sent moment r grounded.because (sym grounded.verdict.is))
+possible o h moment (Withdraw w) grounded = tt
+possible o h moment Sweep grounded = tt
+possible o h moment (Reload rs) grounded = tt

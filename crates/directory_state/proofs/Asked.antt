@@ -1,46 +1,45 @@
--- What is listed of what was found answers the question.
-use Rattle.std.proofs.Common.{◌≡◌, ℕ, ◌+◌, ◌≤◌, max, Bool, true, false, cond, List, [], ◌∷◌, map, get_or, Some, None, Bor, refl, sym, ap, ap₂, subst, ◌∙◌, arith, inl, inr}
+-- What is seen answers the question.
+use Rattle.std.proofs.Common.{◌≡◌, ℕ, ◌+◌, ◌≤◌, max, Bool, true, false, cond, List, [], ◌∷◌, map, get_or, Some, None, refl, sym, ap, ap₂, subst, ◌∙◌, arith, inl, inr}
 use Rattle.std.specs.Prelude.{◌&&◌, ◌||◌, IsTrue, slice_get, filter, find, Contains}
 use Rattle.std.specs.List.{list_any, All, AllByRecursion}
-use Rattle.std.specs.List.Sorted.{IsStrictlySortedBy}
-use Rattle.std.specs.Map.{keys_of, lookup}
-use Rattle.std.specs.BTreeMap as tree
-use Rattle.std.specs.declared.cmp.Ordering.{Ordering}
-use Rattle.std.specs.declared.cmp.Ordering.TheVariants.{Less, Equal, Greater}
-use Rattle.std.specs.Cmp.{IsTotalOrder}
+use Rattle.std.specs.BTreeMap.{is_at}
+use Rattle.std.specs.declared.cmp.Ordering.TheVariants.{Less}
 use Rattle.std.specs.Ordering.{is_eq}
 use Rattle.std.proofs.lemmas.Bool.{and_parts}
-use Rattle.std.proofs.lemmas.Cmp.{on_total, nat_list_cmp_total}
 use Rattle.std.proofs.lemmas.List.Elements.{All-nil, All-cons, All-weaker, All-append, All-map, All-contains, All-contains_itself, All-filter, filter_passes, Contains-append_left, Contains-append_right}
-use Rattle.std.proofs.lemmas.Map.Entries.{btree_map_get_place, place_from_lookup}
-use Rattle.std.proofs.lemmas.Map.Keys.{sorted_head, sorted_tail}
+use Rattle.std.proofs.lemmas.Map.Entries.{place_from_lookup}
 use Rattle.std.proofs.lemmas.Map.Text.{is_eq-slice_cmp}
 use Rattle.std.proofs.lemmas.Option.{none-some, same_Some, slice_get_within, get_or_from_slice_get, slice_get-get_or, slice_get-map}
 use Rattle.std.specs.Option.{option_map}
 use borrow.Author.Tests.{ltb-true, lt-ltb}
 use Rattle.std.specs.FinMap as fin
-use Rattle.access_rules.specs.Deciding.{deciding}
+use Rattle.slp_text.proofs.KeySets.{bytes_same}
+use Rattle.access_rules.specs.Deciding.{SiteRules, deciding}
 use Rattle.access_rules.specs.declared.rule.Action.TheVariants.{See}
-use Rattle.access_rules.specs.declared.rule.Rule.{Rule}
 use Rattle.registry_core.specs.declared.entry.Entry.{Entry}
 use Rattle.registry_core.specs.Entries.{Entries, pair_of, is_of, outlives, has_scope, is_at_place, IsDistinct, IsListing}
 use Rattle.registry_core.proofs.Lists.{pair_eq-true, pair_eq-same}
 use Rattle.service_url.specs.Types.{covers}
 use Rattle.slp_text.specs.Words.{bytes_eq, bytes_cmp, IsAscending}
 use Rattle.slp_messages.specs.declared.message.UrlEntry.{UrlEntry}
+use Rattle.directory_answers.specs.Calls.{Opening}
 use Rattle.directory_judge.specs.History.{History, now}
 use Rattle.directory_judge.specs.Judging.{supports}
 use Rattle.directory_judge.specs.Meaning.{AreLive, rules}
 use Rattle.directory_judge.specs.Sites.{Place}
-use Rattle.directory_state.specs.declared.query.ServiceQuery.{ServiceQuery}
-use Rattle.directory_state.specs.Asking.{Answers, IsItem, AreItems, AreServices}
-use Rattle.directory_state.specs.Finding.{Found, url_cmp, found_at, latest, is_seen, all_seen, item_at}
+use Rattle.directory_answers.specs.declared.query.ServiceQuery.{ServiceQuery}
+use Rattle.directory_answers.specs.Asking.{IsOpenNow, Matches, IsItem, AreItems, AreServices}
+use Rattle.directory_state.specs.Finding.{Dated, joined, is_seen, all_seen, item_at}
 use Rattle.directory_state.specs.Folding.{Fold}
 use Rattle.directory_state.specs.State.{State}
-use Rattle.directory_state.specs.Verdicts.{IsLegal}
+use Rattle.directory_answers.specs.Verdicts.{IsLegal}
 use Rattle.directory_state.proofs.Folding.{kept-some, some-kept}
-use Rattle.directory_state.proofs.Found.{bytes_same, bytes_eq-same, latest-ge, latest-from, latest-some, here, there}
+use Rattle.directory_state.proofs.Joining.{is_same, is_same-itself, reversed, urls_of, latest_in, ascending-joined}
+use Rattle.directory_state.proofs.Seen.{latest, latest-joined, latest-ge, latest-from, latest-some, here, there}
 use Rattle.directory_state.proofs.Lasting.{last-deadline}
+
+bytes_eq-same : (a : List ℕ) → bytes_eq a a ≡ true
+bytes_eq-same a = sym (is_eq-slice_cmp a a) ∙ is_same-itself a
 
 -- ---- lists
 
@@ -117,14 +116,14 @@ contains-find es e d h = All-contains (λ e. find (is_of (pair_of e)) es ≡ Som
 -- ---- what is seen in the scopes
 
 -- the scope in which an entry was seen
-pub record SeenIn (listing : List ℕ → List Entry) (rs : List Rule) (site : Place) (n asker : ℕ) (scopes : List (List ℕ)) (e : Entry) : Type 0 where
+pub record SeenIn (listing : List ℕ → List Entry) (rs : SiteRules) (site : Place) (n asker : ℕ) (scopes : List (List ℕ)) (e : Entry) : Type 0 where
   pub scope : List ℕ
   pub requested : Contains scopes scope
   pub supported : supports site scope ≡ true
   pub listed : Contains (listing scope) e
   pub seen : is_seen rs n asker scope e ≡ true
 
-module _ (listing : List ℕ → List Entry) (rs : List Rule) (site : Place) (n asker : ℕ) where
+module _ (listing : List ℕ → List Entry) (rs : SiteRules) (site : Place) (n asker : ℕ) where
   filtered : (s : List ℕ) (scopes : List (List ℕ)) → supports site s ≡ true → All (SeenIn listing rs site n asker (s ∷ scopes)) (filter (is_seen rs n asker s) (listing s))
   filtered s scopes is k d h =
       let p = is_seen rs n asker s in
@@ -171,75 +170,79 @@ module _ (listing : List ℕ → List Entry) (rs : List Rule) (site : Place) (n 
 abbrev pub AreListings : (List ℕ → List Entry) → Place → ServiceQuery → Entries → Type 0
 AreListings listing site query live = (k : ℕ) (s : List ℕ) → slice_get query.scopes k ≡ Some s → IsTrue (supports site s) → IsListing (is_at_place s (Some query.kind)) live (listing s)
 
-module _ (opening : List Rule) (site : Place) (h : History) (m asker : ℕ) (query : ServiceQuery) (listing : List ℕ → List Entry) (live : Entries) (n : ℕ)
-    (is : n ≡ now h m) (are : AreLive h 0 live) (listings : AreListings listing site query live) where
-  listing-of : (s : List ℕ) → Contains query.scopes s → supports site s ≡ true → IsListing (is_at_place s (Some query.kind)) live (listing s)
+module _ (o : Opening) (h : History) (m asker : ℕ) (query : ServiceQuery) (listing : List ℕ → List Entry) (live : Entries) (n : ℕ)
+    (is : n ≡ now h m) (are : AreLive h 0 live) (listings : AreListings listing o.site query live) where
+  listing-of : (s : List ℕ) → Contains query.scopes s → supports o.site s ≡ true → IsListing (is_at_place s (Some query.kind)) live (listing s)
   listing-of s has in_site = listings has.0 s (slice_get-get_or query.scopes has.0 s has.1 ∙ ap Some has.2) in_site
 
-  seen-answers : (e : Entry) → SeenIn listing (rules opening h) site n asker query.scopes e → Answers opening site h m asker query e
+  seen-answers : (e : Entry) → SeenIn listing (rules o.rules h) o.site n asker query.scopes e → Matches (IsOpenNow o h m asker query.scopes) query e
   seen-answers e i =
       let l = listing-of i.scope i.requested i.supported in
       let found = contains-find (listing i.scope) e l.once i.listed in
       let k = kept-some (is_at_place i.scope (Some query.kind)) (fin.get live (pair_of e)) e (sym (l.each (pair_of e)) ∙ found) in
       let place = and_parts (covers query.kind e.kind) (has_scope i.scope e) k.1 in
-      let seen = and_parts (outlives n e) (deciding (rules opening h) asker See e.kind i.scope).allow i.seen in
+      let seen = and_parts (outlives n e) (deciding (rules o.rules h) asker See e.kind i.scope).allow i.seen in
       let lives = ((are (pair_of e) e).0 k.0).1 in
       record {
-        live = record { stands = lives.stands; lasts = omega (arith, is, ltb-true n e.deadline seen.0) };
-        open_to = record {
-          scope = i.scope;
-          stored = list_any-contains e.scopes i.scope place.1;
-          requested = i.requested;
-          supported = list_any-contains site.scopes i.scope i.supported;
-          allowed = seen.1;
+        opened = record {
+          live = record { stands = lives.stands; lasts = omega (arith, is, ltb-true n e.deadline seen.0) };
+          open_to = record {
+            scope = i.scope;
+            stored = list_any-contains e.scopes i.scope place.1;
+            requested = i.requested;
+            supported = list_any-contains o.site.scopes i.scope i.supported;
+            allowed = seen.1;
+          };
         };
         covered = place.0;
       }
 
-  answers-seen : (e : Entry) → Answers opening site h m asker query e → SeenIn listing (rules opening h) site n asker query.scopes e
+  answers-seen : (e : Entry) → Matches (IsOpenNow o h m asker query.scopes) query e → SeenIn listing (rules o.rules h) o.site n asker query.scopes e
   answers-seen e a =
-      let s = a.open_to.scope in
-      let in_site = contains-list_any site.scopes s a.open_to.supported in
-      let l = listing-of s a.open_to.requested in_site in
-      let got = (are (pair_of e) e).1 (refl, record { stands = a.live.stands; lasts = omega (arith, a.live.lasts) }) in
-      let place : is_at_place s (Some query.kind) e ≡ true = ap₂ ◌&&◌ a.covered (contains-list_any e.scopes s a.open_to.stored) in
+      let s = a.opened.open_to.scope in
+      let in_site = contains-list_any o.site.scopes s a.opened.open_to.supported in
+      let l = listing-of s a.opened.open_to.requested in_site in
+      let got = (are (pair_of e) e).1 (refl, record { stands = a.opened.live.stands; lasts = omega (arith, a.opened.live.lasts) }) in
+      let place : is_at_place s (Some query.kind) e ≡ true = ap₂ ◌&&◌ a.covered (contains-list_any e.scopes s a.opened.open_to.stored) in
       record {
         scope = s;
-        requested = a.open_to.requested;
+        requested = a.opened.open_to.requested;
         supported = in_site;
         listed = find-contains (is_of (pair_of e)) (listing s) e (l.each (pair_of e) ∙ some-kept (is_at_place s (Some query.kind)) (fin.get live (pair_of e)) e got place);
-        seen = ap₂ ◌&&◌ (lt-ltb n e.deadline (omega (arith, is, a.live.lasts))) a.open_to.allowed;
+        seen = ap₂ ◌&&◌ (lt-ltb n e.deadline (omega (arith, is, a.opened.live.lasts))) a.opened.open_to.allowed;
       }
 
--- ---- the items of what was found
+-- ---- the items of what is seen
 
-url_total : IsTotalOrder url_cmp
-url_total = on_total (λ (k : Bor (List ℕ)). k.now) nat_list_cmp_total
+-- each stands at its URL
+in_place : (ps : List Dated) → IsAscending (urls_of ps) → All (λ p. latest_in p.0 ps ≡ Some p.1) ps
+in_place [] a = All-nil (λ (p : Dated). latest_in p.0 [] ≡ Some p.1)
+in_place (p ∷ ps) a =
+    All-cons (λ q. latest_in q.0 (p ∷ ps) ≡ Some q.1) p ps (ap (λ b. cond b (Some p.1) (latest_in p.0 ps)) (is_same-itself p.0))
+    (λ k d h.
+    let q : Dated = get_or ps k d in
+    ap (λ o. cond (is_eq o) (Some p.1) (latest_in q.0 ps)) (reversed p.0 q.0 Less (behind p ps a.0 k d h)) ∙ in_place ps a.1 k d h)
+  where
+    behind : (p : Dated) (ps : List Dated) → AllByRecursion (λ u. bytes_cmp p.0 u ≡ Less) (urls_of ps) → All (λ q. bytes_cmp p.0 q.0 ≡ Less) ps
+    behind p [] h = All-nil (λ (q : Dated). bytes_cmp p.0 q.0 ≡ Less)
+    behind p (q ∷ ps) h = All-cons (λ q. bytes_cmp p.0 q.0 ≡ Less) q ps h.0 (behind p ps h.1)
 
-abbrev urls : ℕ → List (Bor (List ℕ) × ℕ) → List (List ℕ)
-urls n es = map (λ (i : UrlEntry). i.url) (map (item_at n) es)
+shown_urls : (n : ℕ) (ps : List Dated) → urls_of ps ≡ map (λ (i : UrlEntry). i.url) (map (item_at n) ps)
+shown_urls n [] = refl
+shown_urls n (p ∷ ps) = ap (λ us. p.0 ∷ us) (shown_urls n ps)
 
-ascending-head : (n : ℕ) (k : Bor (List ℕ)) (es : List (Bor (List ℕ) × ℕ)) → AllByRecursion (λ y. url_cmp k y ≡ Less) (keys_of es) → AllByRecursion (λ j. bytes_cmp k.now j ≡ Less) (urls n es)
-ascending-head n k [] h = tt
-ascending-head n k (e ∷ es) h = (h.0, ascending-head n k es h.1)
+module _ (P : Entry → Type 0) (n : ℕ) (es : List Entry) (sound : (e : Entry) → Contains es e → P e) (complete : (e : Entry) → P e → Contains es e) (short : (e : Entry) → P e → e.deadline ≤ n + 65535) where
+  abbrev all : List Dated
+  all = joined es []
 
-ascending-urls : (n : ℕ) (es : List (Bor (List ℕ) × ℕ)) → IsStrictlySortedBy url_cmp (keys_of es) → IsAscending (urls n es)
-ascending-urls n [] h = tt
-ascending-urls n (e ∷ es) h = (ascending-head n e.0 es (sorted_head url_cmp e.0 (keys_of es) h), ascending-urls n es (sorted_tail url_cmp e.0 (keys_of es) h))
+  at : (u : List ℕ) → latest_in u all ≡ latest u es None
+  at u = latest-joined u es [] tt
 
-is_eq-true : (o : Ordering) → is_eq o ≡ true → o ≡ Equal
-is_eq-true Less h = cc
-is_eq-true Equal h = refl
-is_eq-true Greater h = cc
-
-module _ (P : Entry → Type 0) (n : ℕ) (m : Found) (es : List Entry) (ordered : tree.IsOrdered url_cmp m) (at : (u : List ℕ) → found_at m u ≡ latest u es None)
-    (sound : (e : Entry) → Contains es e → P e) (complete : (e : Entry) → P e → Contains es e) (short : (e : Entry) → P e → e.deadline ≤ n + 65535) where
-  item-from : (p : Bor (List ℕ) × ℕ) → found_at m p.0.now ≡ Some p.1 → IsItem P n (item_at n p)
+  item-from : (p : Dated) → latest_in p.0 all ≡ Some p.1 → IsItem P n (item_at n p)
   item-from p is =
-      let u = p.0.now in
-      let last : latest u es None ≡ Some p.1 = sym (at u) ∙ is in
-      let greatest = (latest-ge u es None p.1 last).1 in
-      elim (latest-from u es None p.1 last) [
+      let last : latest p.0 es None ≡ Some p.1 = sym (at p.0) ∙ is in
+      let greatest = (latest-ge p.0 es None p.1 last).1 in
+      elim (latest-from p.0 es None p.1 last) [
         | inl none ↦ absurd (none-some p.1 none)
         | inr f ↦
             let within = short f.0 (sound f.0 f.1) in
@@ -249,51 +252,45 @@ module _ (P : Entry → Type 0) (n : ℕ) (m : Found) (es : List Entry) (ordered
               url = f.2;
               lifetime = omega (arith, f.3, within);
               greatest = λ e holds same.
-                  let le : e.deadline ≤ p.1 = All-contains (λ (x : Entry). x.url ≡ u → x.deadline ≤ p.1) es e greatest (complete e holds) same in
+                  let le : e.deadline ≤ p.1 = All-contains (λ (x : Entry). x.url ≡ p.0 → x.deadline ≤ p.1) es e greatest (complete e holds) same in
                   omega (arith, f.3);
             }
       ]
 
-  each-item : All (λ p. IsItem P n (item_at n p)) m.entries
-  each-item k d h =
-      let p : Bor (List ℕ) × ℕ = get_or m.entries k d in
-      item-from p (btree_map_get_place url_total m k p.0 p.1 ordered (slice_get-get_or m.entries k d h))
-
-  has-item : (e : Entry) → P e → Contains (urls n m.entries) e.url
+  has-item : (e : Entry) → P e → Contains (map (λ (i : UrlEntry). i.url) (map (item_at n) all)) e.url
   has-item e holds =
       let some = latest-some es None e (complete e holds) in
-      let place = place_from_lookup (tree.is_at (λ (k : Bor (List ℕ)). bytes_cmp e.url k.now)) m.entries some.0 (at e.url ∙ some.1) in
-      let same : e.url ≡ place.1.now = bytes_same e.url place.1.now (sym (is_eq-slice_cmp e.url place.1.now) ∙ place.3) in
-      let entry : Bor (List ℕ) × ℕ = (place.1, some.0) in
-      subst (Contains (urls n m.entries)) (sym same)
-      (Contains-map (λ (i : UrlEntry). i.url) (map (item_at n) m.entries) place.0 (item_at n entry) (slice_get-map (item_at n) m.entries place.0 ∙ ap (option_map (item_at n)) place.2))
+      let place = place_from_lookup (is_at (bytes_cmp e.url)) all some.0 (at e.url ∙ some.1) in
+      let entry : Dated = (place.1, some.0) in
+      subst (Contains (map (λ (i : UrlEntry). i.url) (map (item_at n) all))) (sym (is_same e.url place.1 place.3))
+      (Contains-map (λ (i : UrlEntry). i.url) (map (item_at n) all) place.0 (item_at n entry) (slice_get-map (item_at n) all place.0 ∙ ap (option_map (item_at n)) place.2))
 
-  pub items-are : AreItems P n (map (item_at n) m.entries)
-  items-are = record {
-    ordered = ascending-urls n m.entries ordered;
-    each = λ i has. All-contains (IsItem P n) (map (item_at n) m.entries) i (All-map (IsItem P n) (item_at n) m.entries each-item) has;
-    all = has-item;
-  }
+  items-are : AreItems P n (map (item_at n) all)
+  items-are =
+      let ascends : IsAscending (urls_of all) = ascending-joined es [] tt in record {
+        ordered = subst IsAscending (shown_urls n all) ascends;
+        each = λ i has. All-contains (IsItem P n) (map (item_at n) all) i
+            (All-map (IsItem P n) (item_at n) all (λ k d h. item-from (get_or all k d) (in_place all ascends k d h))) has;
+        all = has-item;
+      }
 
 -- ---- the answer
 
-pub nothing-found : (found : Found) (u : List ℕ) → found.entries ≡ [] → found_at found u ≡ None
-nothing-found found u empty = ap (lookup (tree.is_at (λ (k : Bor (List ℕ)). bytes_cmp u k.now))) empty
-
-pub services-are : (opening : List Rule) (h : History) (s : State) (m asker n : ℕ) (query : ServiceQuery) (listing : List ℕ → List Entry) (found : Found)
-    → Fold opening s.site h s → IsLegal opening s.site h → n ≡ max m s.clock → tree.IsOrdered url_cmp found → AreListings listing s.site query s.entries
-    → ((u : List ℕ) → found_at found u ≡ latest u (all_seen listing s.rules s.site n asker query.scopes) None)
-    → AreServices opening s.site h m asker query (map (item_at n) found.entries)
-services-are opening h s m asker n query listing found fold legal is ordered listings at =
-    let P = Answers opening s.site h m asker query in
+pub services-are : (o : Opening) (h : History) (s : State) (m asker n : ℕ) (query : ServiceQuery) (listing : List ℕ → List Entry)
+    → Fold o h s → IsLegal o h → n ≡ max m s.clock → AreListings listing s.site query s.entries
+    → AreServices o h m asker query (map (item_at n) (joined (all_seen listing s.rules s.site n asker query.scopes) []))
+services-are o h s m asker n query listing fold legal is listings =
+    let P = Matches (IsOpenNow o h m asker query.scopes) query in
     let same : n ≡ now h m = is ∙ ap (max m) fold.clocks in
-    let es = all_seen listing (rules opening h) s.site n asker query.scopes in
-    let each : (u : List ℕ) → found_at found u ≡ latest u es None = λ u. at u ∙ ap (λ rs. latest u (all_seen listing rs s.site n asker query.scopes) None) fold.ruled in
-    subst (λ t. AreItems P t (map (item_at n) found.entries)) same
-    (items-are P n found es ordered each
-    (λ e has. seen-answers opening s.site h m asker query listing s.entries n same fold.entries listings e
-    (All-contains (SeenIn listing (rules opening h) s.site n asker query.scopes) es e (all_seen-from listing (rules opening h) s.site n asker query.scopes) has))
-    (λ e holds. all_seen-has listing (rules opening h) s.site n asker e query.scopes (answers-seen opening s.site h m asker query listing s.entries n same fold.entries listings e holds))
+    let es = all_seen listing (rules o.rules h) o.site n asker query.scopes in
+    let there : AreListings listing o.site query s.entries = subst (λ (x : Place). AreListings listing x query s.entries) fold.placed listings in
+    subst (λ rs. AreServices o h m asker query (map (item_at n) (joined (all_seen listing rs s.site n asker query.scopes) []))) (sym fold.ruled)
+    (subst (λ (x : Place). AreServices o h m asker query (map (item_at n) (joined (all_seen listing (rules o.rules h) x n asker query.scopes) []))) (sym fold.placed)
+    (subst (λ t. AreItems P t (map (item_at n) (joined es []))) same
+    (items-are P n es
+    (λ e has. seen-answers o h m asker query listing s.entries n same fold.entries there e
+    (All-contains (SeenIn listing (rules o.rules h) o.site n asker query.scopes) es e (all_seen-from listing (rules o.rules h) o.site n asker query.scopes) has))
+    (λ e holds. all_seen-has listing (rules o.rules h) o.site n asker e query.scopes (answers-seen o h m asker query listing s.entries n same fold.entries there e holds))
     (λ e holds.
-    let k = last-deadline opening s.site h (pair_of e) e.deadline legal holds.live.stands.deadline in
-    omega (arith, same, k)))
+    let k = last-deadline o h (pair_of e) e.deadline legal holds.opened.live.stands.deadline in
+    omega (arith, same, k)))))

@@ -8,14 +8,13 @@ use borrow.Author.Tests.{ltb-true, lt-ltb}
 use Rattle.std.specs.Cmp.{eq_by_cmp_equiv}
 use Rattle.std.specs.FinMap as fin
 use Rattle.slp_text.specs.Words.{bytes_eq, texts_eq}
-use Rattle.access_rules.specs.declared.rule.Rule.{Rule}
 use Rattle.registry_core.specs.declared.entry.Entry.{Entry}
 use Rattle.registry_core.specs.Entries.{Pair, Entries, pair_cmp, pair_of, pair_eq, outlives, passing}
 use Rattle.registry_core.proofs.Lists.{pair_total, pair_exact, cmp-pair_eq, pair_eq-true, pair_eq-same, get-passing}
+use Rattle.directory_answers.specs.Calls.{Opening}
 use Rattle.directory_judge.specs.History.{Putting, Withdrawing, Act, Put, Set, Remove, Withdraw, Sweep, Reload, Event, History, clock, now, last_that}
 use Rattle.directory_judge.specs.Making.{Content, Stores, Edits, Withdraws, Sweeps, Reloads}
 use Rattle.directory_judge.specs.Meaning.{only, put_of, withdraws, deadline_of, rules_of, since_put, unless_withdrawn, founding, Stands, Live, AreLive}
-use Rattle.directory_judge.specs.Sites.{Place}
 use Rattle.directory_state.specs.Folding.{Fold, IsEditOf, StandsFor}
 use Rattle.directory_state.specs.State.{State, is_full_for, is_withdrawn, stored, edited, made}
 pub use Rattle.directory_judge.proofs.Maps.{kept-some, some-kept}
@@ -186,18 +185,18 @@ stored-room capacity e m room =
       | false ↦ λ t. refl
     ] refl
 
-Fold-put : (opening : List Rule) (site : Place) (h : History) (moment : ℕ) (p : Putting) (n : Entry) (s : State)
-    → Fold opening site h s → clock h ≤ moment → IsPossible site.capacity h (record { moment = moment; act = Put p })
+Fold-put : (o : Opening) (h : History) (moment : ℕ) (p : Putting) (n : Entry) (s : State)
+    → Fold o h s → clock h ≤ moment → IsPossible o.site.capacity h (record { moment = moment; act = Put p })
     → pair_of n ≡ (p.url, p.language) → Stands (record { moment = moment; act = Put p } ∷ h) n
-    → Fold opening site (record { moment = moment; act = Put p } ∷ h) (made (Stores moment n) s)
-Fold-put opening site h moment p n s fold le possible pair stands =
+    → Fold o (record { moment = moment; act = Put p } ∷ h) (made (Stores moment n) s)
+Fold-put o h moment p n s fold le possible pair stands =
     let c : Event = record { moment = moment; act = Put p } in
     let swept = passing (outlives moment) s.entries in
     let live : AreLive h moment swept = AreLive-swept h moment s.entries le fold.entries in
     let space = possible.1 in
     let same : space.0 ≡ swept = AreLive-unique h moment space.0 swept space.1 live in
     let room : IsTrue (is_some (fin.get swept (pair_of n))) ⊎ (fin.len swept < s.site.capacity) =
-    rw fold.placed (rw pair (subst (λ (m : Entries). IsTrue (is_some (fin.get m (p.url, p.language))) ⊎ (fin.len m < site.capacity)) same space.2)) in
+    rw fold.placed (rw pair (subst (λ (m : Entries). IsTrue (is_some (fin.get m (p.url, p.language))) ⊎ (fin.len m < o.site.capacity)) same space.2)) in
     let set : AreLive (c ∷ h) 0 (fin.insert swept (pair_of n) n) =
     AreLive-set c h n le (λ q other. Silent-put moment p q (subst (λ (x : Pair). pair_eq x q ≡ false) pair other)) (Live-put moment p h n le pair possible.0 stands) swept live in
     record {
@@ -274,9 +273,9 @@ not_true : (b : Bool) → not b ≡ true → b ≡ false
 not_true true h = sym h
 not_true false h = refl
 
-Fold-withdraw : (opening : List Rule) (site : Place) (h : History) (moment : ℕ) (w : Withdrawing) (s : State)
-    → Fold opening site h s → clock h ≤ moment → Fold opening site (record { moment = moment; act = Withdraw w } ∷ h) (made (Withdraws moment w) s)
-Fold-withdraw opening site h moment w s fold le =
+Fold-withdraw : (o : Opening) (h : History) (moment : ℕ) (w : Withdrawing) (s : State)
+    → Fold o h s → clock h ≤ moment → Fold o (record { moment = moment; act = Withdraw w } ∷ h) (made (Withdraws moment w) s)
+Fold-withdraw o h moment w s fold le =
     let swept = passing (outlives moment) s.entries in
     let live : AreLive h moment swept = AreLive-swept h moment s.entries le fold.entries in
     let removed = get-passing (λ x. not (is_withdrawn w x)) swept in
@@ -340,20 +339,20 @@ quiet_edit moment (Reload rs) r of = absurd of
 edited-there : (e x : Entry) (m : Entries) → fin.get m (pair_of e) ≡ Some x → edited e m ≡ fin.insert m (pair_of e) e
 edited-there e x m is = ap (λ o. cond (is_some o) (fin.insert m (pair_of e) e) m) is
 
-Fold-edit : (opening : List Rule) (site : Place) (h : History) (moment : ℕ) (a : Act) (n : Entry) (s : State)
-    → Fold opening site h s → clock h ≤ moment → IsPossible site.capacity h (record { moment = moment; act = a }) → IsEditOf (pair_of n) a
-    → Stands (record { moment = moment; act = a } ∷ h) n → Fold opening site (record { moment = moment; act = a } ∷ h) (made (Edits moment n) s)
-Fold-edit opening site h moment a n s fold le possible of stands =
+Fold-edit : (o : Opening) (h : History) (moment : ℕ) (a : Act) (n : Entry) (s : State)
+    → Fold o h s → clock h ≤ moment → IsPossible o.site.capacity h (record { moment = moment; act = a }) → IsEditOf (pair_of n) a
+    → Stands (record { moment = moment; act = a } ∷ h) n → Fold o (record { moment = moment; act = a } ∷ h) (made (Edits moment n) s)
+Fold-edit o h moment a n s fold le possible of stands =
     let c : Event = record { moment = moment; act = a } in
     let swept = passing (outlives moment) s.entries in
     let live : AreLive h moment swept = AreLive-swept h moment s.entries le fold.entries in
-    let held = Held-edit site.capacity h moment a (pair_of n) of possible in
+    let held = Held-edit o.site.capacity h moment a (pair_of n) of possible in
     let there : fin.get swept (pair_of n) ≡ Some held.0 = (live (pair_of n) held.0).1 (held.1, held.2) in
     let set : AreLive (c ∷ h) 0 (fin.insert swept (pair_of n) n) =
-    AreLive-set c h n le (λ q other. Silent-edit moment a (pair_of n) q of other) (Live-edit site.capacity h moment a n le of possible stands) swept live in
+    AreLive-set c h n le (λ q other. Silent-edit moment a (pair_of n) q of other) (Live-edit o.site.capacity h moment a n le of possible stands) swept live in
     record {
       entries = subst (AreLive (c ∷ h) 0) (sym (edited-there n held.0 swept there)) set;
-      ruled = fold.ruled ∙ ap (λ o. unwrap_or (option_or o (last_that rules_of h)) opening) (sym (quiet_edit moment a (pair_of n) of));
+      ruled = fold.ruled ∙ ap (λ x. unwrap_or (option_or x (last_that rules_of h)) o.rules) (sym (quiet_edit moment a (pair_of n) of));
       placed = fold.placed;
       clocks = ap (max moment) fold.clocks;
     }
@@ -361,25 +360,25 @@ Fold-edit opening site h moment a n s fold le possible of stands =
 -- ---- every change
 
 -- the state that a change makes of the state of a history is that of the history with the event
-pub Fold-made : (opening : List Rule) (site : Place) (h : History) (x : Content) (c : Event) (s : State)
-    → Fold opening site h s → clock h ≤ c.moment → IsPossible site.capacity h c → StandsFor h x c → Fold opening site (c ∷ h) (made x s)
-Fold-made opening site h (Stores moment e) c s fold le possible stands =
+pub Fold-made : (o : Opening) (h : History) (x : Content) (c : Event) (s : State)
+    → Fold o h s → clock h ≤ c.moment → IsPossible o.site.capacity h c → StandsFor h x c → Fold o (c ∷ h) (made x s)
+Fold-made o h (Stores moment e) c s fold le possible stands =
     let same : c ≡ record { moment = moment; act = Put stands.1 } = λ i. record { moment = stands.0 i; act = stands.2 i } in
-    subst (λ (x : Event). Fold opening site (x ∷ h) (made (Stores moment e) s)) (sym same)
-    (Fold-put opening site h moment stands.1 e s fold (subst (λ (x : Event). clock h ≤ x.moment) same le) (subst (IsPossible site.capacity h) same possible)
+    subst (λ (x : Event). Fold o (x ∷ h) (made (Stores moment e) s)) (sym same)
+    (Fold-put o h moment stands.1 e s fold (subst (λ (x : Event). clock h ≤ x.moment) same le) (subst (IsPossible o.site.capacity h) same possible)
     stands.3 (subst (λ (x : Event). Stands (x ∷ h) e) same stands.4))
-Fold-made opening site h (Edits moment e) c s fold le possible stands =
+Fold-made o h (Edits moment e) c s fold le possible stands =
     let same : c ≡ record { moment = moment; act = c.act } = λ i. record { moment = stands.0 i; act = c.act } in
-    subst (λ (x : Event). Fold opening site (x ∷ h) (made (Edits moment e) s)) (sym same)
-    (Fold-edit opening site h moment c.act e s fold (subst (λ (x : Event). clock h ≤ x.moment) same le) (subst (IsPossible site.capacity h) same possible) stands.1 (subst (λ (x : Event). Stands (x ∷ h) e) same stands.2))
-Fold-made opening site h (Withdraws moment w) c s fold le possible stands =
+    subst (λ (x : Event). Fold o (x ∷ h) (made (Edits moment e) s)) (sym same)
+    (Fold-edit o h moment c.act e s fold (subst (λ (x : Event). clock h ≤ x.moment) same le) (subst (IsPossible o.site.capacity h) same possible) stands.1 (subst (λ (x : Event). Stands (x ∷ h) e) same stands.2))
+Fold-made o h (Withdraws moment w) c s fold le possible stands =
     let same : c ≡ record { moment = moment; act = Withdraw w } = λ i. record { moment = stands.0 i; act = stands.1 i } in
-    subst (λ (x : Event). Fold opening site (x ∷ h) (made (Withdraws moment w) s)) (sym same)
-    (Fold-withdraw opening site h moment w s fold (subst (λ (x : Event). clock h ≤ x.moment) same le))
-Fold-made opening site h (Sweeps moment) c s fold le possible stands =
+    subst (λ (x : Event). Fold o (x ∷ h) (made (Withdraws moment w) s)) (sym same)
+    (Fold-withdraw o h moment w s fold (subst (λ (x : Event). clock h ≤ x.moment) same le))
+Fold-made o h (Sweeps moment) c s fold le possible stands =
     let same : c ≡ record { moment = moment; act = Sweep } = λ i. record { moment = stands.0 i; act = stands.1 i } in
     let later : clock h ≤ moment = subst (λ (x : Event). clock h ≤ x.moment) same le in
-    subst (λ (x : Event). Fold opening site (x ∷ h) (made (Sweeps moment) s)) (sym same)
+    subst (λ (x : Event). Fold o (x ∷ h) (made (Sweeps moment) s)) (sym same)
     (record {
       entries = AreLive-quiet (record { moment = moment; act = Sweep }) h (passing (outlives moment) s.entries) later
           (λ q. record { put = refl; withdrawn = λ p. refl; deadline = refl }) (AreLive-swept h moment s.entries later fold.entries);
@@ -387,10 +386,10 @@ Fold-made opening site h (Sweeps moment) c s fold le possible stands =
       placed = fold.placed;
       clocks = ap (max moment) fold.clocks;
     })
-Fold-made opening site h (Reloads moment rs) c s fold le possible stands =
+Fold-made o h (Reloads moment rs) c s fold le possible stands =
     let same : c ≡ record { moment = moment; act = Reload rs } = λ i. record { moment = stands.0 i; act = stands.1 i } in
     let later : clock h ≤ moment = subst (λ (x : Event). clock h ≤ x.moment) same le in
-    subst (λ (x : Event). Fold opening site (x ∷ h) (made (Reloads moment rs) s)) (sym same)
+    subst (λ (x : Event). Fold o (x ∷ h) (made (Reloads moment rs) s)) (sym same)
     (record {
       entries = AreLive-quiet (record { moment = moment; act = Reload rs }) h (passing (outlives moment) s.entries) later
           (λ q. record { put = refl; withdrawn = λ p. refl; deadline = refl }) (AreLive-swept h moment s.entries later fold.entries);

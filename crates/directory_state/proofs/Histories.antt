@@ -2,34 +2,32 @@
 use Rattle.std.proofs.Common.{◌≡◌, ℕ, ◌<◌, ◌≤◌, List, [], ◌∷◌, Some, refl, sym, ap, subst, ◌∙◌, arith, inl, inr}
 use Rattle.std.specs.Prelude.{◌↔◌}
 use Rattle.std.specs.FinMap as fin
-use Rattle.access_rules.specs.declared.rule.Rule.{Rule}
 use Rattle.registry_core.specs.Entries.{Pair, Entries, pair_of}
 use Rattle.registry_core.specs.declared.entry.Entry.{Entry}
 use Rattle.slp_messages.specs.Messages.{IsMessage}
 use Rattle.slp_messages.specs.declared.message.Message.{Message}
 use Rattle.slp_messages.specs.declared.message.UrlEntry.{UrlEntry}
+use Rattle.directory_answers.specs.Calls.{Opening}
 use Rattle.directory_judge.specs.History.{History, Act, Event, Sweep, clock, now}
 use Rattle.directory_judge.specs.Judging.{Judgement, Accepts, Ignores, Waits, Denies, judgement}
 use Rattle.directory_judge.specs.Making.{Content}
 use Rattle.directory_judge.specs.Meaning.{AreLive, Live, rules}
-use Rattle.directory_judge.specs.Sites.{Place}
-use Rattle.directory_state.specs.declared.query.ServiceQuery.{ServiceQuery}
-use Rattle.directory_state.specs.Asking.{Answers, AreItems, AreServices}
+use Rattle.directory_answers.specs.Asking.{AreItems}
 use Rattle.directory_state.specs.Folding.{Fold, StandFor}
 use Rattle.directory_state.specs.State.{State, after}
-use Rattle.directory_state.specs.Verdicts.{IsAccepted, IsGrounded, IsLegal, IsVerdict, grounds, next}
+use Rattle.directory_answers.specs.Verdicts.{IsAccepted, IsGrounded, IsLegal, IsVerdict, grounds, change_in, followed}
 use Rattle.directory_state.proofs.Accepting.{possible, accepted}
 use Rattle.directory_state.proofs.Folding.{AreLive-nil, AreLive-unique, Fold-made, Silent, Stands-before, Stands-after}
 
-pub Fold-after : (opening : List Rule) (site : Place) (h : History) (xs : List Content) → IsLegal opening site h → StandFor h xs → Fold opening site h (after opening site xs)
-Fold-after opening site [] [] legal stand = record { entries = AreLive-nil; ruled = refl; placed = refl; clocks = refl }
-Fold-after opening site (c ∷ h) (x ∷ xs) legal stand =
-    Fold-made opening site h x c (after opening site xs) (Fold-after opening site h xs legal.2 stand.1) legal.0 (possible opening site h c.moment c.act legal.1) stand.0
-Fold-after opening site [] (x ∷ xs) legal stand = absurd stand
-Fold-after opening site (c ∷ h) [] legal stand = absurd stand
+pub Fold-after : (o : Opening) (h : History) (xs : List Content) → IsLegal o h → StandFor h xs → Fold o h (after o xs)
+Fold-after o [] [] legal stand = record { entries = AreLive-nil; ruled = refl; placed = refl; clocks = refl }
+Fold-after o (c ∷ h) (x ∷ xs) legal stand =
+    Fold-made o h x c (after o xs) (Fold-after o h xs legal.2 stand.1) legal.0 (possible o h c.moment c.act legal.1) stand.0
+Fold-after o [] (x ∷ xs) legal stand = absurd stand
+Fold-after o (c ∷ h) [] legal stand = absurd stand
 
-pub at_pair : (opening : List Rule) (site : Place) (h : History) (s : State) (q : Pair) (e : Entry) → Fold opening site h s → fin.get s.entries q ≡ Some e → (pair_of e ≡ q) × (clock h < e.deadline)
-at_pair opening site h s q e fold there = let l = (fold.entries q e).0 there in (l.0, omega (arith, l.1.lasts))
+pub at_pair : (o : Opening) (h : History) (s : State) (q : Pair) (e : Entry) → Fold o h s → fin.get s.entries q ≡ Some e → (pair_of e ≡ q) × (clock h < e.deadline)
+at_pair o h s q e fold there = let l = (fold.entries q e).0 there in (l.0, omega (arith, l.1.lasts))
 
 pub Live-sweep : (h : History) (s m : ℕ) (e : Entry) → s ≤ m → Live (record { moment = s; act = Sweep } ∷ h) m e ↔ Live h m e
 Live-sweep h s m e le =
@@ -38,30 +36,30 @@ Live-sweep h s m e le =
       (λ l. record { stands = Stands-after (record { moment = s; act = Sweep }) h e silent l.stands; lasts = omega (arith, l.lasts) }),
     )
 
-pub one_verdict : (opening : List Rule) (site : Place) (h : History) (m asker : ℕ) (sent : Message) (v w : Judgement) → IsVerdict opening site h m asker sent v → IsVerdict opening site h m asker sent w → v ≡ w
-one_verdict opening site h m asker sent v w a b =
-    a.is ∙ ap (λ live. judgement (grounds opening site h live m asker) sent) (AreLive-unique h m a.live b.live a.are_live b.are_live) ∙ sym b.is
+pub one_verdict : (o : Opening) (h : History) (m asker : ℕ) (sent : Message) (v w : Judgement) → IsVerdict o h m asker sent v → IsVerdict o h m asker sent w → v ≡ w
+one_verdict o h m asker sent v w a b =
+    a.is ∙ ap (λ live. judgement (grounds o h live m asker) sent) (AreLive-unique h m a.live b.live a.are_live b.are_live) ∙ sym b.is
 
 -- an event at the moment at which a call acts
-legal_after : (opening : List Rule) (site : Place) (h : History) (m : ℕ) (c : Event) (act : Act) → c ≡ record { moment = now h m; act = act } → IsLegal opening site h
-    → (IsAccepted opening site h (record { moment = now h m; act = act }) → IsGrounded opening site h (record { moment = now h m; act = act })) → IsAccepted opening site h c → IsLegal opening site (c ∷ h)
-legal_after opening site h m c act event legal grounded is =
+legal_after : (o : Opening) (h : History) (m : ℕ) (c : Event) (act : Act) → c ≡ record { moment = now h m; act = act } → IsLegal o h
+    → (IsAccepted o h (record { moment = now h m; act = act }) → IsGrounded o h (record { moment = now h m; act = act })) → IsAccepted o h c → IsLegal o (c ∷ h)
+legal_after o h m c act event legal grounded is =
     let at : c.moment ≡ now h m = ap (λ (x : Event). x.moment) event in (
       omega (arith, at),
-      subst (IsGrounded opening site h) (sym event) (grounded (subst (IsAccepted opening site h) event is)),
+      subst (IsGrounded o h) (sym event) (grounded (subst (IsAccepted o h) event is)),
       legal,
     )
 
-pub legal_next : (opening : List Rule) (site : Place) (h : History) (m asker : ℕ) (sent : Message) (v : Judgement) → IsLegal opening site h → IsMessage sent → IsVerdict opening site h m asker sent v → IsLegal opening site (next h v)
-legal_next opening site h m asker sent (Accepts c because) legal sound verdict =
-    let is : IsAccepted opening site h c = record { moment = m; asker = asker; sent = sent; sound = sound; because = because; verdict = verdict } in
-    elim (accepted (grounds opening site h verdict.live m asker) sent c because (sym verdict.is)) [
-      | inl by ↦ legal_after opening site h m c _ by.accepted.event legal (λ a. a) is
-      | inr by ↦ legal_after opening site h m c _ by.event legal (λ a. a) is
+pub legal_next : (o : Opening) (h : History) (m asker : ℕ) (sent : Message) (v : Judgement) → IsLegal o h → IsMessage sent → IsVerdict o h m asker sent v → IsLegal o (followed (change_in v) h)
+legal_next o h m asker sent (Accepts c because) legal sound verdict =
+    let is : IsAccepted o h c = record { moment = m; asker = asker; sent = sent; sound = sound; because = because; verdict = verdict } in
+    elim (accepted (grounds o h verdict.live m asker) sent c because (sym verdict.is)) [
+      | inl by ↦ legal_after o h m c _ by.accepted.event legal (λ a. a) is
+      | inr by ↦ legal_after o h m c _ by.event legal (λ a. a) is
     ]
-legal_next opening site h m asker sent Ignores legal sound verdict = legal
-legal_next opening site h m asker sent Waits legal sound verdict = legal
-legal_next opening site h m asker sent (Denies code because) legal sound verdict = legal
+legal_next o h m asker sent Ignores legal sound verdict = legal
+legal_next o h m asker sent Waits legal sound verdict = legal
+legal_next o h m asker sent (Denies code because) legal sound verdict = legal
 
 -- ---- a sweep
 
@@ -80,33 +78,23 @@ AreLive-sweep h s m live le = (
   )),
 )
 
-same_moment : (opening : List Rule) (site : Place) (h : History) (live : Entries) (n k asker : ℕ) (sent : Message) → n ≡ k
-    → judgement (record { rules = rules opening h; site = site; live = live; now = n; asker = asker }) sent ≡ judgement (record { rules = rules opening h; site = site; live = live; now = k; asker = asker }) sent
-same_moment opening site h live n k asker sent same = ap (λ t. judgement (record { rules = rules opening h; site = site; live = live; now = t; asker = asker }) sent) same
+same_moment : (o : Opening) (h : History) (live : Entries) (n k asker : ℕ) (sent : Message) → n ≡ k
+    → judgement (record { rules = rules o.rules h; site = o.site; live = live; now = n; asker = asker }) sent ≡ judgement (record { rules = rules o.rules h; site = o.site; live = live; now = k; asker = asker }) sent
+same_moment o h live n k asker sent same = ap (λ t. judgement (record { rules = rules o.rules h; site = o.site; live = live; now = t; asker = asker }) sent) same
 
-pub verdict-sweep : (opening : List Rule) (site : Place) (h : History) (s m asker : ℕ) (sent : Message) (v : Judgement) → s ≤ m
-    → IsVerdict opening site (record { moment = s; act = Sweep } ∷ h) m asker sent v ↔ IsVerdict opening site h m asker sent v
-verdict-sweep opening site h s m asker sent v le = (
-  (λ a. record { live = a.live; are_live = (AreLive-sweep h s m a.live le).0 a.are_live; is = a.is ∙ same_moment opening site h a.live _ _ asker sent (now-sweep h s m le) }),
-  (λ a. record { live = a.live; are_live = (AreLive-sweep h s m a.live le).1 a.are_live; is = a.is ∙ same_moment opening site h a.live _ _ asker sent (sym (now-sweep h s m le)) }),
+pub verdict-sweep : (o : Opening) (h : History) (s m asker : ℕ) (sent : Message) (v : Judgement) → s ≤ m
+    → IsVerdict o (record { moment = s; act = Sweep } ∷ h) m asker sent v ↔ IsVerdict o h m asker sent v
+verdict-sweep o h s m asker sent v le = (
+  (λ a. record { live = a.live; are_live = (AreLive-sweep h s m a.live le).0 a.are_live; is = a.is ∙ same_moment o h a.live _ _ asker sent (now-sweep h s m le) }),
+  (λ a. record { live = a.live; are_live = (AreLive-sweep h s m a.live le).1 a.are_live; is = a.is ∙ same_moment o h a.live _ _ asker sent (sym (now-sweep h s m le)) }),
 )
 
 -- items of the same entries at the same moment
-same_items : (P Q : Entry → Type 0) (n k : ℕ) (items : List UrlEntry) → ((e : Entry) → P e → Q e) → ((e : Entry) → Q e → P e) → n ≡ k → AreItems P n items → AreItems Q k items
-same_items P Q n k items to from same are = record {
+pub same_entries : (P Q : Entry → Type 0) (n k : ℕ) (items : List UrlEntry) → ((e : Entry) → P e → Q e) → ((e : Entry) → Q e → P e) → n ≡ k → AreItems P n items → AreItems Q k items
+same_entries P Q n k items to from same are = record {
   ordered = are.ordered;
   each = λ i has.
       let x = are.each i has in
       record { from = x.from; answers = to x.from x.answers; url = x.url; lifetime = omega (arith, x.lifetime, same); greatest = λ e q at. x.greatest e (from e q) at };
   all = λ e q. are.all e (from e q);
 }
-
-pub answer-sweep : (opening : List Rule) (site : Place) (h : History) (s m asker : ℕ) (q : ServiceQuery) (items : List UrlEntry) → s ≤ m
-    → AreServices opening site (record { moment = s; act = Sweep } ∷ h) m asker q items ↔ AreServices opening site h m asker q items
-answer-sweep opening site h s m asker q items le =
-    let swept : History = record { moment = s; act = Sweep } ∷ h in
-    let to : (e : Entry) → Answers opening site swept m asker q e → Answers opening site h m asker q e = λ e a. record { live = (Live-sweep h s m e le).0 a.live; open_to = a.open_to; covered = a.covered } in
-    let from : (e : Entry) → Answers opening site h m asker q e → Answers opening site swept m asker q e = λ e a. record { live = (Live-sweep h s m e le).1 a.live; open_to = a.open_to; covered = a.covered } in (
-      same_items (Answers opening site swept m asker q) (Answers opening site h m asker q) (now swept m) (now h m) items to from (now-sweep h s m le),
-      same_items (Answers opening site h m asker q) (Answers opening site swept m asker q) (now h m) (now swept m) items from to (sym (now-sweep h s m le)),
-    )

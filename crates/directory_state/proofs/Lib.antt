@@ -1,11 +1,16 @@
 pub mod Accepting
+pub mod Afters
 pub mod Asked
+pub mod Cutting
 pub mod Folding
-pub mod Found
 pub mod Founders
 pub mod Histories
+pub mod Joining
 pub mod Judged
+pub mod Keeping
 pub mod Lasting
 pub mod Rows
 pub mod SameAnswers
+pub mod Seen
 pub mod States
+pub mod Told

@@ -1,10 +1,10 @@
 -- What a change makes of any state.
-use Rattle.std.proofs.Common.{◌≡◌, ℕ, true, false, cond, Option, Some, None, Result, Ok, Err, List, refl, sym, ap, ap₂, ◌∙◌, eq-eqb}
+use Rattle.std.proofs.Common.{◌≡◌, ℕ, true, false, cond, Option, Some, None, Result, Ok, Err, refl, sym, ap, ap₂, ◌∙◌, eq-eqb}
 use Rattle.std.specs.Prelude.{◌↔◌, is_none, ◌==◌, OnOk, OnErr, IsErrOf, ◌&&◌}
 use Rattle.std.proofs.lemmas.Bool.{and_parts}
 use borrow.Author.Tests.{eqb-true}
 use Rattle.std.specs.FinMap as fin
-use Rattle.access_rules.specs.declared.rule.Rule.{Rule}
+use Rattle.access_rules.specs.Deciding.{SiteRules}
 use Rattle.registry_core.specs.declared.entry.Entry.{Entry}
 use Rattle.registry_core.specs.declared.registry.RegistryFault.{RegistryFault}
 use Rattle.registry_core.specs.declared.registry.RegistryFault.TheVariants.{Full}
@@ -40,5 +40,5 @@ stored-is (Err x) capacity e a b ok full only err =
     let k = full.0 only in
     err ∙ ap (λ t. cond t a (fin.insert a (pair_of e) e)) (sym (is_full-made capacity e a k.0 k.1))
 
-pub same_state : (s : State) (entries : Entries) (rules : List Rule) (site : Place) (clock : ℕ) → entries ≡ s.entries → rules ≡ s.rules → site ≡ s.site → clock ≡ s.clock → ◌≡◌ {A = State} (record { entries = entries; rules = rules; site = site; clock = clock }) s
+pub same_state : (s : State) (entries : Entries) (rules : SiteRules) (site : Place) (clock : ℕ) → entries ≡ s.entries → rules ≡ s.rules → site ≡ s.site → clock ≡ s.clock → ◌≡◌ {A = State} (record { entries = entries; rules = rules; site = site; clock = clock }) s
 same_state s entries rules site clock a b c d = λ i. record { entries = a i; rules = b i; site = c i; clock = d i }

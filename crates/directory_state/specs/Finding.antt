@@ -1,48 +1,95 @@
--- How what answers a question is found: at each URL the latest deadline of the entries that are seen.
-use Rattle.std.specs.Prelude.{ℕ, ◌-◌, Bool, ◌&&◌, max, min, unwrap_or, if◌then◌else◌, List, [], ◌∷◌, ◌++◌, filter, Option, Some}
+-- How what answers a question is found: each entry that is seen joins a list of URLs with their latest deadlines, which is cut to its room.
+use Rattle.std.specs.Prelude.{◌≡◌, ℕ, ◌+◌, ◌-◌, ◌≤◌, Bool, ◌&&◌, nat_le, max, min, if◌then◌else◌, List, [], ◌∷◌, ◌++◌, length, map, filter, Option, Some, None, IfSome}
 use Rattle.std.specs.Borrow.{Bor}
-use Rattle.std.specs.BTreeMap as tree
 use Rattle.std.specs.BTreeMap.{BTreeMap}
-use Rattle.std.specs.declared.cmp.Ordering.{Ordering}
-use Rattle.access_rules.specs.Deciding.{deciding}
+use Rattle.std.specs.Ordering.{match_ordering}
+use Rattle.access_rules.specs.Deciding.{SiteRules, deciding}
 use Rattle.access_rules.specs.declared.rule.Action.TheVariants.{See}
-use Rattle.access_rules.specs.declared.rule.Rule.{Rule}
 use Rattle.registry_core.specs.Entries.{outlives}
 use Rattle.registry_core.specs.declared.entry.Entry.{Entry}
-use Rattle.slp_text.specs.Words.{bytes_eq, bytes_cmp}
+use Rattle.slp_text.specs.Words.{bytes_cmp}
 use Rattle.slp_messages.specs.declared.message.UrlEntry.{UrlEntry}
 use Rattle.directory_judge.specs.Judging.{supports}
 use Rattle.directory_judge.specs.Sites.{Place}
+use Rattle.directory_state.specs.declared.finding.Kept.{Kept}
+use Rattle.directory_state.specs.declared.finding.Room.{Room}
 
--- latest deadlines by URL
-abbrev pub Found : Type 0
-Found = BTreeMap (Bor (List ℕ)) ℕ
+-- ---- what is seen
 
-abbrev pub url_cmp : Bor (List ℕ) → Bor (List ℕ) → Ordering
-url_cmp a b = bytes_cmp a.now b.now
+-- a URL, and the latest deadline of what was found of it
+abbrev pub Dated : Type 0
+Dated = List ℕ × ℕ
 
-abbrev pub found_at : Found → List ℕ → Option ℕ
-found_at m url = tree.get_by (λ k. bytes_cmp url k.now) m
+-- an entry of the URL is found: it stands in its place among the others, once and with the latest deadline
+abbrev pub join : List ℕ → ℕ → List Dated → List Dated
+join url deadline [] = (url, deadline) ∷ []
+join url deadline (p ∷ ps) = match_ordering (bytes_cmp url p.0) ((url, deadline) ∷ p ∷ ps) ((p.0, max p.1 deadline) ∷ ps) (p ∷ join url deadline ps)
 
--- a URL is found with one more deadline
-abbrev pub noted : List ℕ → ℕ → List ℕ → Option ℕ → Option ℕ
-noted at deadline url o = if bytes_eq at url then Some (max (unwrap_or o 0) deadline) else o
-
--- the latest deadline of a URL in the entries, and of what was found before
-abbrev pub latest : List ℕ → List Entry → Option ℕ → Option ℕ
-latest url [] o = o
-latest url (e ∷ es) o = latest url es (noted e.url e.deadline url o)
+-- entries are found one by one
+abbrev pub joined : List Entry → List Dated → List Dated
+joined [] ps = ps
+joined (e ∷ es) ps = joined es (join e.url e.deadline ps)
 
 -- the entry lives on, and the asker may see its type in the scope
-abbrev pub is_seen : List Rule → ℕ → ℕ → List ℕ → Entry → Bool
+abbrev pub is_seen : SiteRules → ℕ → ℕ → List ℕ → Entry → Bool
 is_seen rules now asker scope e = outlives now e && (deciding rules asker See e.kind scope).allow
 
 -- what is seen in those of the scopes that the site supports, where the listing says what stands in each
-abbrev pub all_seen : (List ℕ → List Entry) → List Rule → Place → ℕ → ℕ → List (List ℕ) → List Entry
+abbrev pub all_seen : (List ℕ → List Entry) → SiteRules → Place → ℕ → ℕ → List (List ℕ) → List Entry
 all_seen listing rules site now asker [] = []
 all_seen listing rules site now asker (s ∷ scopes) =
     (if supports site s then filter (is_seen rules now asker s) (listing s) else []) ++ all_seen listing rules site now asker scopes
 
 -- what is answered of a URL and its latest deadline
-abbrev pub item_at : ℕ → Bor (List ℕ) × ℕ → UrlEntry
-item_at now p = record { lifetime = min (p.1 - now) 65535; url = p.0.now }
+abbrev pub item_at : ℕ → Dated → UrlEntry
+item_at now p = record { lifetime = min (p.1 - now) 65535; url = p.0 }
+
+-- ---- what is kept of it
+
+-- the bytes that an item takes: they are counted where there is a bound
+abbrev pub cost_in : Option Room → List ℕ → ℕ
+cost_in None url = 0
+cost_in (Some room) url = room.each + length url
+
+-- the bytes that there are
+abbrev pub bytes_in : Option Room → ℕ
+bytes_in None = 0
+bytes_in (Some room) = room.bytes
+
+-- the bytes that items take
+abbrev pub size : (List ℕ → ℕ) → List Dated → ℕ
+size cost [] = 0
+size cost (p ∷ ps) = cost p.0 + size cost ps
+
+-- as many from the front as there is room for, and one more, where there is one
+abbrev pub cut : (List ℕ → ℕ) → ℕ → List Dated → List Dated
+cut cost left [] = []
+cut cost left (p ∷ ps) = if nat_le (cost p.0) left then p ∷ cut cost (left - cost p.0) ps else p ∷ []
+
+abbrev pub cut_in : Option Room → List Dated → List Dated
+cut_in room = cut (cost_in room) (bytes_in room)
+
+-- URLs that are lent
+abbrev pub Lent : Type 0
+Lent = List (Bor (List ℕ) × ℕ)
+
+abbrev pub plain : Lent → List Dated
+plain es = map (λ p. (p.0.now, p.1)) es
+
+-- what a map of them has
+abbrev pub dated : BTreeMap (Bor (List ℕ)) ℕ → List Dated
+dated m = plain m.entries
+
+-- what is kept is counted
+abbrev pub IsCounted : Kept → Type 0
+IsCounted k = k.used ≡ size (cost_in k.room) (dated k.latest)
+
+-- what an item takes beside its URL is little, so that the bytes of one item can be counted
+abbrev pub IsSmall : Option Room → Type 0
+IsSmall room = IfSome room (λ r. r.each ≤ 65535)
+
+-- what is kept is counted, and already cut
+pub record IsKept (k : Kept) : Type 0 where
+  pub counted : IsCounted k
+  pub small : IsSmall k.room
+  pub is_cut : cut_in k.room (dated k.latest) ≡ dated k.latest

@@ -1,18 +1,22 @@
 -- The state that a history leaves, and which changes stand for its events.
-use Rattle.std.specs.Prelude.{◌≡◌, List, [], ◌∷◌}
-use Rattle.access_rules.specs.declared.rule.Rule.{Rule}
+use Rattle.std.specs.Prelude.{◌≡◌, List, [], ◌∷◌, Option, Some, None}
 use Rattle.registry_core.specs.Entries.{Pair, pair_of}
+use Rattle.directory_answers.specs.Calls.{Opening}
 use Rattle.directory_judge.specs.History.{History, Event, Act, Putting, Put, Set, Remove, Withdraw, Sweep, Reload, clock}
-use Rattle.directory_judge.specs.Making.{Content, Stores, Edits, Withdraws, Sweeps, Reloads}
+use Rattle.directory_judge.specs.Judging.{Judgement, Accepts, Ignores, Waits, Denies}
+use Rattle.directory_judge.specs.Making.{Content, Stores, Edits, Withdraws, Sweeps, Reloads, content}
+use Rattle.directory_judge.specs.declared.change.Change.{Change}
+use Rattle.directory_judge.specs.declared.judged.Judged.{Judged}
+use Rattle.directory_judge.specs.declared.judged.Judged.TheVariants as judged
+use Rattle.directory_answers.specs.Verdicts.{IsLegal}
 use Rattle.directory_judge.specs.Meaning.{AreLive, Stands, rules}
-use Rattle.directory_judge.specs.Sites.{Place}
 use Rattle.directory_state.specs.State.{State}
 
 -- exactly the entries that are live, the rules of the last reload, and the greatest moment
-pub record Fold (opening : List Rule) (site : Place) (h : History) (s : State) : Type 0 where
+pub record Fold (o : Opening) (h : History) (s : State) : Type 0 where
   pub entries : AreLive h 0 s.entries
-  pub ruled : s.rules ≡ rules opening h
-  pub placed : s.site ≡ site
+  pub ruled : s.rules ≡ rules o.rules h
+  pub placed : s.site ≡ o.site
   pub clocks : s.clock ≡ clock h
 
 -- an update of the pair, of either kind
@@ -38,3 +42,15 @@ StandFor [] [] = Unit {0}
 StandFor (c ∷ h) (x ∷ xs) = StandsFor h x c × StandFor h xs
 StandFor [] (x ∷ xs) = ⊥
 StandFor (c ∷ h) [] = ⊥
+
+-- what was judged stands for the verdict: a change stands for the event that comes of the message
+abbrev pub IsJudgedAs : History → Judged → Judgement → Type 0
+IsJudgedAs h (judged.Accept change because) v = (c : Event) × (v ≡ Accepts c because) × StandsFor h (content change) c
+IsJudgedAs h judged.Nothing v = v ≡ Ignores
+IsJudgedAs h judged.Unjudged v = v ≡ Waits
+IsJudgedAs h (judged.Deny code because) v = v ≡ Denies code because
+
+-- what is handed out where a change is made: one that stands for it, and is legal; and none where none is
+abbrev pub HandsOut : Opening → History → Option Change → Option Event → Type 0
+HandsOut o h None change = change ≡ None
+HandsOut o h (Some c) change = (event : Event) × (change ≡ Some event) × StandsFor h (content c) event × IsLegal o (event ∷ h)

@@ -1,6 +1,5 @@
-pub mod Asking
 pub mod Finding
+pub mod Fitting
 pub mod Folding
 pub mod Founding
 pub mod State
-pub mod Verdicts

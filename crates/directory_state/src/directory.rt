@@ -1,27 +1,27 @@
-ghost use Rattle.std.specs.Prelude.{◌≡◌, ◌∷◌, [], max, List, IfOk, IfErr, IsErrOf, ◌↔◌, ◌⊎◌, false};
+ghost use Rattle.std.specs.Prelude.{◌≡◌, ◌∷◌, [], max, map, List, IfOk, IfErr, IsErrOf, ◌≤◌, ◌↔◌, ◌⊎◌, false};
 ghost use Rattle.std.specs.List.{list_any};
 ghost use Rattle.std.specs.Arc.{arc_value};
 ghost use Rattle.std.specs.FinMap as fin;
-ghost use Rattle.access_rules.specs.declared.rule.Rule.{Rule as AnyRule};
-ghost use Rattle.registry_core.specs.Entries.{outlives};
 ghost use Rattle.directory_judge.specs.History.{History, Event};
 ghost use Rattle.directory_judge.specs.Judging.{IsChange, Judgement, supports};
 ghost use Rattle.directory_judge.specs.Making.{content};
-ghost use Rattle.directory_judge.specs.Sites.{Place};
-ghost use Rattle.directory_state.specs.Asking.{AreServices};
+ghost use Rattle.directory_answers.specs.Calls.{Opening};
+ghost use Rattle.directory_answers.specs.Asking.{AreServices};
+ghost use Rattle.directory_state.specs.Finding.{Dated, item_at, dated, cut_in, IsSmall, IsKept};
+ghost use Rattle.directory_state.specs.Fitting.{IsFront, items_in, size_in};
 ghost use Rattle.directory_state.specs.Folding.{Fold, StandsFor};
 ghost use Rattle.directory_state.specs.State.{State, beginning, made};
-ghost use Rattle.directory_state.specs.Verdicts.{IsLegal, IsVerdict, IsJudgedAs};
+ghost use Rattle.directory_answers.specs.Verdicts.{IsLegal, IsVerdict};
+ghost use Rattle.directory_state.specs.Folding.{IsJudgedAs};
 
-use crate::asking::{gather, listed};
-use crate::query::{QueryFault, ServiceQuery};
+use crate::finding::{Found, Kept, Room, Search};
 use access_rules::{Addr, Rules};
+use directory_answers::{QueryFault, ServiceQuery};
 use directory_judge::{Change, Judged, Placed, Site, judge_on};
 use registry_core::Registry;
 use slp_messages::{Message, UrlEntry};
 use slp_text::NoMemory;
 use std::alloc::Global;
-use std::collections::BTreeMap;
 use std::marker::Model;
 use std::sync::Arc;
 
@@ -58,8 +58,8 @@ impl<R: Registry + Drop> Directory<R> {
     ) -> Result<Directory<R>, NoMemory>
         requires empty { R.contents registry ≡ fin.empty }
         requires capacity { R.limit registry ≡ site.now.capacity }
-        ensures state { IfOk result (λ d. d ≡ beginning (arc_value rules) site.now) }
-        ensures fold { IfOk result (λ d. Fold (arc_value rules) site.now [] d) }
+        ensures state { IfOk result (λ d. d ≡ beginning (record { rules = arc_value rules; site = site.now })) }
+        ensures fold { IfOk result (λ d. Fold (record { rules = arc_value rules; site = site.now }) [] d) }
     {
         let site = site.copy(alloc)?;
         Ok(Directory {
@@ -81,7 +81,8 @@ impl<R: Registry> Directory<R> {
 
     /// The entries.
     pub fn registry(&self) -> &R
-        ensures { R.contents result.now ≡ self.now.entries }
+        ensures entries { R.contents result.now ≡ self.now.entries }
+        ensures limit { R.limit result.now ≡ self.now.site.capacity }
     {
         &self.registry
     }
@@ -109,8 +110,8 @@ impl<R: Registry> Directory<R> {
         message: &Message,
     ) -> Result<Judged, NoMemory>
         requires { IsChange message.now }
-        ensures { (opening : List AnyRule) (h : History) → Fold opening self.now.site h self.now → IsLegal opening self.now.site h
-            → IfOk result (λ j. (v : Judgement) × IsVerdict opening self.now.site h moment asker message.now v × IsJudgedAs h j v) }
+        ensures { (o : Opening) (h : History) → Fold o h self.now → IsLegal o h
+            → IfOk result (λ j. (v : Judgement) × IsVerdict o h moment asker message.now v × IsJudgedAs h j v) }
     {
         judge_on(
             alloc,
@@ -126,8 +127,8 @@ impl<R: Registry> Directory<R> {
     /// Makes a change: what is dead at its moment is dropped, and the clock raised. It has no answer for want of memory.
     pub fn apply(&mut self, change: Change)
         ensures made { self.new ≡ made (content change) self.old }
-        ensures fold { (opening : List AnyRule) (h : History) (c : Event) → Fold opening self.old.site h self.old → IsLegal opening self.old.site (c ∷ h)
-            → StandsFor h (content change) c → Fold opening self.old.site (c ∷ h) self.new }
+        ensures fold { (o : Opening) (h : History) (c : Event) → Fold o h self.old → IsLegal o (c ∷ h)
+            → StandsFor h (content change) c → Fold o (c ∷ h) self.new }
     {
         match change {
             Change::Put(placed) => {
@@ -148,6 +149,32 @@ impl<R: Registry> Directory<R> {
         }
     }
 
+    // Finds what answers a question, and keeps of it what there is room for.
+    fn search(
+        &self,
+        alloc: Global,
+        moment: u32,
+        asker: Addr,
+        query: &ServiceQuery,
+        room: Option<Room>,
+    ) -> Result<Kept<'_>, QueryFault>
+        requires { IsSmall room }
+        ensures scope { IsErrOf result QueryFault.Scope ↔ (list_any (supports self.now.site) query.now.scopes ≡ false) }
+        ensures faults { IfErr result (λ e. (e ≡ QueryFault.Scope) ⊎ (e ≡ QueryFault.NoMemory)) }
+        ensures kept { IfOk result (λ kept. IsKept kept × (kept.room ≡ room)) }
+        ensures items { (o : Opening) (h : History) → Fold o h self.now → IsLegal o h
+            → IfOk result (λ kept. (all : List Dated) × AreServices o h moment asker query.now (map (item_at (max moment self.now.clock)) all) × (dated kept.latest ≡ cut_in room all)) }
+    {
+        let search = Search {
+            query,
+            asker,
+            moment: u64::from(self.now(moment)),
+            rules: &self.rules,
+            site: &self.site,
+        };
+        Kept::search(alloc, &self.registry, &search, room)
+    }
+
     /// The URLs of the live entries that are open to the asker and match the question, in byte order,
     /// each once and with the greatest remaining lifetime in seconds (RFC 2608, section 8.2).
     pub fn services(
@@ -159,23 +186,32 @@ impl<R: Registry> Directory<R> {
     ) -> Result<Vec<UrlEntry>, QueryFault>
         ensures scope { IsErrOf result QueryFault.Scope ↔ (list_any (supports self.now.site) query.now.scopes ≡ false) }
         ensures faults { IfErr result (λ e. (e ≡ QueryFault.Scope) ⊎ (e ≡ QueryFault.NoMemory)) }
-        ensures items { (opening : List AnyRule) (h : History) → Fold opening self.now.site h self.now → IsLegal opening self.now.site h
-            → IfOk result (λ items. AreServices opening self.now.site h moment asker query.now items.items) }
+        ensures items { (o : Opening) (h : History) → Fold o h self.now → IsLegal o h
+            → IfOk result (λ items. AreServices o h moment asker query.now items.items) }
     {
-        let now = u64::from(self.now(moment));
-        let mut found = BTreeMap::new(alloc);
-        let is_supported = gather(
-            &mut found,
-            &self.registry,
-            &self.rules,
-            &self.site,
-            now,
-            asker,
-            query,
-        )?;
-        if !is_supported {
-            return Err(QueryFault::Scope);
-        }
-        Ok(listed(alloc, &found, now)?)
+        let kept = self.search(alloc, moment, asker, query, None)?;
+        kept.into_items(alloc, u64::from(self.now(moment)))
+    }
+
+    /// What `services` answers, lent where it lies: in byte order, from the front as many as there is
+    /// room for.
+    pub fn find(
+        &self,
+        alloc: Global,
+        moment: u32,
+        asker: Addr,
+        query: &ServiceQuery,
+        room: Room,
+    ) -> Result<Found<'_>, QueryFault>
+        requires small { room.bytes ≤ 65535 }
+        requires small_each { room.each ≤ 65535 }
+        ensures scope { IsErrOf result QueryFault.Scope ↔ (list_any (supports self.now.site) query.now.scopes ≡ false) }
+        ensures faults { IfErr result (λ e. (e ≡ QueryFault.Scope) ⊎ (e ≡ QueryFault.NoMemory)) }
+        ensures items { (o : Opening) (h : History) → Fold o h self.now → IsLegal o h
+            → IfOk result (λ found. (all : List UrlEntry) × AreServices o h moment asker query.now all × IsFront room all (items_in found) found.is_cut) }
+        ensures fits { IfOk result (λ found. size_in room (items_in found) ≤ room.bytes) }
+    {
+        let kept = self.search(alloc, moment, asker, query, Some(room))?;
+        Ok(kept.fitting(u64::from(self.now(moment))))
     }
 }

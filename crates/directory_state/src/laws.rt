@@ -1,32 +1,41 @@
 //! What holds of every history. The functions do nothing: their contracts are the laws.
-ghost use Rattle.std.specs.Prelude.{◌≡◌, ◌↔◌, ◌∷◌, ◌<◌, ◌≤◌, ℕ, List, Some};
+ghost use Rattle.std.specs.Prelude.{◌≡◌, ◌↔◌, ◌∷◌, ◌<◌, ◌≤◌, ℕ, false, List, Option, Some, None};
 ghost use Rattle.std.specs.FinMap as fin;
-ghost use Rattle.access_rules.specs.declared.rule.Rule.{Rule};
 ghost use Rattle.registry_core.specs.Entries.{Pair, pair_of};
 ghost use Rattle.registry_core.specs.declared.entry.Entry.{Entry};
 ghost use Rattle.slp_messages.specs.Messages.{IsMessage};
 ghost use Rattle.slp_messages.specs.declared.message.Message.{Message};
-ghost use Rattle.slp_messages.specs.declared.message.UrlEntry.{UrlEntry};
-ghost use Rattle.directory_judge.specs.History.{History, Sweep, clock};
+ghost use Rattle.directory_judge.specs.History.{History, Event, Sweep, clock};
 ghost use Rattle.directory_judge.specs.Judging.{Judgement};
 ghost use Rattle.directory_judge.specs.Making.{Content};
 ghost use Rattle.directory_judge.specs.Meaning.{Live, Stands};
-ghost use Rattle.directory_judge.specs.Sites.{Place};
-ghost use Rattle.directory_state.specs.Asking.{AreServices, IsOpenNow};
-ghost use Rattle.directory_state.specs.Folding.{Fold, StandFor};
+ghost use Rattle.directory_answers.specs.Answering.{IsAnswer, IsOpenTo, is_change_of};
+ghost use Rattle.directory_answers.specs.Calls.{Opening, Call, AreBytes};
+ghost use Rattle.directory_answers.specs.Outcomes.{Outcome};
+ghost use Rattle.directory_answers.specs.Verdicts.{IsLegal, IsVerdict, change_in, followed};
+ghost use Rattle.directory_state.specs.Folding.{Fold, StandsFor, StandFor};
 ghost use Rattle.directory_state.specs.Founding.{IsFoundedAt};
-ghost use Rattle.directory_state.specs.State.{State, after};
-ghost use Rattle.directory_state.specs.Verdicts.{IsLegal, IsVerdict, next};
-ghost use Rattle.directory_state.specs.declared.query.ServiceQuery.{ServiceQuery};
+ghost use Rattle.directory_state.specs.State.{State, after, made, made_by, state_after};
 
 /// Changes that stand for the events of a legal history, made one by one, leave its state.
 pub fn changes_leave_their_history()
-    ensures { (opening : List Rule) (site : Place) (h : History) (changes : List Content) → IsLegal opening site h → StandFor h changes → Fold opening site h (after opening site changes) }
+    ensures { (o : Opening) (h : History) (changes : List Content) → IsLegal o h → StandFor h changes → Fold o h (after o changes) }
+{}
+
+/// The events of a legal history, made one by one, leave its state.
+pub fn events_leave_their_history()
+    ensures { (o : Opening) (h : History) → IsLegal o h → Fold o h (state_after o h) }
+{}
+
+/// A change makes what the event makes that it stands for.
+pub fn changes_make_what_their_events_make()
+    ensures each { (o : Opening) (h : History) (c : Event) (change : Content) → IsLegal o (c ∷ h) → StandsFor h change c → made change (state_after o h) ≡ made_by c (state_after o h) }
+    ensures all { (o : Opening) (h : History) (changes : List Content) → IsLegal o h → StandFor h changes → after o changes ≡ state_after o h }
 {}
 
 /// What is at a pair in the state of a history is of that pair, and is not dead.
 pub fn no_pair_has_a_dead_or_another_entry()
-    ensures { (opening : List Rule) (site : Place) (h : History) (s : State) (q : Pair) (e : Entry) → Fold opening site h s → fin.get s.entries q ≡ Some e → (pair_of e ≡ q) × (clock h < e.deadline) }
+    ensures { (o : Opening) (h : History) (s : State) (q : Pair) (e : Entry) → Fold o h s → fin.get s.entries q ≡ Some e → (pair_of e ≡ q) × (clock h < e.deadline) }
 {}
 
 /// One entry stands of a URL and a language.
@@ -39,30 +48,30 @@ pub fn one_change_founded_what_stands()
     ensures { (h : History) (e : Entry) → Stands h e → (place : ℕ) × IsFoundedAt h e place × ((other : ℕ) → IsFoundedAt h e other → other ≡ place) }
 {}
 
-/// What is not open to the asker is not seen: histories of the same clock, with the same live entries open to the
-/// asker in the scopes that are asked for, give the same answer.
-pub fn what_is_not_open_is_not_seen()
-    ensures { (opening : List Rule) (site : Place) (g h : History) (m asker : ℕ) (q : ServiceQuery) (items others : List UrlEntry) → clock g ≡ clock h
-        → ((e : Entry) → IsOpenNow opening site g m asker q.scopes e ↔ IsOpenNow opening site h m asker q.scopes e)
-        → AreServices opening site g m asker q items → AreServices opening site h m asker q others → items ≡ others }
-{}
-
 /// What is accepted makes a legal history.
 pub fn accepted_changes_are_legal()
-    ensures { (opening : List Rule) (site : Place) (h : History) (m asker : ℕ) (sent : Message) (v : Judgement) → IsLegal opening site h → IsMessage sent
-        → IsVerdict opening site h m asker sent v → IsLegal opening site (next h v) }
+    ensures judged { (o : Opening) (h : History) (m asker : ℕ) (sent : Message) (v : Judgement) → IsLegal o h → IsMessage sent
+        → IsVerdict o h m asker sent v → IsLegal o (followed (change_in v) h) }
+    ensures told { (o : Opening) (h : History) (c : Call) (r : Outcome) (change : Option Event) → AreBytes c.bytes → IsLegal o h
+        → IsAnswer o h c r change → IsLegal o (followed change h) }
 {}
 
-/// A sweep is not seen at its moment or later: not in what is live, nor in a verdict, nor in an answer.
+/// A sweep is not seen at its moment or later: the same is live, the same is told of bytes, and the same change comes
+/// of them.
 pub fn sweeps_are_not_seen()
     ensures live { (h : History) (s m : ℕ) (e : Entry) → s ≤ m → Live (record { moment = s; act = Sweep } ∷ h) m e ↔ Live h m e }
-    ensures verdict { (opening : List Rule) (site : Place) (h : History) (s m asker : ℕ) (sent : Message) (v : Judgement) → s ≤ m
-        → IsVerdict opening site (record { moment = s; act = Sweep } ∷ h) m asker sent v ↔ IsVerdict opening site h m asker sent v }
-    ensures answer { (opening : List Rule) (site : Place) (h : History) (s m asker : ℕ) (q : ServiceQuery) (items : List UrlEntry) → s ≤ m
-        → AreServices opening site (record { moment = s; act = Sweep } ∷ h) m asker q items ↔ AreServices opening site h m asker q items }
+    ensures told { (o : Opening) (h : History) (s : ℕ) (c : Call) (r : Outcome) (change : Option Event) → s ≤ c.moment
+        → IsAnswer o (record { moment = s; act = Sweep } ∷ h) c r change ↔ IsAnswer o h c r change }
 {}
 
-/// A message has one verdict at a history and a moment.
-pub fn a_message_has_one_verdict()
-    ensures { (opening : List Rule) (site : Place) (h : History) (m asker : ℕ) (sent : Message) (v w : Judgement) → IsVerdict opening site h m asker sent v → IsVerdict opening site h m asker sent w → v ≡ w }
+/// What is not open to the asker is not seen: of bytes that ask for no change the same is told at histories of the same
+/// clock, with the same live entries open to the asker in the scopes that are asked for.
+pub fn what_is_not_open_is_not_seen()
+    ensures { (o : Opening) (g h : History) (c : Call) (r s : Outcome) → AreBytes c.bytes → is_change_of c.bytes ≡ false → clock g ≡ clock h
+        → ((e : Entry) → IsOpenTo o g c e ↔ IsOpenTo o h c e) → IsAnswer o g c r None → IsAnswer o h c s None → r ≡ s }
+{}
+
+/// Of bytes one thing is told at a history, and one change comes of them.
+pub fn one_thing_is_told()
+    ensures { (o : Opening) (h : History) (c : Call) (r s : Outcome) (change other : Option Event) → IsAnswer o h c r change → IsAnswer o h c s other → (r ≡ s) × (change ≡ other) }
 {}

@@ -2,10 +2,10 @@
 //! it answers.
 #![tactic(auto)]
 
-mod asking;
 mod directory;
+mod finding;
 pub mod laws;
-mod query;
 
 pub use directory::Directory;
-pub use query::{QueryFault, ServiceQuery};
+pub use directory_answers::{QueryFault, ServiceQuery};
+pub use finding::{Found, Room};

@@ -52,16 +52,16 @@ returns-in-Withdraw-clause-made g c =
     ∙ ap (λ x. made (content x) old) (sym c.in-Withdraw.is)
 
 pub returns-in-Put-clause-fold : goal.returns-in-Put-clause-fold
-returns-in-Put-clause-fold g c = λ opening h event fold legal stands.
+returns-in-Put-clause-fold g c = λ o h event fold legal stands.
     let old = c.args.self.now in
-    subst (Fold opening old.site (event ∷ h)) (sym (returns-in-Put-clause-made g c)) (Fold-made opening old.site h (content c.args.change) event old fold legal.0 (possible opening old.site h event.moment event.act legal.1) stands)
+    subst (Fold o (event ∷ h)) (sym (returns-in-Put-clause-made g c)) (Fold-made o h (content c.args.change) event old fold legal.0 (possible o h event.moment event.act legal.1) stands)
 
 pub returns-in-Sweep-clause-fold : goal.returns-in-Sweep-clause-fold
-returns-in-Sweep-clause-fold g c = λ opening h event fold legal stands.
+returns-in-Sweep-clause-fold g c = λ o h event fold legal stands.
     let old = c.args.self.now in
-    subst (Fold opening old.site (event ∷ h)) (sym (returns-in-Sweep-clause-made g c)) (Fold-made opening old.site h (content c.args.change) event old fold legal.0 (possible opening old.site h event.moment event.act legal.1) stands)
+    subst (Fold o (event ∷ h)) (sym (returns-in-Sweep-clause-made g c)) (Fold-made o h (content c.args.change) event old fold legal.0 (possible o h event.moment event.act legal.1) stands)
 
 pub returns-in-Withdraw-clause-fold : goal.returns-in-Withdraw-clause-fold
-returns-in-Withdraw-clause-fold g c = λ opening h event fold legal stands.
+returns-in-Withdraw-clause-fold g c = λ o h event fold legal stands.
     let old = c.args.self.now in
-    subst (Fold opening old.site (event ∷ h)) (sym (returns-in-Withdraw-clause-made g c)) (Fold-made opening old.site h (content c.args.change) event old fold legal.0 (possible opening old.site h event.moment event.act legal.1) stands)
+    subst (Fold o (event ∷ h)) (sym (returns-in-Withdraw-clause-made g c)) (Fold-made o h (content c.args.change) event old fold legal.0 (possible o h event.moment event.act legal.1) stands)

@@ -1,0 +1,26 @@
+-- What a directory begins with, and what is asked of it.
+use Rattle.std.specs.Prelude.{ℕ, ◌<◌, get_or, List}
+use Rattle.access_rules.specs.Deciding.{SiteRules}
+use Rattle.directory_judge.specs.Sites.{Place}
+use Rattle.directory_answers.specs.declared.call.Call.{Call as Lent}
+
+-- the rules and the site that it begins with
+pub record Opening : Type 0 where
+  pub rules : SiteRules
+  pub site : Place
+
+-- bytes that an asker sends at a moment, in seconds, to an address of the directory, and how many bytes a reply may have
+pub record Call : Type 0 where
+  pub own : ℕ
+  pub moment : ℕ
+  pub asker : ℕ
+  pub bytes : List ℕ
+  pub limit : ℕ
+
+-- each is a byte
+abbrev pub AreBytes : List ℕ → Type 0
+AreBytes bytes = (i : ℕ) → get_or bytes i 0 < 256
+
+-- what is asked, wherever its bytes lie
+abbrev pub call_in : Lent → Call
+call_in c = record { own = c.own; moment = c.moment; asker = c.asker; bytes = c.bytes.now; limit = c.limit }

@@ -1,0 +1,79 @@
+-- What comes of a message: the bytes of a reply, and the verdict (RFC 2608, section 7).
+use Rattle.std.specs.Prelude.{ℕ, Bool, false, not, ◌==◌, ◌&&◌, ◌||◌, List, [], ◌∷◌, Option, Some, None, if◌then◌else◌}
+use Rattle.std.specs.Option.{option_map_or}
+use Rattle.slp_headers.specs.Headers.{Heading, has_flag, refusal_bytes, reply_function_of}
+use Rattle.slp_headers.specs.declared.flag.TheConstants.{MULTICAST}
+use Rattle.slp_fields.specs.declared.fault.WireFault.{WireFault}
+use Rattle.slp_fields.specs.declared.fault.WireFault.TheVariants as fault
+use Rattle.slp_messages.specs.declared.code.TheConstants.{OK}
+use Rattle.slp_messages.specs.declared.function.TheConstants.{SERVICE_REQUEST, ATTRIBUTE_REQUEST, TYPE_REQUEST}
+use Rattle.directory_judge.specs.Judging.{Judgement, Accepts, Ignores, Waits, Denies, by_step, code_by}
+use Rattle.directory_judge.specs.declared.because.Because.{Because}
+use Rattle.directory_judge.specs.declared.because.Decider.{Decider}
+use Rattle.directory_judge.specs.declared.because.Decider.TheVariants as decider
+
+-- the bytes of a reply, none where none is sent; and the code, and who decided on what, where there is a verdict
+pub record Outcome : Type 0 where
+  pub reply : List ℕ
+  pub verdict : Option (ℕ × Because)
+
+abbrev pub silence : Outcome
+silence = record { reply = []; verdict = None }
+
+abbrev pub outcome : List ℕ → ℕ → Because → Outcome
+outcome reply code because = record { reply = reply; verdict = Some (code, because) }
+
+-- the code of the reply, where one is sent
+abbrev pub code_sent : Outcome → Option ℕ
+code_sent r = elim r.reply [ [] ↦ None | b ∷ bs ↦ elim r.verdict [ None ↦ None | Some v ↦ Some v.0 ] ]
+
+-- ---- what was sent to many
+
+-- a question that was sent to many
+abbrev pub is_to_many : Heading → Bool
+is_to_many h = has_flag MULTICAST h.flags && (h.function == SERVICE_REQUEST || h.function == ATTRIBUTE_REQUEST || h.function == TYPE_REQUEST)
+
+-- what is sent of a reply with a code, which may have nothing in it: a question that was sent to many gets no error and nothing empty. The verdict stands.
+abbrev pub sent_of : Heading → ℕ → Bool → List ℕ → List ℕ
+sent_of h code is_empty reply = if is_to_many h && (not (code == OK) || is_empty) then [] else reply
+
+-- ---- replies that are a code alone
+
+-- a code and why, in answer to a message of a function that is answered
+abbrev pub coded_as : Heading → ℕ → Because → ℕ → Outcome
+coded_as h code because function = outcome (sent_of h code false (refusal_bytes function code h.xid h.language)) code because
+
+abbrev pub coded : Heading → ℕ → Because → Outcome
+coded h code because = option_map_or (coded_as h code because) (reply_function_of h.function) silence
+
+-- the denial of a step that knows no more than who decided
+abbrev pub denied : Heading → Decider → Outcome
+denied h d = coded h (code_by d) (by_step d None)
+
+-- ---- bytes that are no message that is read
+
+-- the name of the step that asks for a fault, where it is answered
+abbrev pub decider_of_fault : WireFault → Option Decider
+decider_of_fault fault.Version = Some decider.Version
+decider_of_fault fault.Parse = Some decider.Parse
+decider_of_fault fault.Auth = Some decider.Auth
+decider_of_fault fault.Option = Some decider.Option
+decider_of_fault fault.NoHeader = None
+decider_of_fault fault.Unknown = None
+decider_of_fault fault.NoMemory = None
+decider_of_fault fault.TooLong = None
+
+abbrev pub faulted : Heading → WireFault → Outcome
+faulted h e = option_map_or (denied h) (decider_of_fault e) silence
+
+-- bytes that found no memory, where their header is readable
+abbrev pub refused : Option Heading → Outcome
+refused heading = option_map_or (λ h. denied h decider.Memory) heading silence
+
+-- ---- what was judged
+
+abbrev pub acknowledged : Heading → Judgement → Outcome
+acknowledged h (Accepts c because) = coded h OK because
+acknowledged h Ignores = coded h OK (by_step decider.Nobody None)
+acknowledged h (Denies code because) = coded h code because
+acknowledged h Waits = silence

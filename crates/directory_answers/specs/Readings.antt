@@ -1,0 +1,38 @@
+-- What bytes that come in are read as.
+use Rattle.std.specs.Prelude.{◌≡◌, ℕ, Bool, List, Option, Some, None, Ok, Err}
+use Rattle.slp_messages.specs.Messages.{IsMessage, function_of}
+use Rattle.slp_wire.specs.Reading.{reading}
+use Rattle.slp_fields.specs.declared.fault.WireFault.{WireFault}
+use Rattle.slp_messages.specs.declared.header.Header.{Header}
+use Rattle.slp_messages.specs.declared.message.Message.{Message}
+use Rattle.slp_messages.specs.declared.message.Message.TheVariants as message
+use Rattle.slp_messages.specs.declared.message.ServiceRequest.{ServiceRequest}
+use Rattle.directory_answers.specs.Answering.{is_change_function, is_change_of}
+
+-- a registration or a withdrawal, by its function
+abbrev pub may_change : Message → Bool
+may_change m = is_change_function (function_of m)
+
+-- the bytes are read as this message, and their header says whether it may change something
+pub record IsRead (bytes : List ℕ) (m : Message) : Type 0 where
+  pub read : reading bytes ≡ Ok m
+  pub sound : IsMessage m
+  pub change : is_change_of bytes ≡ may_change m
+
+-- the bytes are no message that is read, by this fault
+abbrev pub IsUnread : List ℕ → WireFault → Type 0
+IsUnread bytes e = reading bytes ≡ Err e
+
+-- the service request that a message is, if it is one
+abbrev pub request_of : Message → Option (Header × ServiceRequest)
+request_of (message.ServiceRequest h q) = Some (h, q)
+request_of (message.ServiceReply h r) = None
+request_of (message.Registration h r) = None
+request_of (message.Acknowledgement h code) = None
+request_of (message.Withdrawal h w) = None
+request_of (message.AttributeRequest h q) = None
+request_of (message.AttributeReply h r) = None
+request_of (message.DirectoryAdvert h a) = None
+request_of (message.TypeRequest h q) = None
+request_of (message.TypeReply h r) = None
+request_of (message.ServiceAdvert h a) = None

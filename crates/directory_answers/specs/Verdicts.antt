@@ -1,0 +1,57 @@
+-- The verdict on a message at a history, and which histories come about.
+use Rattle.std.specs.Prelude.{◌≡◌, ℕ, ◌≤◌, [], ◌∷◌, Option, Some, None}
+use Rattle.registry_core.specs.Entries.{Entries}
+use Rattle.slp_messages.specs.Messages.{IsMessage}
+use Rattle.slp_messages.specs.declared.message.Message.{Message}
+use Rattle.directory_judge.specs.History.{History, Event, Put, Set, Remove, Withdraw, Sweep, Reload, clock, now}
+use Rattle.directory_judge.specs.Judging.{Grounds, Judgement, Accepts, Ignores, Waits, Denies, judgement}
+use Rattle.directory_judge.specs.Meaning.{AreLive, rules}
+use Rattle.directory_judge.specs.declared.because.Because.{Because}
+use Rattle.directory_answers.specs.Calls.{Opening}
+
+-- what a message is judged on at a history, where these are the live entries
+abbrev pub grounds : Opening → History → Entries → ℕ → ℕ → Grounds
+grounds o h live m asker = record { rules = rules o.rules h; site = o.site; live = live; now = now h m; asker = asker }
+
+-- the verdict at a history and a moment on what an asker sends
+pub record IsVerdict (o : Opening) (h : History) (m asker : ℕ) (sent : Message) (v : Judgement) : Type 0 where
+  pub live : Entries
+  pub are_live : AreLive h m live
+  pub is : v ≡ judgement (grounds o h live m asker) sent
+
+-- the event is what some message makes, sent at some moment
+pub record IsAccepted (o : Opening) (h : History) (c : Event) : Type 0 where
+  pub moment : ℕ
+  pub asker : ℕ
+  pub sent : Message
+  pub sound : IsMessage sent
+  pub because : Because
+  pub verdict : IsVerdict o h moment asker sent (Accepts c because)
+
+-- a registration, an update or a withdrawal is what some message makes; sweeps and reloads are the operator's
+abbrev pub IsGrounded : Opening → History → Event → Type 0
+IsGrounded o h c = elim c.act [
+  | Put p ↦ IsAccepted o h c
+  | Set s ↦ IsAccepted o h c
+  | Remove r ↦ IsAccepted o h c
+  | Withdraw w ↦ IsAccepted o h c
+  | Sweep ↦ Unit {0}
+  | Reload rs ↦ Unit {0}
+]
+
+-- time does not go back, and each change comes about by what was before it
+abbrev pub IsLegal : Opening → History → Type 0
+IsLegal o [] = Unit {0}
+IsLegal o (c ∷ h) = (clock h ≤ c.moment) × IsGrounded o h c × IsLegal o h
+
+-- the change that comes of a judgement, if one does
+abbrev pub change_in : Judgement → Option Event
+change_in (Accepts c because) = Some c
+change_in Ignores = None
+change_in Waits = None
+change_in (Denies code because) = None
+
+-- a history followed by a change, if there is one
+abbrev pub followed : Option Event → History → History
+followed None h = h
+followed (Some c) h = c ∷ h
