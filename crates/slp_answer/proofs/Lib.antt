@@ -1,7 +1,5 @@
-pub mod Digits
+pub mod Characters
 pub mod Lines
+pub mod RefusalLines
 pub mod Sizes
-pub mod Refusals
-pub mod Meanings
 pub mod Tellings
-pub mod Questions

@@ -1,13 +1,19 @@
 -- How long a reply to a request is, by the items that it takes.
-use Rattle.std.proofs.Common.{◌≡◌, ℕ, ◌+◌, ◌<◌, ◌≤◌, List, [], ◌∷◌, ◌++◌, length, take, suc, zero, get_or, ap, inl, inr, arith}
+use Rattle.std.proofs.Common.{◌<◌, length-take-le, inl, inr, sym, ◌≡◌, ℕ, ◌+◌, ◌≤◌, Bool, true, false, List, [], ◌∷◌, length, take, refl, ap, ap₂, ◌∙◌, arith}
+use Rattle.std.specs.Prelude.{◌==◌, ◌&&◌, not, nat_lt}
 use Rattle.std.specs.List.{flat_map}
+use Rattle.std.proofs.lemmas.Bool.{cases_lt, le-ltb}
+use Rattle.std.proofs.lemmas.Bool.Decides.{nat_tests}
 use Rattle.std.proofs.lemmas.List.{length-append}
-use Rattle.std.proofs.lemmas.Bool.{cases_lt}
+use borrow.Author.Tests.{lt-ltb}
 use Rattle.slp_fields.specs.Spelling.{entry_bytes}
 use Rattle.slp_wire.specs.Spelling.{plain, body_of}
-use Rattle.slp_messages.specs.declared.header.Header.{Header}
+use Rattle.slp_headers.specs.Headers.{Heading}
 use Rattle.slp_messages.specs.declared.message.UrlEntry.{UrlEntry}
-use Rattle.slp_answer.specs.Cutting.{reply_of}
+use Rattle.directory_answers.specs.Cutting.{IsCut, services_with}
+use Rattle.directory_state.specs.Fitting.{IsFront, size_in}
+use Rattle.directory_state.specs.declared.finding.Room.{Room}
+use Rattle.slp_answer.specs.Listing.{listed_with}
 
 -- the bytes of these entries
 abbrev pub size : List UrlEntry → ℕ
@@ -16,40 +22,56 @@ size es = length (flat_map (entry_bytes 0) es)
 size_of_one : (e : UrlEntry) (es : List UrlEntry) → size (e ∷ es) ≡ length (entry_bytes 0 e) + size es
 size_of_one e es = length-append (entry_bytes 0 e) (flat_map (entry_bytes 0) es)
 
-pub size_grows : (es : List UrlEntry) (i k : ℕ) → i ≤ k → size (take i es) ≤ size (take k es)
-size_grows [] zero zero h = omega arith
-size_grows [] zero (suc k) h = omega arith
-size_grows [] (suc i) zero h = omega arith
-size_grows [] (suc i) (suc k) h = omega arith
-size_grows (e ∷ es) zero k h = omega arith
-size_grows (e ∷ es) (suc i) zero h = omega arith
-size_grows (e ∷ es) (suc i) (suc k) h =
-    let rest : size (take i es) ≤ size (take k es) = size_grows es i k (omega arith) in
-    omega (arith, rest, size_of_one e (take i es), size_of_one e (take k es))
-
-pub reply_size : (h : Header) (items : List UrlEntry) (k : ℕ) → length (plain (reply_of h items k)) ≡ 18 + length h.language + size (take k items)
+pub reply_size : (h : Heading) (items : List UrlEntry) (k : ℕ) → length (plain (services_with h items k)) ≡ 18 + length h.language + size (take k items)
 reply_size h items k =
-    omega (arith, length-append h.language (body_of (reply_of h items k)), length-append (flat_map (entry_bytes 0) (take k items)) [])
+    omega (arith, length-append h.language (body_of (services_with h items k)), length-append (flat_map (entry_bytes 0) (take k items)) [])
 
-size_more : (es : List UrlEntry) (i : ℕ) (e : UrlEntry) → i < length es → e ≡ get_or es i e → size (take (suc i) es) ≡ length (entry_bytes 0 e) + size (take i es)
-size_more [] i e h g = omega arith
-size_more (x ∷ es) zero e h g = let same = ap (λ (y : UrlEntry). length (entry_bytes 0 y)) g in omega (arith, same, size_of_one x [])
-size_more (x ∷ es) (suc i) e h g =
-    let rest = size_more es i e (omega arith) g in
-    let one : size (take (suc (suc i)) (x ∷ es)) ≡ length (entry_bytes 0 x) + size (take (suc i) es) = size_of_one x (take (suc i) es) in
-    let other : size (take (suc i) (x ∷ es)) ≡ length (entry_bytes 0 x) + size (take i es) = size_of_one x (take i es) in
-    omega (arith, rest, one, other)
+entry_size : (e : UrlEntry) → length (entry_bytes 0 e) ≡ 6 + length e.url
+entry_size e = omega (arith, length-append e.url (0 ∷ []))
 
--- where the item at a place does not fit, no longer prefix fits
-pub is_longest : (h : Header) (items : List UrlEntry) (count left tag limit other : ℕ) (e : UrlEntry) → count < length items → e ≡ get_or items count e
-    → 18 + tag + size (take count items) + left ≡ limit → left < length (entry_bytes 0 e) → length h.language ≡ tag
-    → length (plain (reply_of h items other)) ≤ limit → other ≤ count
-is_longest h items count left tag limit other e inside here sum short language fits =
-    elim (cases_lt count other) [
-      | inl more ↦
-          let grown : size (take (suc count) items) ≤ size (take other items) = size_grows items (suc count) other (omega (arith, more)) in
-          let step = size_more items count e inside here in
-          let whole = reply_size h items other in
-          omega (arith, grown, step, whole, sum, short, language, fits)
-      | inr done ↦ done
+-- the room that entries take is that of their bytes
+pub size_in-is : (room : Room) (items : List UrlEntry) → room.each ≡ 6 → size_in room items ≡ size items
+size_in-is room [] six = refl
+size_in-is room (e ∷ es) six = omega (arith, six, entry_size e, size_of_one e es, size_in-is room es six)
+
+and_false : (b : Bool) → (b && false) ≡ false
+and_false true = refl
+and_false false = refl
+
+and_true : (b : Bool) → (b && true) ≡ b
+and_true true = refl
+and_true false = refl
+
+pub positive : (n : ℕ) → 0 < n → (n == 0) ≡ false
+positive n h = grind (arith, nat_tests)
+
+-- no items are found exactly where none is shown, and none left out
+no_items : (count number shown : ℕ) → count ≤ number → shown ≡ count → (shown == 0 && not (nat_lt count number)) ≡ (number == 0)
+no_items count number shown le is =
+    elim (cases_lt count number) [
+      | inl less ↦ ap (λ b. shown == 0 && not b) (lt-ltb count number less) ∙ and_false (shown == 0) ∙ sym (positive number (omega (arith, less)))
+      | inr least ↦
+          let same : shown ≡ number = omega (arith, le, is, least) in
+          ap (λ b. shown == 0 && not b) (le-ltb count number least) ∙ and_true (shown == 0) ∙ ap (λ (n : ℕ). n == 0) same
     ]
+
+module _ (h : Heading) (room : Room) (all items : List UrlEntry) (is_cut : Bool) (limit : ℕ) (whole : room.bytes + 18 + length h.language ≡ limit) (six : room.each ≡ 6) (front : IsFront room all items is_cut) where
+  -- the reply with those for which there is room is the one that is cut to the limit
+  pub front-cut : IsCut (length all) (services_with h all) limit (plain (listed_with h is_cut items))
+  front-cut = record {
+    count = front.count;
+    within = front.within;
+    fits = omega (arith, whole, front.fits, size_in-is room (take front.count all) six, reply_size h all front.count);
+    longest = λ other within fits. front.longest other within (omega (arith, whole, fits, size_in-is room (take other all) six, reply_size h all other));
+    spelled = ap₂ (λ (c : Bool) (is : List UrlEntry). plain (listed_with h c is)) front.more front.items_are;
+  }
+
+  pub front-empty : (length items == 0 && not is_cut) ≡ (length all == 0)
+  front-empty =
+      ap (λ (c : Bool). length items == 0 && not c) front.more
+      ∙ no_items front.count (length all) (length items) front.within (ap (λ (is : List UrlEntry). length is) front.items_are ∙ length-take-le front.count all front.within)
+
+-- a reply with what there is room for is within the limit
+pub room-short : (h : Heading) (room : Room) (items : List UrlEntry) (is_cut : Bool) (limit : ℕ) → room.bytes + 18 + length h.language ≡ limit → room.each ≡ 6 → size_in room items ≤ room.bytes → length (plain (listed_with h is_cut items)) ≤ limit
+room-short h room items is_cut limit whole six fits =
+    omega (arith, whole, fits, size_in-is room items six, length-append h.language (body_of (listed_with h is_cut items)), length-append (flat_map (entry_bytes 0) items) [])

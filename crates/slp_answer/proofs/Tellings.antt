@@ -1,32 +1,58 @@
--- What is told of a message, by what it is.
-use Rattle.std.proofs.Common.{◌≡◌, ℕ, true, false, List, [], ◌∷◌, Option, Some, None, Result, Ok, Err, refl, sym, ap, subst, ◌∙◌}
+-- What is told of bytes, by what they are read as.
+use Rattle.std.proofs.Common.{◌≡◌, ℕ, suc, arith, Bool, true, false, cond, List, [], ◌∷◌, length, Option, Some, None, Result, Ok, Err, refl, sym, ap, ap₂, subst, ◌∙◌}
+use Rattle.std.specs.Prelude.{◌==◌, ◌&&◌, ◌||◌, ◌+◌, ◌/◌, ◌%◌, ◌++◌, ◌↔◌, not, IsErrOf}
+use Rattle.std.specs.Fmt.{decimal}
+use Rattle.std.specs.Result.{result_ok}
+use Rattle.std.specs.List.{list_any}
 use Rattle.std.proofs.lemmas.Option.{none-some, same_Some}
-use Rattle.slp_headers.specs.Headers.{Heading}
-use Rattle.slp_messages.specs.Messages.{IsMessage, header_of}
-use Rattle.slp_fields.specs.declared.fault.WireFault.{WireFault}
+use Rattle.slp_headers.specs.Headers.{Heading, heading_of}
 use Rattle.slp_messages.specs.declared.header.Header.{Header}
 use Rattle.slp_messages.specs.declared.message.Message.{Message}
 use Rattle.slp_messages.specs.declared.message.Message.TheVariants as message
 use Rattle.slp_messages.specs.declared.message.ServiceRequest.{ServiceRequest}
-use Rattle.access_rules.specs.declared.rule.Action.{Action}
-use Rattle.access_rules.specs.declared.rule.Rule.{Rule as AnyRule}
-use Rattle.directory_judge.specs.History.{History}
-use Rattle.directory_judge.specs.Judging.{Judgement, Accepts, Ignores, Waits, Denies, IsChange}
+use Rattle.slp_fields.specs.declared.fault.WireFault.{WireFault}
+use Rattle.slp_wire.specs.Reading.{reading}
+use Rattle.slp_wire.specs.Spelling.{plain}
+use Rattle.slp_messages.specs.declared.message.UrlEntry.{UrlEntry}
+use Rattle.access_rules.specs.Deciding.{SiteRules}
+use Rattle.slp_text.specs.Scopes.{scopes_of}
+use Rattle.slp_text.specs.Words.{bytes_eq, is_blank}
+use Rattle.service_url.specs.Types.{type_of}
+use Rattle.directory_judge.specs.History.{History, Event, now}
+use Rattle.directory_judge.specs.Judging.{Judgement, IsChange, by_step, is_agent, supports}
+use Rattle.directory_judge.specs.declared.because.Decider.TheVariants as decider
 use Rattle.directory_judge.specs.Meaning.{rules}
 use Rattle.directory_judge.specs.Sites.{Place}
+use Rattle.slp_messages.specs.Messages.{IsMessage}
 use Rattle.directory_judge.specs.declared.because.Because.{Because}
 use Rattle.directory_judge.specs.declared.change.Change.{Change}
 use Rattle.directory_judge.specs.declared.judged.Judged.{Judged}
 use Rattle.directory_judge.specs.declared.judged.Judged.TheVariants as judged
+use Rattle.directory_answers.specs.Answering.{Sense, Settled, Lists, IsListed, sense_headed, sense_read, sense_asked, IsAnswerTo, IsAnswer}
+use Rattle.directory_answers.specs.Calls.{Opening, Call}
+use Rattle.directory_answers.specs.Outcomes.{Outcome, silence, outcome, sent_of, coded, faulted, acknowledged}
+use Rattle.directory_answers.specs.Questions.{has_answered, question_of, asked_as}
+use Rattle.directory_answers.specs.Asking.{IsOpenNow, AreServices}
+use Rattle.directory_answers.specs.declared.query.ServiceQuery.{ServiceQuery}
+use Rattle.directory_answers.specs.declared.question.Question.{Question}
+use Rattle.directory_answers.specs.declared.question.Question.TheVariants.{Silent, Asks}
+use Rattle.directory_answers.specs.Readings.{may_change, request_of}
+use Rattle.directory_answers.specs.Verdicts.{IsLegal, IsVerdict, change_in, followed}
+use Rattle.directory_judge.specs.Making.{content}
+use Rattle.directory_state.specs.Fitting.{IsFront}
+use Rattle.directory_state.specs.Folding.{Fold, StandsFor, IsJudgedAs, HandsOut}
+use Rattle.directory_state.specs.State.{State}
+use Rattle.directory_state.specs.declared.finding.Room.{Room}
 use Rattle.directory_state.proofs.Histories.{legal_next}
-use Rattle.directory_state.specs.Verdicts.{IsLegal, IsVerdict, IsJudgedAs, next}
-use Rattle.slp_answer.specs.Answering.{Told, silence, faulted, telling, audit_of, coded, acknowledged, action_asked, nobody, IsFoundOf, IsTold, Tells, RepliesTo, AcknowledgesTo}
-use Rattle.slp_answer.specs.Understanding.{may_change, request_of}
+use Rattle.slp_answer.specs.Listing.{listed_with}
+use Rattle.slp_answer.specs.Telling.{Tells, Replies, Acknowledges, Steps}
+use Rattle.slp_answer.proofs.Sizes.{positive, front-cut, front-empty}
 use Rattle.slp_answer.specs.declared.answer.Sent.{Sent}
 use Rattle.slp_answer.specs.declared.answer.Sent.TheVariants as sent
 
-pub silence-tells : (reply audit : List ℕ) → reply ≡ [] → audit ≡ [] → Tells silence sent.Silence reply audit
-silence-tells reply audit r a = record { replied = r; audited = a; sent = refl }
+pub silence-tells : (rs : SiteRules) (asker : ℕ) (heading : Option Heading) (reply line : List ℕ) → reply ≡ [] → line ≡ [] → Tells rs asker heading silence sent.Silence reply line
+silence-tells rs asker None reply line r l = record { replied = r; lined = l; sent = refl }
+silence-tells rs asker (Some h) reply line r l = record { replied = r; lined = l; sent = refl }
 
 pub may-change : (m : Message) → may_change m ≡ true → IsChange m
 may-change (message.Registration h r) is = tt
@@ -41,155 +67,227 @@ may-change (message.TypeRequest h q) is = absurd cc
 may-change (message.TypeReply h r) is = absurd cc
 may-change (message.ServiceAdvert h a) is = absurd cc
 
-module _ (opening : List AnyRule) (site : Place) (h : History) (m asker limit : ℕ) (heading : Option Heading) where
-  unread-told : (e : WireFault) → IsTold opening site h m asker limit heading (Err e) (faulted (rules opening h) asker heading e) h
-  unfolding IsTold
-  unread-told e = (refl, refl)
+-- with the rules of the history
+pub ruled-tells : (rs other : SiteRules) (asker : ℕ) (heading head : Option Heading) (r : Outcome) (what : Sent) (reply line : List ℕ) → rs ≡ other → heading ≡ head → Tells rs asker heading r what reply line → Tells other asker head r what reply line
+ruled-tells rs other asker heading head r what reply line ruled same t =
+    subst (λ (x : SiteRules). Tells x asker head r what reply line) ruled (subst (λ (x : Option Heading). Tells rs asker x r what reply line) same t)
 
-  request-told : (header : Header) (q : ServiceRequest) (t : Told) → IsFoundOf opening site h m asker limit header q t → IsTold opening site h m asker limit heading (Ok (message.ServiceRequest header q)) t h
-  unfolding IsTold
-  request-told header q t found = (refl, found)
+module _ (o : Opening) (h : History) (c : Call) where
+  -- what comes of bytes is what comes of what they are read as
+  pub headed-answer : (heading : Option Heading) (read : Result Message WireFault) (r : Outcome) (change : Option Event) → heading_of c.bytes ≡ heading → reading c.bytes ≡ read
+      → IsAnswerTo o h c (sense_headed o.site c.own heading read) r change → IsAnswer o h c r change
+  unfolding IsAnswer
+  headed-answer heading read r change head is answer =
+      subst (λ (s : Sense). IsAnswerTo o h c s r change) (sym (ap₂ (sense_headed o.site c.own) head is)) answer
+
+  -- nothing is told where no header is readable
+  pub unheaded-answer : heading_of c.bytes ≡ None → IsAnswer o h c silence None
+  unheaded-answer none = headed-answer None (reading c.bytes) silence None none refl (refl, refl)
+
+  pub fault-answer : (head : Heading) (e : WireFault) → heading_of c.bytes ≡ Some head → reading c.bytes ≡ Err e → IsAnswer o h c (faulted head e) None
+  fault-answer head e is read = headed-answer (Some head) (Err e) (faulted head e) None is read (refl, refl)
 
   -- nothing is told of a message that is neither a service request nor a change
-  other-told : (x : Message) → request_of x ≡ None → may_change x ≡ false → IsTold opening site h m asker limit heading (Ok x) silence h
-  unfolding IsTold
-  other-told (message.ServiceRequest header q) none still = absurd (none-some _ (sym none))
-  other-told (message.Registration header r) none still = absurd cc
-  other-told (message.ServiceReply header r) none still = (refl, refl)
-  other-told (message.Acknowledgement header code) none still = (refl, refl)
-  other-told (message.Withdrawal header w) none still = absurd cc
-  other-told (message.AttributeRequest header q) none still = (refl, refl)
-  other-told (message.AttributeReply header r) none still = (refl, refl)
-  other-told (message.DirectoryAdvert header a) none still = (refl, refl)
-  other-told (message.TypeRequest header q) none still = (refl, refl)
-  other-told (message.TypeReply header r) none still = (refl, refl)
-  other-told (message.ServiceAdvert header a) none still = (refl, refl)
+  pub other-answer : (head : Heading) (x : Message) → request_of x ≡ None → may_change x ≡ false → IsAnswerTo o h c (sense_read o.site c.own head (Ok x)) silence None
+  other-answer head (message.ServiceRequest header q) none still = absurd (none-some _ (sym none))
+  other-answer head (message.Registration header r) none still = absurd cc
+  other-answer head (message.ServiceReply header r) none still = (refl, refl)
+  other-answer head (message.Acknowledgement header code) none still = (refl, refl)
+  other-answer head (message.Withdrawal header w) none still = absurd cc
+  other-answer head (message.AttributeRequest header q) none still = (refl, refl)
+  other-answer head (message.AttributeReply header r) none still = (refl, refl)
+  other-answer head (message.DirectoryAdvert header a) none still = (refl, refl)
+  other-answer head (message.TypeRequest header q) none still = (refl, refl)
+  other-answer head (message.TypeReply header r) none still = (refl, refl)
+  other-answer head (message.ServiceAdvert header a) none still = (refl, refl)
 
-  change-told : (x : Message) (v : Judgement) → IsChange x → IsVerdict opening site h m asker x v → IsTold opening site h m asker limit heading (Ok x) (acknowledged (rules opening h) asker (action_asked x) (header_of x) v) (next h v)
-  unfolding IsTold
-  change-told (message.Registration header r) v is verdict = (v, verdict, refl, refl)
-  change-told (message.ServiceRequest header q) v is verdict = absurd is
-  change-told (message.ServiceReply header r) v is verdict = absurd is
-  change-told (message.Acknowledgement header code) v is verdict = absurd is
-  change-told (message.Withdrawal header w) v is verdict = (v, verdict, refl, refl)
-  change-told (message.AttributeRequest header q) v is verdict = absurd is
-  change-told (message.AttributeReply header r) v is verdict = absurd is
-  change-told (message.DirectoryAdvert header a) v is verdict = absurd is
-  change-told (message.TypeRequest header q) v is verdict = absurd is
-  change-told (message.TypeReply header r) v is verdict = absurd is
-  change-told (message.ServiceAdvert header a) v is verdict = absurd is
+  pub change-answer : (head : Heading) (x : Message) (v : Judgement) → IsChange x → IsVerdict o h c.moment c.asker x v → IsAnswerTo o h c (sense_read o.site c.own head (Ok x)) (acknowledged head v) (change_in v)
+  change-answer head (message.Registration header r) v is verdict = (v, verdict, refl, refl)
+  change-answer head (message.ServiceRequest header q) v is verdict = absurd is
+  change-answer head (message.ServiceReply header r) v is verdict = absurd is
+  change-answer head (message.Acknowledgement header code) v is verdict = absurd is
+  change-answer head (message.Withdrawal header w) v is verdict = (v, verdict, refl, refl)
+  change-answer head (message.AttributeRequest header q) v is verdict = absurd is
+  change-answer head (message.AttributeReply header r) v is verdict = absurd is
+  change-answer head (message.DirectoryAdvert header a) v is verdict = absurd is
+  change-answer head (message.TypeRequest header q) v is verdict = absurd is
+  change-answer head (message.TypeReply header r) v is verdict = absurd is
+  change-answer head (message.ServiceAdvert header a) v is verdict = absurd is
 
-  -- ---- questions
+request-is : (x : Message) (header : Header) (q : ServiceRequest) → request_of x ≡ Some (header, q) → x ≡ message.ServiceRequest header q
+request-is (message.ServiceRequest g p) header q is = let e : (g, p) ≡ (header, q) = same_Some (g, p) (header, q) is in ap (λ (y : Header × ServiceRequest). message.ServiceRequest y.0 y.1) e
+request-is (message.Registration g r) header q is = absurd (none-some _ is)
+request-is (message.ServiceReply g r) header q is = absurd (none-some _ is)
+request-is (message.Acknowledgement g code) header q is = absurd (none-some _ is)
+request-is (message.Withdrawal g w) header q is = absurd (none-some _ is)
+request-is (message.AttributeRequest g p) header q is = absurd (none-some _ is)
+request-is (message.AttributeReply g r) header q is = absurd (none-some _ is)
+request-is (message.DirectoryAdvert g a) header q is = absurd (none-some _ is)
+request-is (message.TypeRequest g p) header q is = absurd (none-some _ is)
+request-is (message.TypeReply g r) header q is = absurd (none-some _ is)
+request-is (message.ServiceAdvert g a) header q is = absurd (none-some _ is)
 
-  -- with the rules of the directory's state
-  pub unread-replies : (read : Result Message WireFault) (e : WireFault) (rs : List AnyRule) (what : Sent) (reply audit : List ℕ) → read ≡ Err e → rs ≡ rules opening h
-      → Tells (faulted rs asker heading e) what reply audit → RepliesTo opening site h m asker limit heading read what reply audit
-  unread-replies read e rs what reply audit is ruled t = record {
-    told = faulted (rules opening h) asker heading e;
-    is = subst (λ (x : Result Message WireFault). IsTold opening site h m asker limit heading x (faulted (rules opening h) asker heading e) h) (sym is) (unread-told e);
-    tells = subst (λ (r : List AnyRule). Tells (faulted r asker heading e) what reply audit) ruled t;
-  }
+-- ---- questions
 
-  pub read-replies : (read : Result Message WireFault) (x : Message) (what : Sent) (reply audit : List ℕ) → read ≡ Ok x → RepliesTo opening site h m asker limit heading (Ok x) what reply audit → RepliesTo opening site h m asker limit heading read what reply audit
-  read-replies read x what reply audit is r = subst (λ (y : Result Message WireFault). RepliesTo opening site h m asker limit heading y what reply audit) (sym is) r
+or_second : (a b c d : Bool) → b ≡ true → (a || b || c || d) ≡ true
+or_second true b c d is = refl
+or_second false b c d is = ap (λ x. x || c || d) is
 
-  pub other-replies : (x : Message) (reply audit : List ℕ) → request_of x ≡ None → may_change x ≡ false → reply ≡ [] → audit ≡ [] → RepliesTo opening site h m asker limit heading (Ok x) sent.Silence reply audit
-  other-replies x reply audit none still r a = record { told = silence; is = other-told x none still; tells = silence-tells reply audit r a }
+-- an address is not empty
+nobody-answered : (own : ℕ) → has_answered own [] ≡ false
+nobody-answered own =
+    elim (decimal (own / 16777216)) as (λ d. (bytes_eq [] (d ++ 46 ∷ decimal (own / 65536 % 256) ++ 46 ∷ decimal (own / 256 % 256) ++ 46 ∷ decimal (own % 256)) || false) ≡ false) [ [] ↦ refl | x ∷ xs ↦ refl ]
 
-  request-is : (x : Message) (header : Header) (q : ServiceRequest) → request_of x ≡ Some (header, q) → x ≡ message.ServiceRequest header q
-  request-is (message.ServiceRequest g p) header q is = let e : (g, p) ≡ (header, q) = same_Some (g, p) (header, q) is in ap (λ (y : Header × ServiceRequest). message.ServiceRequest y.0 y.1) e
-  request-is (message.Registration g r) header q is = absurd (none-some _ is)
-  request-is (message.ServiceReply g r) header q is = absurd (none-some _ is)
-  request-is (message.Acknowledgement g code) header q is = absurd (none-some _ is)
-  request-is (message.Withdrawal g w) header q is = absurd (none-some _ is)
-  request-is (message.AttributeRequest g p) header q is = absurd (none-some _ is)
-  request-is (message.AttributeReply g r) header q is = absurd (none-some _ is)
-  request-is (message.DirectoryAdvert g a) header q is = absurd (none-some _ is)
-  request-is (message.TypeRequest g p) header q is = absurd (none-some _ is)
-  request-is (message.TypeReply g r) header q is = absurd (none-some _ is)
-  request-is (message.ServiceAdvert g a) header q is = absurd (none-some _ is)
+either : (b : Bool) → cond b (Settled silence) (Settled silence) ≡ Settled silence
+either true = refl
+either false = refl
 
-  pub request-replies : (x : Message) (header : Header) (q : ServiceRequest) (what : Sent) (reply audit : List ℕ) → request_of x ≡ Some (header, q)
-      → (t : Told) × IsFoundOf opening site h m asker limit header q t × Tells t what reply audit → RepliesTo opening site h m asker limit heading (Ok x) what reply audit
-  request-replies x header q what reply audit some found = record {
-    told = found.0;
-    is = subst (λ (y : Message). IsTold opening site h m asker limit heading (Ok y) found.0 h) (sym (request-is x header q some)) (request-told header q found.0 found.1);
-    tells = found.2;
-  }
+module _ (site : Place) (own : ℕ) (head : Heading) (header : Header) (request : ServiceRequest) where
+  -- what names responders is silent so far, whoever they are
+  asked-by : (responders : List ℕ) → request.responders ≡ responders
+      → cond (has_answered own request.responders) (Settled silence) (sense_asked site head (question_of header request)) ≡ sense_asked site head (question_of header request)
+  asked-by [] is = ap (λ b. cond b (Settled silence) (sense_asked site head (question_of header request))) (ap (has_answered own) is ∙ nobody-answered own)
+  asked-by (x ∷ xs) is =
+      let some : not (length request.responders == 0) ≡ true = ap (λ (rs : List ℕ). not (length rs == 0)) is ∙ ap not (positive (suc (length xs)) (omega arith)) in
+      let silent : question_of header request ≡ Silent =
+      ap (λ b. cond b Silent (asked_as header (result_ok (type_of request.kind)) (result_ok (scopes_of request.scopes))))
+      (or_second header.flags.multicast (not (length request.responders == 0)) (not (is_blank request.predicate)) (is_agent (result_ok (type_of request.kind))) some) in
+      ap (λ (q : Question). cond (has_answered own request.responders) (Settled silence) (sense_asked site head q)) silent
+      ∙ either (has_answered own request.responders)
+      ∙ sym (ap (sense_asked site head) silent)
+
+module _ (o : Opening) (h : History) (c : Call) (head : Heading) where
+  -- what comes of a service request is what comes of its question
+  pub question-answer : (x : Message) (header : Header) (request : ServiceRequest) (q : Question) (r : Outcome) → request_of x ≡ Some (header, request) → question_of header request ≡ q
+      → IsAnswerTo o h c (sense_asked o.site head q) r None → IsAnswerTo o h c (sense_read o.site c.own head (Ok x)) r None
+  question-answer x header request q r some asks answer =
+      subst (λ (y : Message). IsAnswerTo o h c (sense_read o.site c.own head (Ok y)) r None) (sym (request-is x header request some))
+      (subst (λ (s : Sense). IsAnswerTo o h c s r None) (sym (asked-by o.site c.own head header request request.responders refl ∙ ap (sense_asked o.site head) asks)) answer)
+
+  -- services that were found where a scope is supported
+  pub found-answer : (query : ServiceQuery) (r : Outcome) → list_any (supports o.site) query.scopes ≡ true
+      → IsListed (IsOpenNow o h c.moment c.asker query.scopes) (now h c.moment) c.limit head query r → IsAnswerTo o h c (sense_asked o.site head (Asks query)) r None
+  found-answer query r supported listed =
+      subst (λ b. IsAnswerTo o h c (cond b (Lists head query) (Settled (coded head 4 (by_step decider.Scope (Some query.kind))))) r None) (sym supported) (listed, refl)
+
+  pub listed-answer : (rs : SiteRules) (query : ServiceQuery) (all items : List UrlEntry) (is_cut : Bool) (room : Room) (what : Sent) (reply line : List ℕ) → room.bytes + 18 + length head.language ≡ c.limit → room.each ≡ 6
+      → list_any (supports o.site) query.scopes ≡ true → AreServices o h c.moment c.asker query all → IsFront room all items is_cut
+      → Tells rs c.asker (Some head) (outcome (sent_of head 0 (length items == 0 && not is_cut) (plain (listed_with head is_cut items))) 0 (by_step decider.Nobody (Some query.kind))) what reply line
+      → (r : Outcome) × IsAnswerTo o h c (sense_asked o.site head (Asks query)) r None × Tells rs c.asker (Some head) r what reply line
+  listed-answer rs query all items is_cut room what reply line whole six supported are front tells =
+      let sending = plain (listed_with head is_cut items) in
+      let told : Bool → Outcome = λ b. outcome (sent_of head 0 b sending) 0 (by_step decider.Nobody (Some query.kind)) in (
+        told (length items == 0 && not is_cut),
+        found-answer query (told (length items == 0 && not is_cut)) supported (record {
+          items = all;
+          are = are;
+          whole = sending;
+          cut = front-cut head room all items is_cut c.limit whole six front;
+          sent = ap told (front-empty head room all items is_cut c.limit whole six front);
+        }),
+        tells,
+      )
+
+  pub unsupported-answer : (query : ServiceQuery) → list_any (supports o.site) query.scopes ≡ false
+      → IsAnswerTo o h c (sense_asked o.site head (Asks query)) (coded head 4 (by_step decider.Scope (Some query.kind))) None
+  unsupported-answer query none =
+      let it = coded head 4 (by_step decider.Scope (Some query.kind)) in
+      subst (λ b. IsAnswerTo o h c (cond b (Lists head query) (Settled it)) it None) (sym none) (refl, refl)
 
 -- ---- changes
 
-module _ (opening : List AnyRule) (site : Place) (h : History) (m asker : ℕ) (heading : Option Heading) where
-  pub unread-acknowledges : (read : Result Message WireFault) (e : WireFault) (rs : List AnyRule) (what : Sent) (reply audit : List ℕ) → read ≡ Err e → rs ≡ rules opening h
-      → Tells (faulted rs asker heading e) what reply audit → AcknowledgesTo opening site h m asker heading read what None reply audit
-  unread-acknowledges read e rs what reply audit is ruled t = record {
-    told = faulted (rules opening h) asker heading e;
-    after = h;
-    is = λ limit. subst (λ (x : Result Message WireFault). IsTold opening site h m asker limit heading x (faulted (rules opening h) asker heading e) h) (sym is) (unread-told opening site h m asker limit heading e);
-    tells = subst (λ (r : List AnyRule). Tells (faulted r asker heading e) what reply audit) ruled t;
-    changed = refl;
+module _ (o : Opening) (h : History) (m asker : ℕ) (head : Heading) (x : Message) (rs : SiteRules) (what : Sent) (reply line : List ℕ) where
+  -- what was judged, and told of it
+  abbrev pub IsTold : Option Change → Type 0
+  IsTold change = (v : Judgement) × IsVerdict o h m asker x v × Tells rs asker (Some head) (acknowledged head v) what reply line × HandsOut o h change (change_in v)
+
+  pub accepted-told : (j : Judged) (change : Change) (because : Because) → IsMessage x → IsLegal o h
+      → (v : Judgement) × IsVerdict o h m asker x v × IsJudgedAs h j v → j ≡ judged.Accept change because → Tells rs asker (Some head) (coded head 0 because) what reply line → IsTold (Some change)
+  accepted-told j change because sound legal verdict accepted tells =
+      let stands = subst (λ (k : Judged). IsJudgedAs h k verdict.0) accepted verdict.2 in (
+        verdict.0,
+        verdict.1,
+        subst (λ (u : Judgement). Tells rs asker (Some head) (acknowledged head u) what reply line) (sym stands.1) tells,
+        (stands.0, ap change_in stands.1, stands.2, subst (λ (u : Judgement). IsLegal o (followed (change_in u) h)) stands.1 (legal_next o h m asker x verdict.0 legal sound verdict.1)),
+      )
+
+  pub told-acknowledges : (bytes : List ℕ) (change : Option Change) → rs ≡ rules o.rules h → heading_of bytes ≡ Some head → reading bytes ≡ Ok x → IsChange x → IsTold change
+      → Acknowledges o h m asker bytes what change reply line
+  told-acknowledges bytes change ruled is read asks told = record {
+    outcome = acknowledged head told.0;
+    event = change_in told.0;
+    is = λ own limit.
+        let c : Call = record { own = own; moment = m; asker = asker; bytes = bytes; limit = limit } in
+        headed-answer o h c (Some head) (Ok x) (acknowledged head told.0) (change_in told.0) is read (change-answer o h c head x told.0 asks told.1);
+    told = ruled-tells rs (rules o.rules h) asker (Some head) (heading_of bytes) (acknowledged head told.0) what reply line ruled (sym is) told.2;
+    handed = told.3;
   }
 
-  pub read-acknowledges : (read : Result Message WireFault) (x : Message) (what : Sent) (change : Option Change) (reply audit : List ℕ) → read ≡ Ok x → AcknowledgesTo opening site h m asker heading (Ok x) what change reply audit → AcknowledgesTo opening site h m asker heading read what change reply audit
-  read-acknowledges read x what change reply audit is a = subst (λ (y : Result Message WireFault). AcknowledgesTo opening site h m asker heading y what change reply audit) (sym is) a
+pub fault-acknowledges : (o : Opening) (h : History) (m asker : ℕ) (bytes : List ℕ) (head : Heading) (e : WireFault) (rs : SiteRules) (what : Sent) (reply line : List ℕ) → rs ≡ rules o.rules h → heading_of bytes ≡ Some head → reading bytes ≡ Err e
+    → Tells rs asker (Some head) (faulted head e) what reply line → Acknowledges o h m asker bytes what None reply line
+fault-acknowledges o h m asker bytes head e rs what reply line ruled is read tells = record {
+  outcome = faulted head e;
+  event = None;
+  is = λ own limit. fault-answer o h (record { own = own; moment = m; asker = asker; bytes = bytes; limit = limit }) head e is read;
+  told = ruled-tells rs (rules o.rules h) asker (Some head) (heading_of bytes) (faulted head e) what reply line ruled (sym is) tells;
+  handed = refl;
+}
 
-  judged-told : (limit : ℕ) (x : Message) (v w : Judgement) → IsChange x → IsVerdict opening site h m asker x v → v ≡ w → IsTold opening site h m asker limit heading (Ok x) (acknowledged (rules opening h) asker (action_asked x) (header_of x) w) (next h w)
-  judged-told limit x v w is verdict same = subst (λ (u : Judgement). IsTold opening site h m asker limit heading (Ok x) (acknowledged (rules opening h) asker (action_asked x) (header_of x) u) (next h u)) same (change-told opening site h m asker limit heading x v is verdict)
+pub unheaded-acknowledges : (o : Opening) (h : History) (m asker : ℕ) (bytes reply line : List ℕ) → heading_of bytes ≡ None → reply ≡ [] → line ≡ [] → Acknowledges o h m asker bytes sent.Silence None reply line
+unheaded-acknowledges o h m asker bytes reply line none r l = record {
+  outcome = silence;
+  event = None;
+  is = λ own limit. unheaded-answer o h (record { own = own; moment = m; asker = asker; bytes = bytes; limit = limit }) none;
+  told = silence-tells (rules o.rules h) asker (heading_of bytes) reply line r l;
+  handed = refl;
+}
 
-  telling-tells : (rs : List AnyRule) (x : Message) (action : Action) (header : Header) (code : ℕ) (because : Because) (what : Sent) (reply audit : List ℕ) → rs ≡ rules opening h → action ≡ action_asked x → header ≡ header_of x
-      → Tells (telling rs (audit_of asker action code because) (coded 5 header code)) what reply audit → Tells (telling (rules opening h) (audit_of asker (action_asked x) code because) (coded 5 (header_of x) code)) what reply audit
-  telling-tells rs x action header code because what reply audit ruled asked same t =
-      subst (λ (g : Header). Tells (telling (rules opening h) (audit_of asker (action_asked x) code because) (coded 5 g code)) what reply audit) same
-      (subst (λ (a : Action). Tells (telling (rules opening h) (audit_of asker a code because) (coded 5 header code)) what reply audit) asked
-      (subst (λ (r : List AnyRule). Tells (telling r (audit_of asker action code because) (coded 5 header code)) what reply audit) ruled t))
+-- ---- replies
 
-  pub accept-acknowledges : (x : Message) (j : Judged) (change : Change) (because : Because) (rs : List AnyRule) (action : Action) (header : Header) (what : Sent) (reply audit : List ℕ) → IsChange x → IsMessage x → IsLegal opening site h
-      → (v : Judgement) × IsVerdict opening site h m asker x v × IsJudgedAs h j v → j ≡ judged.Accept change because → rs ≡ rules opening h → action ≡ action_asked x → header ≡ header_of x
-      → Tells (telling rs (audit_of asker action 0 because) (coded 5 header 0)) what reply audit → AcknowledgesTo opening site h m asker heading (Ok x) what (Some change) reply audit
-  accept-acknowledges x j change because rs action header what reply audit is sound legal verdict accepted ruled asked same t =
-      let stands = subst (λ (k : Judged). IsJudgedAs h k verdict.0) accepted verdict.2 in
-      record {
-        told = telling (rules opening h) (audit_of asker (action_asked x) 0 because) (coded 5 (header_of x) 0);
-        after = stands.0 ∷ h;
-        is = λ limit. judged-told limit x verdict.0 (Accepts stands.0 because) is verdict.1 stands.1;
-        tells = telling-tells rs x action header 0 because what reply audit ruled asked same t;
-        changed = (stands.0, refl, stands.2, subst (λ (u : Judgement). IsLegal opening site (next h u)) stands.1 (legal_next opening site h m asker x verdict.0 legal sound verdict.1));
-      }
+module _ (o : Opening) (h : History) (c : Call) (what : Sent) (reply line : List ℕ) where
+  pub answered-replies : (head : Heading) (x : Message) (rs : SiteRules) → rs ≡ rules o.rules h → heading_of c.bytes ≡ Some head → reading c.bytes ≡ Ok x
+      → (r : Outcome) × IsAnswerTo o h c (sense_read o.site c.own head (Ok x)) r None × Tells rs c.asker (Some head) r what reply line → Replies o h c what reply line
+  answered-replies head x rs ruled is read told = record {
+    outcome = told.0;
+    is = headed-answer o h c (Some head) (Ok x) told.0 None is read told.1;
+    told = ruled-tells rs (rules o.rules h) c.asker (Some head) (heading_of c.bytes) told.0 what reply line ruled (sym is) told.2;
+  }
 
-  pub deny-acknowledges : (x : Message) (j : Judged) (code : ℕ) (because : Because) (rs : List AnyRule) (action : Action) (header : Header) (what : Sent) (reply audit : List ℕ) → IsChange x
-      → (v : Judgement) × IsVerdict opening site h m asker x v × IsJudgedAs h j v → j ≡ judged.Deny code because → rs ≡ rules opening h → action ≡ action_asked x → header ≡ header_of x
-      → Tells (telling rs (audit_of asker action code because) (coded 5 header code)) what reply audit → AcknowledgesTo opening site h m asker heading (Ok x) what None reply audit
-  deny-acknowledges x j code because rs action header what reply audit is verdict denied ruled asked same t =
-      let stands = subst (λ (k : Judged). IsJudgedAs h k verdict.0) denied verdict.2 in
-      record {
-        told = telling (rules opening h) (audit_of asker (action_asked x) code because) (coded 5 (header_of x) code);
-        after = h;
-        is = λ limit. judged-told limit x verdict.0 (Denies code because) is verdict.1 stands;
-        tells = telling-tells rs x action header code because what reply audit ruled asked same t;
-        changed = refl;
-      }
+  pub fault-replies : (head : Heading) (e : WireFault) (rs : SiteRules) → rs ≡ rules o.rules h → heading_of c.bytes ≡ Some head → reading c.bytes ≡ Err e → Tells rs c.asker (Some head) (faulted head e) what reply line → Replies o h c what reply line
+  fault-replies head e rs ruled is read tells = record {
+    outcome = faulted head e;
+    is = fault-answer o h c head e is read;
+    told = ruled-tells rs (rules o.rules h) c.asker (Some head) (heading_of c.bytes) (faulted head e) what reply line ruled (sym is) tells;
+  }
 
-  pub nothing-acknowledges : (x : Message) (j : Judged) (rs : List AnyRule) (action : Action) (header : Header) (what : Sent) (reply audit : List ℕ) → IsChange x
-      → (v : Judgement) × IsVerdict opening site h m asker x v × IsJudgedAs h j v → j ≡ judged.Nothing → rs ≡ rules opening h → action ≡ action_asked x → header ≡ header_of x
-      → Tells (telling rs (audit_of asker action 0 nobody) (coded 5 header 0)) what reply audit → AcknowledgesTo opening site h m asker heading (Ok x) what None reply audit
-  nothing-acknowledges x j rs action header what reply audit is verdict nothing ruled asked same t =
-      let stands = subst (λ (k : Judged). IsJudgedAs h k verdict.0) nothing verdict.2 in
-      record {
-        told = telling (rules opening h) (audit_of asker (action_asked x) 0 nobody) (coded 5 (header_of x) 0);
-        after = h;
-        is = λ limit. judged-told limit x verdict.0 Ignores is verdict.1 stands;
-        tells = telling-tells rs x action header 0 nobody what reply audit ruled asked same t;
-        changed = refl;
-      }
+pub unheaded-replies : (o : Opening) (h : History) (c : Call) (reply line : List ℕ) → heading_of c.bytes ≡ None → reply ≡ [] → line ≡ [] → Replies o h c sent.Silence reply line
+unheaded-replies o h c reply line none r l = record {
+  outcome = silence;
+  is = unheaded-answer o h c none;
+  told = silence-tells (rules o.rules h) c.asker (heading_of c.bytes) reply line r l;
+}
 
-  pub unjudged-acknowledges : (x : Message) (j : Judged) (reply audit : List ℕ) → IsChange x → (v : Judgement) × IsVerdict opening site h m asker x v × IsJudgedAs h j v → j ≡ judged.Unjudged → reply ≡ [] → audit ≡ []
-      → AcknowledgesTo opening site h m asker heading (Ok x) sent.Silence None reply audit
-  unjudged-acknowledges x j reply audit is verdict unjudged r a =
-      let stands = subst (λ (k : Judged). IsJudgedAs h k verdict.0) unjudged verdict.2 in
-      record {
-        told = silence;
-        after = h;
-        is = λ limit. judged-told limit x verdict.0 Waits is verdict.1 stands;
-        tells = silence-tells reply audit r a;
-        changed = refl;
-      }
+-- ---- steps
+
+pub changed-steps : (o : Opening) (h : History) (c : Call) (change : Change) (after : State) (what : Sent) (reply line : List ℕ) → Acknowledges o h c.moment c.asker c.bytes what (Some change) reply line
+    → ((event : Event) → IsLegal o (event ∷ h) → StandsFor h (content change) event → Fold o (event ∷ h) after) → Steps o h c what reply line after
+changed-steps o h c change after what reply line a folds =
+    let out = a.handed in record {
+      outcome = a.outcome;
+      event = a.event;
+      is = a.is c.own c.limit;
+      told = a.told;
+      legal = subst (λ (x : Option Event). IsLegal o (followed x h)) (sym out.1) out.3;
+      fold = subst (λ (x : Option Event). Fold o (followed x h) after) (sym out.1) (folds out.0 out.3 out.2);
+    }
+
+not-false : (b : Bool) → (b ≡ false → ⊥) → b ≡ true
+not-false true h = refl
+not-false false h = absurd (h refl)
+
+ok_err : {A E : Type 0} (x : A) (e : E) → ◌≡◌ {A = Result A E} (Ok x) (Err e) → ⊥
+ok_err x e h = cc
+
+-- what was found is not refused
+pub found-supported : {A E : Type 0} (x : A) (e : E) (b : Bool) → IsErrOf (Ok x) e ↔ (b ≡ false) → b ≡ true
+found-supported x e b h = not-false b (λ f. ok_err x e (h.1 f))

@@ -1,5 +1,3 @@
-pub mod Answering
 pub mod Auditing
-pub mod Cutting
-pub mod Refusing
-pub mod Understanding
+pub mod Listing
+pub mod Telling

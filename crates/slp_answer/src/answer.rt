@@ -1,8 +1,5 @@
-ghost use Rattle.std.specs.Prelude.{◌≡◌, ◌==◌, ◌||◌, [], vec_capacity};
-ghost use Rattle.slp_messages.specs.declared.function.TheConstants.{REGISTRATION, WITHDRAWAL};
-ghost use Rattle.slp_answer.specs.Answering.{is_change_of};
+ghost use Rattle.std.specs.Prelude.{◌≡◌, [], vec_capacity};
 
-use slp_wire::{function, read_header};
 use std::alloc::Global;
 
 /// The bytes of a reply, and those of its audit line. Either may be empty.
@@ -43,22 +40,4 @@ impl Answer {
 pub enum Sent {
     Bytes(u16),
     Silence,
-}
-
-// Whether a message of a function may change something.
-fn is_change_function(function: u8) -> bool
-    ensures { result ≡ (function == REGISTRATION || function == WITHDRAWAL) }
-{
-    function == function::REGISTRATION || function == function::WITHDRAWAL
-}
-
-/// Whether bytes ask for a change: they have a readable header of a registration or a withdrawal.
-/// Takes no memory.
-pub fn is_change(bytes: &[u8]) -> bool
-    ensures { result ≡ is_change_of bytes.now }
-{
-    match read_header(bytes) {
-        Some(header) => is_change_function(header.function),
-        None => false,
-    }
 }

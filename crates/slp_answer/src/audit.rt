@@ -1,12 +1,14 @@
-ghost use Rattle.std.specs.Prelude.{◌≡◌, ◌<◌, ◌+◌, ◌++◌, ◌∷◌, [], ◌==◌, OnOk, OnErr, length, take, codes, if◌then◌else◌};
-ghost use Rattle.std.specs.Fmt.{decimal};
-ghost use Rattle.slp_answer.specs.Auditing.{addr_text, action_text, decider_text, name_at, text_or_dash, scope_or_dash, audit_text};
+ghost use Rattle.std.specs.Prelude.{◌≡◌, [], ◌++◌, Some, OnOk, OnErr, chars, codes, encode_utf8_all, ◌==◌, if◌then◌else◌};
+ghost use Rattle.std.specs.Fmt.{WritesOnOk};
+ghost use Rattle.slp_answer.specs.Auditing.{action_text, decider_text, rule_named, text_or_dash, scope_or_dash, line_text, audit_text};
 ghost use Rattle.slp_text.specs.Escapes.{written_at, escaped};
 ghost use Rattle.slp_text.specs.declared.escapes.Place.TheVariants.{Scope};
 
 use access_rules::{Action, Addr, Rules};
 use directory_judge::{Because, Decider};
-use slp_text::{NoMemory, Place, is_reserved};
+use slp_text::{Key, NoMemory, Place, is_reserved};
+use std::fmt;
+use std::io::Write;
 
 /// What came of a message: its code, who decided and on what, what was asked for, and by whom.
 #[derive(Drop)]
@@ -28,90 +30,7 @@ pub(crate) fn action_word(action: Action) -> &'static str
     }
 }
 
-// Each function below appends, and where memory runs out the old bytes are still the front.
-
-fn put(line: &mut Vec<u8>, text: &str) -> Result<(), NoMemory>
-    ensures ok { OnOk result (line.new.items ≡ line.old.items ++ text.now) }
-    ensures kept { take (length line.old.items) line.new.items ≡ line.old.items }
-{
-    line.extend_from_slice(text.as_bytes())?;
-    Ok(())
-}
-
-fn put_digit(line: &mut Vec<u8>, digit: u8) -> Result<(), NoMemory>
-    requires { digit < 10 }
-    ensures ok { OnOk result (line.new.items ≡ line.old.items ++ (48 + digit) ∷ []) }
-    ensures kept { take (length line.old.items) line.new.items ≡ line.old.items }
-{
-    line.extend_from_slice(&[b'0' + digit])?;
-    Ok(())
-}
-
-#[tactic(auto, using(crate::proofs::Digits::one_digit, crate::proofs::Digits::more_digits))]
-fn put_number(line: &mut Vec<u8>, number: u32) -> Result<(), NoMemory>
-    ensures ok { OnOk result (line.new.items ≡ line.old.items ++ decimal number) }
-    ensures kept { take (length line.old.items) line.new.items ≡ line.old.items }
-{
-    if number < 10 {
-        return put_digit(line, number as u8);
-    }
-    put_number(line, number / 10)?;
-    put_digit(line, (number % 10) as u8)
-}
-
-fn put_rule(line: &mut Vec<u8>, rules: &Rules, place: usize) -> Result<(), NoMemory>
-    ensures ok { OnOk result (line.new.items ≡ line.old.items ++ (codes "rule:" ++ name_at rules.now place)) }
-    ensures kept { take (length line.old.items) line.new.items ≡ line.old.items }
-{
-    put(line, "rule:")?;
-    if place < rules.len() {
-        put(line, rules.name(place))?;
-    }
-    Ok(())
-}
-
-fn put_decider(line: &mut Vec<u8>, rules: &Rules, decider: Decider) -> Result<(), NoMemory>
-    ensures ok { OnOk result (line.new.items ≡ line.old.items ++ decider_text rules.now decider) }
-    ensures kept { take (length line.old.items) line.new.items ≡ line.old.items }
-{
-    match decider {
-        Decider::Rule(place) => put_rule(line, rules, place),
-        Decider::Default => put(line, "default"),
-        Decider::Nobody => put(line, "none"),
-        Decider::Memory => put(line, "memory"),
-        Decider::Version => put(line, "version"),
-        Decider::Parse => put(line, "parse"),
-        Decider::Auth => put(line, "auth"),
-        Decider::Option => put(line, "option"),
-        Decider::Scope => put(line, "scope"),
-        Decider::Language => put(line, "language"),
-        Decider::Registration => put(line, "registration"),
-        Decider::Attributes => put(line, "attributes"),
-        Decider::Update => put(line, "update"),
-        Decider::Template => put(line, "template"),
-        Decider::Full => put(line, "full"),
-    }
-}
-
-fn put_dotted(line: &mut Vec<u8>, number: u32) -> Result<(), NoMemory>
-    ensures ok { OnOk result (line.new.items ≡ line.old.items ++ (decimal number ++ 46 ∷ [])) }
-    ensures kept { take (length line.old.items) line.new.items ≡ line.old.items }
-{
-    put_number(line, number)?;
-    put(line, ".")
-}
-
-fn put_addr(line: &mut Vec<u8>, addr: Addr) -> Result<(), NoMemory>
-    ensures ok { OnOk result (line.new.items ≡ line.old.items ++ addr_text addr) }
-    ensures kept { take (length line.old.items) line.new.items ≡ line.old.items }
-{
-    let number = addr.0;
-    put_dotted(line, number / 16_777_216)?;
-    put_dotted(line, number / 65_536 % 256)?;
-    put_dotted(line, number / 256 % 256)?;
-    put_number(line, number % 256)
-}
-
+// How the line of a code begins.
 fn verdict(code: u16) -> &'static str
     ensures { result.now ≡ (if code == 0 then codes "# allow code=" else codes "# deny code=") }
 {
@@ -122,92 +41,151 @@ fn verdict(code: u16) -> &'static str
     }
 }
 
-fn put_verdict(line: &mut Vec<u8>, code: u16) -> Result<(), NoMemory>
-    ensures ok { OnOk result (line.new.items ≡ line.old.items ++ ((if code == 0 then codes "# allow code=" else codes "# deny code=") ++ decimal code)) }
-    ensures kept { take (length line.old.items) line.new.items ≡ line.old.items }
-{
-    put(line, verdict(code))?;
-    put_number(line, u32::from(code))
-}
-
-fn put_deed(line: &mut Vec<u8>, action: Action, asker: Addr) -> Result<(), NoMemory>
-    ensures ok { OnOk result (line.new.items ≡ line.old.items ++ (codes " action=" ++ action_text action ++ codes " asker=" ++ addr_text asker)) }
-    ensures kept { take (length line.old.items) line.new.items ≡ line.old.items }
-{
-    put(line, " action=")?;
-    put(line, action_word(action))?;
-    put(line, " asker=")?;
-    put_addr(line, asker)
-}
-
-fn put_kind(line: &mut Vec<u8>, because: &Because) -> Result<(), NoMemory>
-    ensures ok { OnOk result (line.new.items ≡ line.old.items ++ text_or_dash because.now.kind) }
-    ensures kept { take (length line.old.items) line.new.items ≡ line.old.items }
+// The type that was asked for, or a dash.
+fn kind_text(because: &Because) -> &str
+    ensures { result.now ≡ text_or_dash because.now.kind }
 {
     match &because.kind {
-        Some(kind) => put(line, kind.text()),
-        None => put(line, "-"),
+        Some(kind) => kind.text(),
+        None => "-",
     }
 }
 
-// A byte of a scope, as it is written in lists of scopes.
-fn put_byte(line: &mut Vec<u8>, byte: u8) -> Result<(), NoMemory>
-    ensures ok { OnOk result (line.new.items ≡ line.old.items ++ written_at Scope byte) }
-    ensures kept { take (length line.old.items) line.new.items ≡ line.old.items }
+// The name of the rule that decided, or nothing.
+fn rule_name(rules: &Rules, decider: Decider) -> &str
+    ensures { result.now ≡ rule_named rules.now decider }
 {
-    if is_reserved(Place::Scope, char::from(byte)) {
-        let digits = b"0123456789ABCDEF";
-        line.extend_from_slice(&[
-            b'\\',
-            digits[usize::from(byte / 16)],
-            digits[usize::from(byte % 16)],
-        ])?;
-    } else {
-        line.extend_from_slice(&[byte])?;
+    match decider {
+        Decider::Rule(place) => {
+            if place < rules.len() {
+                rules.name(place)
+            } else {
+                ""
+            }
+        }
+        _ => "",
+    }
+}
+
+// Who decided, with the name of the rule.
+#[derive(Clone, Copy)]
+struct By<'a> {
+    rule: &'a str,
+    decider: Decider,
+}
+
+impl fmt::Display for By<'_> {
+    ghost output = { λ b. Some (decider_text b.rule.now b.decider) };
+
+    fn fmt<W: fmt::Write>(&self, f: &mut fmt::Formatter<W>) -> fmt::Result {
+        let rule = self.rule;
+        match self.decider {
+            Decider::Rule(_) => write!(f, "rule:{rule}"),
+            Decider::Default => f.write_str("default"),
+            Decider::Nobody => f.write_str("none"),
+            Decider::Memory => f.write_str("memory"),
+            Decider::Version => f.write_str("version"),
+            Decider::Parse => f.write_str("parse"),
+            Decider::Auth => f.write_str("auth"),
+            Decider::Option => f.write_str("option"),
+            Decider::Scope => f.write_str("scope"),
+            Decider::Language => f.write_str("language"),
+            Decider::Registration => f.write_str("registration"),
+            Decider::Attributes => f.write_str("attributes"),
+            Decider::Update => f.write_str("update"),
+            Decider::Template => f.write_str("template"),
+            Decider::Full => f.write_str("full"),
+        }
+    }
+}
+
+// A character of a scope, as it is written in lists of scopes.
+#[derive(Clone, Copy)]
+struct Written(char);
+
+impl fmt::Display for Written {
+    ghost output = { λ w. Some (encode_utf8_all (written_at Scope w.0)) };
+
+    fn fmt<W: fmt::Write>(&self, f: &mut fmt::Formatter<W>) -> fmt::Result {
+        if is_reserved(Place::Scope, self.0) {
+            let number = self.0 as u8;
+            write!(f, "\\{number:02X}")
+        } else {
+            f.write_char(self.0)
+        }
+    }
+}
+
+// Writes a scope with its escapes.
+fn write_escaped<W: fmt::Write>(scope: &str, f: &mut fmt::Formatter<W>) -> fmt::Result
+    ensures { WritesOnOk W.write_str_gives f.old result (encode_utf8_all (escaped Scope (chars scope.now))) f.new }
+{
+    for c in scope.chars() {
+        let written = Written(c);
+        write!(f, "{written}")?;
     }
     Ok(())
 }
 
-fn put_escaped(line: &mut Vec<u8>, scope: &[u8]) -> Result<(), NoMemory>
-    ensures ok { OnOk result (line.new.items ≡ line.old.items ++ escaped Scope scope.now) }
-    ensures kept { take (length line.old.items) line.new.items ≡ line.old.items }
-{
-    for byte in scope {
-        put_byte(line, *byte)?;
-    }
-    Ok(())
-}
+// A scope with its escapes, or a dash.
+#[derive(Clone, Copy)]
+struct Within<'a>(&'a Option<Key>);
 
-fn put_scope(line: &mut Vec<u8>, because: &Because) -> Result<(), NoMemory>
-    ensures ok { OnOk result (line.new.items ≡ line.old.items ++ scope_or_dash because.now.scope) }
-    ensures kept { take (length line.old.items) line.new.items ≡ line.old.items }
-{
-    match &because.scope {
-        Some(scope) => put_escaped(line, scope.as_str().as_bytes()),
-        None => put(line, "-"),
+impl fmt::Display for Within<'_> {
+    ghost output = { λ w. Some (scope_or_dash w.0.now) };
+
+    fn fmt<W: fmt::Write>(&self, f: &mut fmt::Formatter<W>) -> fmt::Result {
+        match self.0 {
+            Some(scope) => write_escaped(scope.as_str(), f),
+            None => f.write_str("-"),
+        }
     }
 }
 
-fn put_parts(line: &mut Vec<u8>, because: &Because) -> Result<(), NoMemory>
-    ensures ok { OnOk result (line.new.items ≡ line.old.items ++ (codes " type=" ++ text_or_dash because.now.kind ++ codes " scope=" ++ scope_or_dash because.now.scope ++ 10 ∷ [])) }
-    ensures kept { take (length line.old.items) line.new.items ≡ line.old.items }
-{
-    put(line, " type=")?;
-    put_kind(line, because)?;
-    put(line, " scope=")?;
-    put_scope(line, because)?;
-    put(line, "\n")
+// The line of an audit, with the name of the rule that decided.
+#[derive(Clone, Copy)]
+struct Line<'a> {
+    rule: &'a str,
+    audit: &'a Audit,
 }
 
-fn put_line(line: &mut Vec<u8>, rules: &Rules, audit: &Audit) -> Result<(), NoMemory>
-    ensures ok { OnOk result (line.new.items ≡ line.old.items ++ audit_text rules.now audit.now) }
-    ensures kept { take (length line.old.items) line.new.items ≡ line.old.items }
+impl fmt::Display for Line<'_> {
+    ghost output = { λ l. Some (line_text l.rule.now l.audit.now) };
+
+    fn fmt<W: fmt::Write>(&self, f: &mut fmt::Formatter<W>) -> fmt::Result {
+        let Audit {
+            code,
+            because,
+            action,
+            asker,
+        } = self.audit;
+        let (verdict, action) = (verdict(*code), action_word(*action));
+        let by = By {
+            rule: self.rule,
+            decider: because.decider,
+        };
+        let (kind, scope) = (kind_text(because), Within(&because.scope));
+        write!(f, "{verdict}{code} by={by}")?;
+        write!(f, " action={action} asker={asker}")?;
+        write!(f, " type={kind} scope={scope}\n")
+    }
+}
+
+/// Writes the line that tells what came of a message. A refusal leaves nothing.
+pub(crate) fn put_line(rules: &Rules, audit: &Audit, line: &mut Vec<u8>) -> Result<(), NoMemory>
+    requires { line.old.items ≡ [] }
+    ensures ok { OnOk result (line.new.items ≡ audit_text rules.now audit.now) }
+    ensures err { OnErr result (line.new.items ≡ []) }
 {
-    put_verdict(line, audit.code)?;
-    put(line, " by=")?;
-    put_decider(line, rules, audit.because.decider)?;
-    put_deed(line, audit.action, audit.asker)?;
-    put_parts(line, &audit.because)
+    let rule = rule_name(rules, audit.because.decider);
+    let told = Line { rule, audit };
+    match write!(line, "{told}") {
+        Ok(()) => Ok(()),
+        Err(_) => {
+            line.clear();
+            Err(NoMemory)
+        }
+    }
 }
 
 /// Appends the line that tells what came of a message. A refusal leaves the bytes as they were.
@@ -215,12 +193,8 @@ pub fn audit_line(rules: &Rules, audit: &Audit, line: &mut Vec<u8>) -> Result<()
     ensures ok { OnOk result (line.new.items ≡ line.old.items ++ audit_text rules.now audit.now) }
     ensures err { OnErr result (line.new.items ≡ line.old.items) }
 {
-    let begin = line.len();
-    match put_line(line, rules, audit) {
-        Ok(()) => Ok(()),
-        Err(fault) => {
-            line.truncate(begin);
-            Err(fault)
-        }
-    }
+    let mut whole = Vec::new(*line.allocator());
+    put_line(rules, audit, &mut whole)?;
+    line.extend_from_slice(&whole)?;
+    Ok(())
 }

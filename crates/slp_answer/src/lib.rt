@@ -1,19 +1,19 @@
 //! What is answered to a message: the bytes of the reply, and the line that tells of it.
 #![tactic(auto)]
 
-mod acknowledging;
+mod acknowledgements;
 mod answer;
-mod asking;
 mod audit;
-mod cutting;
-mod faulting;
-mod refusing;
-mod replying;
-mod sending;
-mod understanding;
+mod coded;
+mod listing;
+mod refusals;
+mod replies;
+mod steps;
 
-pub use acknowledging::acknowledge;
-pub use answer::{Answer, Sent, is_change};
+pub use acknowledgements::acknowledge;
+pub use answer::{Answer, Sent};
 pub use audit::{Audit, audit_line};
-pub use refusing::refusal;
-pub use replying::reply;
+pub use directory_answers::{Call, is_change};
+pub use refusals::refusal;
+pub use replies::reply;
+pub use steps::step;

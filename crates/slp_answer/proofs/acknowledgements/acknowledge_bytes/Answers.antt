@@ -1,0 +1,33 @@
+use Rattle.std.proofs.Common.{subst, sym, ◌∙◌}
+use Rattle.std.specs.Prelude.{MatchResult}
+use Rattle.std.proofs.lemmas.Result.{IfOk-weaker}
+use Rattle.slp_headers.specs.Headers.{heading}
+use Rattle.directory_answers.specs.Readings.{IsRead, IsUnread}
+use Rattle.slp_answer.proofs.Tellings.{may-change, told-acknowledges, fault-acknowledges, unheaded-acknowledges}
+use Rattle.slp_answer.proofs.acknowledgements.acknowledge_bytes.Goals as goal
+
+pub acknowledge_message-told-requires-clause-change : goal.acknowledge_message-told-requires-clause-change
+acknowledge_message-told-requires-clause-change g c =
+    let bytes = c.args.call.now.bytes.now in
+    let read : IsRead bytes c.in-Ok.message = subst (λ r. MatchResult r (IsRead bytes) (IsUnread bytes)) c.in-Ok.is c.in_ok-message.ensures in
+    may-change c.in-Ok.message (sym read.change ∙ c.requires.change)
+
+pub returns-in_default : goal.returns-in_default
+returns-in_default g c = λ o h fold legal.
+    unheaded-acknowledges o h c.args.call.now.moment c.args.call.now.asker c.args.call.now.bytes.now c.args.answer.now.bytes.items c.args.answer.now.audit.items c.in_default.ensures c.requires.no_reply c.requires.no_line
+
+pub returns-in-Ok : goal.returns-in-Ok
+returns-in-Ok g c = λ o h fold legal.
+    let bytes = c.args.call.now.bytes.now in
+    let read : IsRead bytes c.in-Ok.message = subst (λ r. MatchResult r (IsRead bytes) (IsUnread bytes)) c.in-Ok.is c.in_ok-message.ensures in
+    IfOk-weaker c.acknowledge_message-told.result _ _
+    (λ p told. told-acknowledges o h c.args.call.now.moment c.args.call.now.asker (heading c.in-Some.header) c.in-Ok.message c.args.directory.now.rules
+    p.0 c.acknowledge_message-told.new.answer.bytes.items c.acknowledge_message-told.new.answer.audit.items bytes p.1 fold.ruled c.in-Some.ensures read.read (may-change c.in-Ok.message (sym read.change ∙ c.requires.change)) told)
+    (c.acknowledge_message-told.ensures o h fold legal)
+
+pub returns-in_ok-sent-in-Err : goal.returns-in_ok-sent-in-Err
+returns-in_ok-sent-in-Err g c = λ o h fold legal.
+    let bytes = c.args.call.now.bytes.now in
+    let unread : IsUnread bytes c.in-Err.fault = subst (λ r. MatchResult r (IsRead bytes) (IsUnread bytes)) c.in-Err.is c.in_ok-message.ensures in
+    fault-acknowledges o h c.args.call.now.moment c.args.call.now.asker bytes (heading c.in-Some.header) c.in-Err.fault c.rules.result.now c.in_ok-sent-in-Err.sent c.answer_fault.new.answer.bytes.items c.answer_fault.new.answer.audit.items
+    (c.rules.ensures ∙ fold.ruled) c.in-Some.ensures unread c.in_ok-sent-in-Err.ensures

@@ -1,0 +1,128 @@
+ghost use Rattle.std.specs.Prelude.{◌≡◌, [], true, IfOk, OnErr, Some, None};
+ghost use Rattle.slp_headers.specs.Headers.{heading};
+ghost use Rattle.slp_messages.specs.Messages.{IsMessage};
+ghost use Rattle.directory_judge.specs.History.{History};
+ghost use Rattle.directory_judge.specs.Judging.{IsChange, Judgement};
+ghost use Rattle.directory_answers.specs.Answering.{is_change_of};
+ghost use Rattle.directory_answers.specs.Calls.{Opening};
+ghost use Rattle.directory_answers.specs.Outcomes.{acknowledged};
+ghost use Rattle.directory_answers.specs.Verdicts.{IsLegal, IsVerdict, change_in};
+ghost use Rattle.directory_state.specs.Folding.{Fold, HandsOut};
+ghost use Rattle.slp_answer.specs.Telling.{Tells, Acknowledges};
+
+use crate::answer::{Answer, Sent};
+use crate::coded::{Finding, answer_code, answer_fault};
+use access_rules::Addr;
+use directory_answers::{Call, understood};
+use directory_judge::{Change, Decider, Judged};
+use directory_state::Directory;
+use registry_core::Registry;
+use slp_text::NoMemory;
+use slp_wire::{HeaderView, Message, code, read_header};
+use std::alloc::Global;
+
+// Judges a message, and acknowledges what comes of it.
+fn acknowledge_message<R: Registry>(
+    alloc: Global,
+    directory: &Directory<R>,
+    call: &Call<'_>,
+    header: &HeaderView<'_>,
+    message: &Message,
+    answer: &mut Answer,
+) -> Result<(Sent, Option<Change>), NoMemory>
+    requires change { IsChange message.now }
+    requires sound { IsMessage message.now }
+    requires no_reply { answer.old.bytes.items ≡ [] }
+    requires no_line { answer.old.audit.items ≡ [] }
+    ensures { (o : Opening) (h : History) → Fold o h directory.now → IsLegal o h
+        → IfOk result (λ p. (v : Judgement) × IsVerdict o h call.now.moment call.now.asker message.now v
+        × Tells directory.now.rules call.now.asker (Some (heading header.now)) (acknowledged (heading header.now) v) p.0 answer.new.bytes.items answer.new.audit.items
+        × HandsOut o h p.1 (change_in v)) }
+{
+    let (rules, asker) = (directory.rules(), call.asker);
+    let judged = directory.judge(alloc, call.moment, asker, message)?;
+    match judged {
+        Judged::Accept(change, because) => {
+            let code = code::OK;
+            match answer_code(rules, asker, header, Finding { code, because }, answer) {
+                Ok(sent) => Ok((sent, Some(change))),
+                Err(fault) => {
+                    drop(change);
+                    Err(fault)
+                }
+            }
+        }
+        Judged::Nothing => {
+            let finding = Finding::by(Decider::Nobody, None);
+            let sent = answer_code(rules, asker, header, finding, answer)?;
+            Ok((sent, None))
+        }
+        Judged::Unjudged => Ok((Sent::Silence, None)),
+        Judged::Deny(code, because) => {
+            let sent = answer_code(rules, asker, header, Finding { code, because }, answer)?;
+            Ok((sent, None))
+        }
+    }
+}
+
+fn acknowledge_bytes<R: Registry>(
+    alloc: Global,
+    directory: &Directory<R>,
+    call: &Call<'_>,
+    answer: &mut Answer,
+) -> Result<(Sent, Option<Change>), NoMemory>
+    requires change { is_change_of call.now.bytes.now ≡ true }
+    requires no_reply { answer.old.bytes.items ≡ [] }
+    requires no_line { answer.old.audit.items ≡ [] }
+    ensures { (o : Opening) (h : History) → Fold o h directory.now → IsLegal o h
+        → IfOk result (λ p. Acknowledges o h call.now.moment call.now.asker call.now.bytes.now p.0 p.1 answer.new.bytes.items answer.new.audit.items) }
+{
+    let Some(header) = read_header(call.bytes) else {
+        return Ok((Sent::Silence, None));
+    };
+    match understood(alloc, call.bytes)? {
+        Ok(message) => {
+            let told = acknowledge_message(alloc, directory, call, &header, &message, answer);
+            drop(message);
+            told
+        }
+        Err(fault) => {
+            let sent = answer_fault(directory.rules(), call.asker, &header, fault, answer)?;
+            Ok((sent, None))
+        }
+    }
+}
+
+/// Acknowledges bytes that ask for a change, and hands out the change where one is accepted. It is
+/// not made yet. After `NoMemory` the answer is empty.
+pub fn acknowledge<R: Registry>(
+    alloc: Global,
+    directory: &Directory<R>,
+    moment: u32,
+    asker: Addr,
+    bytes: &[u8],
+    answer: &mut Answer,
+) -> Result<(Sent, Option<Change>), NoMemory>
+    requires { is_change_of bytes.now ≡ true }
+    ensures told { (o : Opening) (h : History) → Fold o h directory.now → IsLegal o h
+        → IfOk result (λ p. Acknowledges o h moment asker bytes.now p.0 p.1 answer.new.bytes.items answer.new.audit.items) }
+    ensures no_reply { OnErr result (answer.new.bytes.items ≡ []) }
+    ensures no_line { OnErr result (answer.new.audit.items ≡ []) }
+{
+    // An acknowledgement is the same at whatever address, and fits everywhere.
+    let call = Call {
+        own: Addr(0),
+        moment,
+        asker,
+        bytes,
+        limit: 0,
+    };
+    answer.clear();
+    match acknowledge_bytes(alloc, directory, &call, answer) {
+        Ok(told) => Ok(told),
+        Err(fault) => {
+            answer.clear();
+            Err(fault)
+        }
+    }
+}

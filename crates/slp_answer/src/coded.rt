@@ -1,0 +1,119 @@
+ghost use Rattle.std.specs.Prelude.{◌≡◌, ◌==◌, ◌&&◌, ◌||◌, [], false, not, IfOk, Some, if◌then◌else◌};
+ghost use Rattle.slp_headers.specs.Headers.{heading, refusal_bytes};
+ghost use Rattle.directory_judge.specs.Judging.{by_step, code_by};
+ghost use Rattle.directory_answers.specs.Outcomes.{is_to_many, sent_of, coded, faulted};
+ghost use Rattle.slp_answer.specs.Telling.{Tells};
+ghost use Rattle.slp_answer.specs.declared.answer.Sent.TheVariants.{Silence as Nothing, Bytes as Code};
+
+use crate::answer::{Answer, Sent};
+use crate::audit::{Audit, put_line};
+use crate::refusals::action_in;
+use access_rules::{Addr, Rules};
+use directory_answers::decider_of;
+use directory_judge::{Because, Decider};
+use service_url::ServiceType;
+use slp_text::NoMemory;
+use slp_wire::{HeaderView, WireFault, code, error_reply, flag, function, reply_function};
+
+/// A code, and who decided on what.
+#[derive(Drop)]
+pub struct Finding {
+    pub code: u16,
+    pub because: Because,
+}
+
+impl Finding {
+    /// A denial by a step, of which a type may be known.
+    pub fn by(decider: Decider, kind: Option<ServiceType>) -> Finding
+        ensures { result ≡ record { code = code_by decider; because = by_step decider kind } }
+    {
+        Finding {
+            code: decider.code(),
+            because: Because {
+                decider,
+                kind,
+                scope: None,
+            },
+        }
+    }
+}
+
+/// Whether a reply with a code, which may have nothing in it, is not sent: a question that was sent to
+/// many gets no error and nothing empty (RFC 2608, section 7).
+pub fn is_unsent(header: &HeaderView<'_>, code: u16, is_empty: bool) -> bool
+    ensures { result ≡ (is_to_many (heading header.now) && (not (code == 0) || is_empty)) }
+{
+    let is_to_many = header.flags & flag::MULTICAST != 0
+        && matches!(
+            header.function,
+            function::SERVICE_REQUEST | function::ATTRIBUTE_REQUEST | function::TYPE_REQUEST
+        );
+    is_to_many && (code != code::OK || is_empty)
+}
+
+// Writes a reply of this function that is a code alone, where one is sent.
+fn put_code(
+    header: &HeaderView<'_>,
+    function: u8,
+    code: u16,
+    answer: &mut Answer,
+) -> Result<Sent, NoMemory>
+    requires { answer.old.bytes.items ≡ [] }
+    ensures bytes { IfOk result (λ _. answer.new.bytes.items ≡ sent_of (heading header.now) code false (refusal_bytes function code header.now.xid header.now.language.now)) }
+    ensures sent { IfOk result (λ what. what ≡ (if is_to_many (heading header.now) && not (code == 0) then Nothing else Code code)) }
+    ensures audit { answer.new.audit ≡ answer.old.audit }
+{
+    if is_unsent(header, code, false) {
+        return Ok(Sent::Silence);
+    }
+    let mut reply = [0u8; 80];
+    let length = error_reply(header, function, code, &mut reply);
+    answer.bytes.extend_from_slice(&reply[..length])?;
+    Ok(Sent::Bytes(code))
+}
+
+/// Answers with a code alone, and tells of it.
+pub fn answer_code(
+    rules: &Rules,
+    asker: Addr,
+    header: &HeaderView<'_>,
+    finding: Finding,
+    answer: &mut Answer,
+) -> Result<Sent, NoMemory>
+    requires no_reply { answer.old.bytes.items ≡ [] }
+    requires no_line { answer.old.audit.items ≡ [] }
+    ensures { IfOk result (λ what. Tells rules.now asker (Some (heading header.now)) (coded (heading header.now) finding.code finding.because) what answer.new.bytes.items answer.new.audit.items) }
+{
+    let Finding { code, because } = finding;
+    let Some(function) = reply_function(header.function) else {
+        return Ok(Sent::Silence);
+    };
+    let sent = put_code(header, function, code, answer)?;
+    let audit = Audit {
+        code,
+        because,
+        action: action_in(header.function),
+        asker,
+    };
+    put_line(rules, &audit, &mut answer.audit)?;
+    Ok(sent)
+}
+
+/// Answers bytes that are no message that is read: with the code of their fault, where their function
+/// is answered, and else with nothing.
+pub fn answer_fault(
+    rules: &Rules,
+    asker: Addr,
+    header: &HeaderView<'_>,
+    fault: WireFault,
+    answer: &mut Answer,
+) -> Result<Sent, NoMemory>
+    requires no_reply { answer.old.bytes.items ≡ [] }
+    requires no_line { answer.old.audit.items ≡ [] }
+    ensures { IfOk result (λ what. Tells rules.now asker (Some (heading header.now)) (faulted (heading header.now) fault) what answer.new.bytes.items answer.new.audit.items) }
+{
+    let Some(decider) = decider_of(fault) else {
+        return Ok(Sent::Silence);
+    };
+    answer_code(rules, asker, header, Finding::by(decider, None), answer)
+}

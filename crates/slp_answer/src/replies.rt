@@ -1,0 +1,218 @@
+ghost use Rattle.std.specs.Prelude.{◌≡◌, ◌≤◌, ◌==◌, ◌&&◌, ◌||◌, [], false, if◌then◌else◌, not, length, IfOk, OnErr, Some, None, Ok as Read};
+ghost use Rattle.slp_headers.specs.Headers.{heading};
+ghost use Rattle.slp_wire.specs.Spelling.{plain};
+ghost use Rattle.directory_judge.specs.History.{History};
+ghost use Rattle.directory_judge.specs.Judging.{by_step};
+ghost use Rattle.directory_judge.specs.declared.because.Decider.TheVariants as decider;
+ghost use Rattle.directory_answers.specs.Answering.{is_change_of, sense_asked, sense_read, IsAnswerTo};
+ghost use Rattle.directory_answers.specs.Calls.{Opening, call_in};
+ghost use Rattle.directory_answers.specs.Outcomes.{Outcome, is_to_many, outcome, sent_of};
+ghost use Rattle.directory_answers.specs.Readings.{may_change};
+ghost use Rattle.directory_answers.specs.Verdicts.{IsLegal};
+ghost use Rattle.directory_answers.specs.declared.question.Question.TheVariants.{Asks as Asked};
+ghost use Rattle.directory_state.specs.Fitting.{items_in};
+ghost use Rattle.directory_state.specs.Folding.{Fold};
+ghost use Rattle.slp_answer.specs.Listing.{listed_with};
+ghost use Rattle.slp_answer.specs.Telling.{Tells, Replies};
+ghost use Rattle.slp_answer.specs.declared.answer.Sent.TheVariants.{Silence as Nothing, Bytes as Code};
+
+use crate::answer::{Answer, Sent};
+use crate::audit::{Audit, put_line};
+use crate::coded::{Finding, answer_code, answer_fault, is_unsent};
+use crate::listing::{put_found, room_in};
+use crate::refusals::action_in;
+use access_rules::{Addr, Rules};
+use directory_answers::{
+    Call, QueryFault, Question, ServiceQuery, read_question, request_in, understood,
+};
+use directory_judge::Decider;
+use directory_state::{Directory, Found};
+use registry_core::Registry;
+use service_url::ServiceType;
+use slp_text::NoMemory;
+use slp_wire::{HeaderView, Message, code, read_header};
+use std::alloc::Global;
+
+// Writes the services that were found, where a reply is sent.
+fn write_found(
+    header: &HeaderView<'_>,
+    found: &Found<'_>,
+    answer: &mut Answer,
+) -> Result<Sent, NoMemory>
+    requires short { length (plain (listed_with (heading header.now) found.now.is_cut (items_in found.now))) ≤ 65535 }
+    requires no_reply { answer.old.bytes.items ≡ [] }
+    ensures bytes { let is_empty = length (items_in found.now) == 0 && not found.now.is_cut in
+        IfOk result (λ _. answer.new.bytes.items ≡ sent_of (heading header.now) 0 is_empty (plain (listed_with (heading header.now) found.now.is_cut (items_in found.now)))) }
+    ensures sent { let is_empty = length (items_in found.now) == 0 && not found.now.is_cut in
+        IfOk result (λ what. what ≡ (if is_to_many (heading header.now) && (not (0 == 0) || is_empty) then Nothing else Code 0)) }
+    ensures audit { answer.new.audit ≡ answer.old.audit }
+{
+    let is_empty = found.latest.is_empty() && !found.is_cut;
+    if is_unsent(header, code::OK, is_empty) {
+        return Ok(Sent::Silence);
+    }
+    put_found(header, found, &mut answer.bytes)?;
+    Ok(Sent::Bytes(code::OK))
+}
+
+// Sends the services that were found, and tells of it.
+fn send_found(
+    rules: &Rules,
+    asker: Addr,
+    header: &HeaderView<'_>,
+    kind: ServiceType,
+    found: &Found<'_>,
+    answer: &mut Answer,
+) -> Result<Sent, NoMemory>
+    requires short { length (plain (listed_with (heading header.now) found.now.is_cut (items_in found.now))) ≤ 65535 }
+    requires no_reply { answer.old.bytes.items ≡ [] }
+    requires no_line { answer.old.audit.items ≡ [] }
+    ensures { let whole = plain (listed_with (heading header.now) found.now.is_cut (items_in found.now)) in
+        let is_empty = length (items_in found.now) == 0 && not found.now.is_cut in
+        IfOk result (λ what. Tells rules.now asker (Some (heading header.now)) (outcome (sent_of (heading header.now) 0 is_empty whole) 0 (by_step decider.Nobody (Some kind))) what answer.new.bytes.items answer.new.audit.items) }
+{
+    let sent = write_found(header, found, answer)?;
+    let Finding { code, because } = Finding::by(Decider::Nobody, Some(kind));
+    let audit = Audit {
+        code,
+        because,
+        action: action_in(header.function),
+        asker,
+    };
+    put_line(rules, &audit, &mut answer.audit)?;
+    Ok(sent)
+}
+
+// Answers a question: with as many of the services that are found as fit, or with the code that
+// stands instead.
+fn answer_query<R: Registry>(
+    alloc: Global,
+    directory: &Directory<R>,
+    call: &Call<'_>,
+    header: &HeaderView<'_>,
+    query: ServiceQuery,
+    answer: &mut Answer,
+) -> Result<Sent, NoMemory>
+    requires datagram { 1400 ≤ call.now.limit }
+    requires stream { call.now.limit ≤ 65535 }
+    requires no_reply { answer.old.bytes.items ≡ [] }
+    requires no_line { answer.old.audit.items ≡ [] }
+    ensures { (o : Opening) (h : History) → Fold o h directory.now → IsLegal o h
+        → IfOk result (λ what. (r : Outcome) × IsAnswerTo o h (call_in call.now) (sense_asked o.site (heading header.now) (Asked query)) r None
+        × Tells directory.now.rules call.now.asker (Some (heading header.now)) r what answer.new.bytes.items answer.new.audit.items) }
+{
+    let room = room_in(header, call.limit);
+    let found = directory.find(alloc, call.moment, call.asker, &query, room);
+    let ServiceQuery {
+        kind,
+        scopes: _,
+        language: _,
+    } = query;
+    let (rules, asker) = (directory.rules(), call.asker);
+    match found {
+        Ok(found) => send_found(rules, asker, header, kind, &found, answer),
+        Err(QueryFault::Scope) => {
+            let finding = Finding::by(Decider::Scope, Some(kind));
+            answer_code(rules, asker, header, finding, answer)
+        }
+        Err(QueryFault::Language) => {
+            let finding = Finding::by(Decider::Language, Some(kind));
+            answer_code(rules, asker, header, finding, answer)
+        }
+        Err(QueryFault::NoMemory) => Err(NoMemory),
+    }
+}
+
+fn answer_message<R: Registry>(
+    alloc: Global,
+    directory: &Directory<R>,
+    call: &Call<'_>,
+    header: &HeaderView<'_>,
+    message: &Message,
+    answer: &mut Answer,
+) -> Result<Sent, NoMemory>
+    requires no_change { may_change message.now ≡ false }
+    requires datagram { 1400 ≤ call.now.limit }
+    requires stream { call.now.limit ≤ 65535 }
+    requires no_reply { answer.old.bytes.items ≡ [] }
+    requires no_line { answer.old.audit.items ≡ [] }
+    ensures { (o : Opening) (h : History) → Fold o h directory.now → IsLegal o h
+        → IfOk result (λ what. (r : Outcome) × IsAnswerTo o h (call_in call.now) (sense_read o.site call.now.own (heading header.now) (Read message.now)) r None
+        × Tells directory.now.rules call.now.asker (Some (heading header.now)) r what answer.new.bytes.items answer.new.audit.items) }
+{
+    let Some((request_header, request)) = request_in(message) else {
+        return Ok(Sent::Silence);
+    };
+    match read_question(alloc, request_header, request)? {
+        Question::Silent => Ok(Sent::Silence),
+        Question::Unreadable => {
+            let finding = Finding::by(Decider::Parse, None);
+            answer_code(directory.rules(), call.asker, header, finding, answer)
+        }
+        Question::Asks(query) => answer_query(alloc, directory, call, header, query, answer),
+    }
+}
+
+fn answer_bytes<R: Registry>(
+    alloc: Global,
+    directory: &Directory<R>,
+    call: &Call<'_>,
+    answer: &mut Answer,
+) -> Result<Sent, NoMemory>
+    requires no_change { is_change_of call.now.bytes.now ≡ false }
+    requires datagram { 1400 ≤ call.now.limit }
+    requires stream { call.now.limit ≤ 65535 }
+    requires no_reply { answer.old.bytes.items ≡ [] }
+    requires no_line { answer.old.audit.items ≡ [] }
+    ensures { (o : Opening) (h : History) → Fold o h directory.now → IsLegal o h
+        → IfOk result (λ what. Replies o h (call_in call.now) what answer.new.bytes.items answer.new.audit.items) }
+{
+    let Some(header) = read_header(call.bytes) else {
+        return Ok(Sent::Silence);
+    };
+    match understood(alloc, call.bytes)? {
+        Ok(message) => {
+            let told = answer_message(alloc, directory, call, &header, &message, answer);
+            drop(message);
+            told
+        }
+        Err(fault) => answer_fault(directory.rules(), call.asker, &header, fault, answer),
+    }
+}
+
+/// Answers bytes that ask for no change, in at most `limit` bytes. `own` is the address of the loop
+/// that they came to. After `NoMemory` the answer is empty.
+pub fn reply<R: Registry>(
+    alloc: Global,
+    directory: &Directory<R>,
+    own: Addr,
+    moment: u32,
+    asker: Addr,
+    bytes: &[u8],
+    limit: usize,
+    answer: &mut Answer,
+) -> Result<Sent, NoMemory>
+    requires no_change { is_change_of bytes.now ≡ false }
+    requires datagram { 1400 ≤ limit }
+    requires stream { limit ≤ 65535 }
+    ensures told { (o : Opening) (h : History) → Fold o h directory.now → IsLegal o h
+        → IfOk result (λ what. Replies o h (record { own = own; moment = moment; asker = asker; bytes = bytes.now; limit = limit }) what answer.new.bytes.items answer.new.audit.items) }
+    ensures no_reply { OnErr result (answer.new.bytes.items ≡ []) }
+    ensures no_line { OnErr result (answer.new.audit.items ≡ []) }
+{
+    let call = Call {
+        own,
+        moment,
+        asker,
+        bytes,
+        limit,
+    };
+    answer.clear();
+    match answer_bytes(alloc, directory, &call, answer) {
+        Ok(sent) => Ok(sent),
+        Err(fault) => {
+            answer.clear();
+            Err(fault)
+        }
+    }
+}
