@@ -1,4 +1,5 @@
-ghost use Rattle.std.specs.Prelude.{◌≡◌, length, IfOk};
+ghost use Rattle.std.specs.Prelude.{◌≡◌, ◌≤◌, length, IfOk};
+ghost use Rattle.slp_text.specs.Scopes.{printed};
 ghost use Rattle.std.specs.Arc.{arc_value};
 
 use crate::holding::assert_holds;
@@ -17,15 +18,18 @@ const MAIL: &str = "service:mail:smtp://c";
 
 const PRINTER: &str = "service:printer:lpr";
 
-/// The one scope that a text names.
+/// The one scope that a text names, of at most 1,024 bytes where it is written.
 pub fn one_scope(alloc: Global, scope: &str) -> Result<ScopeList, Fail>
-    ensures { IfOk result (λ scopes. length scopes ≡ 1) }
+    ensures one { IfOk result (λ scopes. length scopes ≡ 1) }
+    ensures short { IfOk result (λ scopes. length (printed scopes) ≤ 1024) }
 {
     let scopes = ScopeList::parse(alloc, scope)?;
-    if scopes.len() == 1 {
+    let mut written = String::new(alloc);
+    scopes.print_into(&mut written)?;
+    if scopes.len() == 1 && written.len() <= 1024 {
         Ok(scopes)
     } else {
-        Err(Fail::from("one scope"))
+        Err(Fail::from("one short scope"))
     }
 }
 

@@ -1,6 +1,7 @@
 pub mod OneByOne
 pub mod Unique
 pub mod Known
+pub mod Digits
 pub mod Kept
 pub mod Standing
 pub mod Stood

@@ -2,22 +2,21 @@
 use Rattle.std.proofs.Common.{◌≡◌, ◌≢◌, ℕ, ◌≤◌, max, true, [], ◌∷◌, Result, Ok, Err, refl, sym, ap, subst, ◌∙◌, arith}
 use Rattle.access_rules.specs.Opening.{opening_rules}
 use Rattle.directory_judge.specs.History.{Event, Sweep, clock, now}
-use Rattle.directory_judge.specs.Sites.{Place}
 use Rattle.directory_judge.specs.declared.change.Change.TheVariants as change
 use Rattle.directory_state.specs.Folding.{Fold}
-use Rattle.directory_state.specs.Verdicts.{IsLegal}
+use Rattle.directory_answers.specs.Verdicts.{IsLegal}
 use Rattle.site_config.specs.Configuring.{IsReading}
 use Rattle.site_config.specs.declared.config.Config.{Config}
 use Rattle.site_config.specs.declared.fault.ConfigFault.{ConfigFault}
 use Rattle.site_config.specs.declared.fault.ConfigFault.TheVariants.{Toml, Missing, Range, NoMemory}
 use Rattle.slp_stream.specs.Framing.{Frames}
 use Rattle.directory_program.specs.Holding.{Holds, ConfiguresTo}
-use Rattle.directory_program.specs.Running.{World, place_of, swept}
+use Rattle.directory_program.specs.Running.{World, opening_of, place_of, swept}
 use Rattle.directory_program.specs.declared.session.Session.{Session}
-use Rattle.directory_program.proofs.Taking.{Folds, fold_there}
+use Rattle.directory_program.proofs.Taking.{Folds}
 
 -- the site of a configuration, to which nothing happened
-pub ConfiguresTo-new : (w : World) (read : Result Config ConfigFault) (c : Config) (s t : Session) → Holds w s → IsReading (Ok c) read → Fold opening_rules (place_of c) [] t.directory → t.moment ≡ s.moment → t.asker ≡ s.asker → t.stream ≡ s.stream → t.late ≡ s.late → ConfiguresTo w read (Ok tt) t
+pub ConfiguresTo-new : (w : World) (read : Result Config ConfigFault) (c : Config) (s t : Session) → Holds w s → IsReading (Ok c) read → Fold (record { rules = opening_rules; site = place_of c }) [] t.directory → t.moment ≡ s.moment → t.asker ≡ s.asker → t.stream ≡ s.stream → t.late ≡ s.late → ConfiguresTo w read (Ok tt) t
 ConfiguresTo-new w read c s t h is fold moment asker stream late =
     let new : Holds (record w { place = place_of c; history = [] }) t = record { legal = tt; fold = fold; moment = moment ∙ h.moment; asker = asker ∙ h.asker; stream = stream ∙ h.stream; limit = ap (λ (f : Frames). f.limit) stream ∙ h.limit; late = late ∙ h.late } in
     subst (λ (r : Result Config ConfigFault). ConfiguresTo w r (Ok tt) t) (sym is) (refl, new)
@@ -40,12 +39,10 @@ pub Holds-swept : (w : World) (s t : Session) (n : ℕ) → Holds w s → n ≡ 
 Holds-swept w s t n h at folds moment asker stream late =
     let when : n ≡ now w.history w.moment = at ∙ rw (h.moment, h.fold.clocks) refl in
     let event : Event = record { moment = now w.history w.moment; act = Sweep } in
-    let legal : IsLegal opening_rules w.place (event ∷ w.history) = (later w.moment (clock w.history), tt, h.legal) in
-    let there : IsLegal opening_rules s.directory.site (event ∷ w.history) = subst (λ (p : Place). IsLegal opening_rules p (event ∷ w.history)) (sym h.fold.placed) legal in
-    let fold : Fold opening_rules s.directory.site (event ∷ w.history) t.directory = folds opening_rules w.history event (fold_there w s h) there (sym when, refl) in
+    let legal : IsLegal (opening_of w) (event ∷ w.history) = (later w.moment (clock w.history), tt, h.legal) in
     record {
       legal = legal;
-      fold = subst (λ (p : Place). Fold opening_rules p (event ∷ w.history) t.directory) h.fold.placed fold;
+      fold = folds (opening_of w) w.history event h.fold legal (sym when, refl);
       moment = moment ∙ h.moment;
       asker = asker ∙ h.asker;
       stream = stream ∙ h.stream;

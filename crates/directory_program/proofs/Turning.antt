@@ -1,16 +1,16 @@
 -- What each order makes of a session.
-use Rattle.std.proofs.Common.{◌≡◌, ℕ, ◌+◌, Bool, true, false, List, [], ◌∷◌, ◌++◌, Option, Some, None, Result, Ok, Err, codes, refl, sym, ap, subst, ◌∙◌, inl, inr}
+use Rattle.std.proofs.Common.{◌≡◌, ℕ, ◌+◌, Bool, true, false, List, [], ◌∷◌, ◌++◌, Option, Some, None, Result, Ok, Err, codes, refl, sym, ap, ap₂, subst, ◌∙◌, inl, inr}
 use Rattle.std.specs.Prelude.{MatchResult}
-use Rattle.std.specs.Option.{option_map, option_map_or}
-use Rattle.hex.specs.Hex.{encode_lower}
+use Rattle.std.specs.Option.{option_map_or}
 use Rattle.site_config.specs.Configuring.{config_of}
 use Rattle.site_config.specs.declared.config.Config.{Config}
 use Rattle.site_config.specs.declared.fault.ConfigFault.{ConfigFault}
 use Rattle.site_config.specs.declared.fault.ConfigFault.TheVariants.{Range}
-use Rattle.slp_answer.specs.Answering.{Told}
+use Rattle.directory_answers.specs.Verdicts.{followed}
+use Rattle.slp_answer.specs.declared.answer.Sent.{Sent}
 use Rattle.directory_program.specs.Commands.{Single, Blank, At, From, Udp, Open, Tcp, Tidy}
 use Rattle.directory_program.specs.Holding.{Holds, Takes, TakesPiece, Acts, Meets, ConfiguresTo, config_told}
-use Rattle.directory_program.specs.Running.{World, Configures, refused, new_stream, longest_reply, begun, swept, place_of}
+use Rattle.directory_program.specs.Running.{World, Configures, lacking, shown, new_stream, longest_reply, begun, swept, place_of}
 use Rattle.directory_program.specs.Standing.{Closes, Turns, TurnsTo, TurnsOutside, TurnsInside}
 use Rattle.directory_program.specs.declared.place.Block.{Block}
 use Rattle.directory_program.specs.declared.place.Place.{Place}
@@ -41,24 +41,17 @@ Acts-tcp s t bytes now takes = λ w h. takes (begun w) (Holds-begun w s h)
 pub Acts-tidy : (s t : Session) → ((w : World) → Holds w s → Holds (swept w) t) → Acts s (Single Tidy) (codes "# sweep" ++ 10 ∷ []) t
 Acts-tidy s t tidied = λ w h. (swept w, (refl, refl), tidied w h)
 
-mapped : (xs z : List ℕ) (code : Option ℕ) → option_map_or (λ d. d) (option_map (λ _. xs) code) z ≡ option_map_or (λ _. xs) code z
-mapped xs z None = refl
-mapped xs z (Some n) = refl
-
-shown_as : (f : List ℕ → List ℕ) (z : List ℕ) (t : Told) (digits : Option (List ℕ)) → digits ≡ option_map (λ _. f t.reply) t.code → option_map_or (λ d. d) digits z ≡ option_map_or (λ _. f t.reply) t.code z
-shown_as f z t digits e = ap (λ o. option_map_or (λ d. d) o z) e ∙ mapped (f t.reply) z t.code
-
 -- a message that was answered
-pub Meets-answered : (limit : ℕ) (s : Session) (bytes : List ℕ) (digits : Option (List ℕ)) (audit : List ℕ) (t : Session) → ((w : World) → Holds w s → Takes limit w bytes digits audit t) → Meets limit s bytes (codes "> " ++ option_map_or (λ d. d) digits (codes "-") ++ 10 ∷ audit) t
-Meets-answered limit s bytes digits audit t takes = λ w h.
+pub Meets-answered : (limit : ℕ) (s : Session) (bytes : List ℕ) (what : Sent) (reply line : List ℕ) (t : Session) → ((w : World) → Holds w s → Takes limit w bytes what reply line t) → Meets limit s bytes (shown reply line) t
+Meets-answered limit s bytes what reply line t takes = λ w h.
     let k = takes w h in
-    (record w { history = k.after }, inl (k.told, k.after, k.is, rw (shown_as encode_lower (codes "-") k.told digits k.shown, k.audited) refl, refl), k.holds)
+    (record w { history = followed k.event w.history }, inl (k.outcome, k.event, k.is, ap₂ shown k.told.replied k.told.lined, refl), k.holds)
 
 -- a message that found no memory
-pub Meets-refused : (limit : ℕ) (s : Session) (bytes : List ℕ) (t : Session) → ((w : World) → Holds w s → t ≡ s) → Meets limit s bytes (refused bytes t.asker) t
+pub Meets-refused : (limit : ℕ) (s : Session) (bytes : List ℕ) (t : Session) → ((w : World) → Holds w s → t ≡ s) → Meets limit s bytes (lacking t.asker bytes) t
 Meets-refused limit s bytes t same = λ w h.
     let e = same w h in
-    (w, inr (ap (refused bytes) (ap (λ (u : Session). u.asker) e ∙ h.asker), refl), rw e h)
+    (w, inr (ap (λ (a : ℕ). lacking a bytes) (ap (λ (u : Session). u.asker) e ∙ h.asker), refl), rw e h)
 
 configured : (read : Result Config ConfigFault) (told : Result (Unit {0}) ConfigFault) (w : World) (t : Session) → ConfiguresTo w read told t → (v : World) × Configures false w read (config_told told) v × Holds v t
 configured (Ok c) told w t k = (record w { place = place_of c; history = [] }, (ap config_told k.0, refl), k.1)

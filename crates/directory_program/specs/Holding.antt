@@ -1,39 +1,41 @@
 -- Which history a session stands for, and what a datagram does to it.
 use Rattle.std.specs.Prelude.{◌≡◌, ℕ, List, [], ◌∷◌, ◌++◌, codes, Option, MatchOption, Result, Ok, Err}
 use Rattle.std.specs.Fmt.{decimal}
-use Rattle.std.specs.Option.{option_map}
-use Rattle.hex.specs.Hex.{encode_lower}
 use Rattle.access_rules.specs.Opening.{opening_rules}
-use Rattle.directory_judge.specs.History.{History}
+use Rattle.slp_headers.specs.Headers.{heading_of}
+use Rattle.directory_judge.specs.History.{Event}
 use Rattle.directory_state.specs.Folding.{Fold}
-use Rattle.directory_state.specs.Verdicts.{IsLegal}
-use Rattle.slp_answer.specs.Answering.{Told, IsAnswer}
+use Rattle.directory_judge.specs.Meaning.{rules}
+use Rattle.directory_answers.specs.Answering.{IsAnswer}
+use Rattle.directory_answers.specs.Outcomes.{Outcome}
+use Rattle.directory_answers.specs.Verdicts.{IsLegal, followed}
+use Rattle.slp_answer.specs.Telling.{Tells}
+use Rattle.slp_answer.specs.declared.answer.Sent.{Sent}
 use Rattle.slp_stream.specs.Cutting.{front_of, IsCut}
 use Rattle.slp_stream.specs.Framing.{Frames}
 use Rattle.directory_program.specs.Commands.{Command}
-use Rattle.directory_program.specs.Running.{World, Answers, AnswersAll, Pieces, Does, closed, fault_number, place_of, end_told, end_refused, longest_on_stream}
+use Rattle.directory_program.specs.Running.{World, opening_of, call_of, Answers, AnswersAll, Pieces, Does, closed, fault_number, place_of, end_told, end_refused, longest_on_stream}
 use Rattle.site_config.specs.declared.config.Config.{Config}
 use Rattle.site_config.specs.declared.fault.ConfigFault.{ConfigFault}
 use Rattle.directory_program.specs.declared.session.Session.{Session}
 
 -- the session is one to which this happened
 pub record Holds (w : World) (s : Session) : Type 0 where
-  pub legal : IsLegal opening_rules w.place w.history
-  pub fold : Fold opening_rules w.place w.history s.directory
+  pub legal : IsLegal (opening_of w) w.history
+  pub fold : Fold (opening_of w) w.history s.directory
   pub moment : s.moment ≡ w.moment
   pub asker : s.asker ≡ w.asker
   pub stream : s.stream ≡ w.stream
   pub limit : s.stream.limit ≡ longest_on_stream
   pub late : s.late ≡ w.late
 
--- what came of a message, answered in at most so many bytes: the digits of the reply, if one is sent, the audit line, and the session after it
-pub record Takes (limit : ℕ) (w : World) (bytes : List ℕ) (digits : Option (List ℕ)) (audit : List ℕ) (s : Session) : Type 0 where
-  pub told : Told
-  pub after : History
-  pub is : IsAnswer opening_rules w.place w.history w.moment w.asker limit bytes told after
-  pub shown : digits ≡ option_map (λ _. encode_lower told.reply) told.code
-  pub audited : audit ≡ told.audit
-  pub holds : Holds (record w { history = after }) s
+-- what came of a message, answered in at most so many bytes: what was sent, the reply and the audit line, and the session after it
+pub record Takes (limit : ℕ) (w : World) (bytes : List ℕ) (what : Sent) (reply line : List ℕ) (s : Session) : Type 0 where
+  pub outcome : Outcome
+  pub event : Option Event
+  pub is : IsAnswer (opening_of w) w.history (call_of limit w bytes) outcome event
+  pub told : Tells (rules opening_rules w.history) w.asker (heading_of bytes) outcome what reply line
+  pub holds : Holds (record w { history = followed event w.history }) s
 
 -- what a command may write and make of a session, whatever happened to it before
 abbrev pub Acts : Session → Command → List ℕ → Session → Type 0

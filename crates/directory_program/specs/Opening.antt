@@ -8,4 +8,4 @@ use Rattle.directory_program.specs.declared.session.Session.{Session}
 
 -- nothing has happened, it is moment 0, and datagrams come from 10.0.0.1
 abbrev pub opening_session : Session
-opening_session = record { directory = beginning opening_rules opening_place; moment = 0; asker = 167772161; stream = new_stream; late = false }
+opening_session = record { directory = beginning (record { rules = opening_rules; site = opening_place }); moment = 0; asker = 167772161; stream = new_stream; late = false }

@@ -1,12 +1,17 @@
 -- What a script may make the program write.
 use Rattle.std.specs.Prelude.{◌≡◌, ◌⊎◌, ℕ, Bool, true, false, ◌==◌, Result, Ok, Err, List, [], ◌∷◌, ◌++◌, length, codes, Option, Some, None, MatchOption, if◌then◌else◌}
 use Rattle.std.specs.List.{flat_map}
-use Rattle.std.specs.Option.{option_map_or}
 use Rattle.hex.specs.Hex.{encode_lower}
+use Rattle.slp_headers.specs.Headers.{heading_of}
+use Rattle.access_rules.specs.Deciding.{SiteRules}
 use Rattle.access_rules.specs.Opening.{opening_rules}
-use Rattle.directory_judge.specs.History.{History, Sweep, now}
-use Rattle.slp_answer.specs.Answering.{Told, IsAnswer}
-use Rattle.slp_answer.specs.Refusing.{refused_reply, refused_line}
+use Rattle.directory_judge.specs.History.{History, Event, Sweep, now}
+use Rattle.directory_judge.specs.Meaning.{rules}
+use Rattle.directory_answers.specs.Answering.{IsAnswer}
+use Rattle.directory_answers.specs.Calls.{Opening, Call}
+use Rattle.directory_answers.specs.Outcomes.{Outcome, refused}
+use Rattle.directory_answers.specs.Verdicts.{followed}
+use Rattle.slp_answer.specs.Telling.{line_of}
 use Rattle.slp_stream.specs.Cutting.{Front, Wanting, Whole, Bad, front_of, IsCut}
 use Rattle.slp_stream.specs.Framing.{Frames}
 use Rattle.slp_stream.specs.declared.fault.FrameFault.{FrameFault}
@@ -48,20 +53,35 @@ pub record World : Type 0 where
 abbrev pub beginning : World
 beginning = record { place = opening_place; history = []; moment = 0; asker = 167772161; stream = new_stream; late = false }
 
--- what is written for a datagram: the digits of the reply or a dash, and then the audit line, if any
-abbrev pub answered : Told → List ℕ
-answered t = codes "> " ++ option_map_or (λ _. encode_lower t.reply) t.code (codes "-") ++ 10 ∷ t.audit
+-- 127.0.0.1, at which messages arrive
+abbrev pub own_address : ℕ
+own_address = 2130706433
 
--- what is written for one that found no memory
-abbrev pub refused : List ℕ → ℕ → List ℕ
-refused bytes asker =
-    codes "> " ++ (if length (refused_reply bytes) == 0 then codes "-" else encode_lower (refused_reply bytes)) ++ 10 ∷ refused_line bytes asker
+-- the rules and the site with which it began
+abbrev pub opening_of : World → Opening
+opening_of w = record { rules = opening_rules; site = w.place }
+
+-- a message that is answered in at most so many bytes
+abbrev pub call_of : ℕ → World → List ℕ → Call
+call_of limit w bytes = record { own = own_address; moment = w.moment; asker = w.asker; bytes = bytes; limit = limit }
+
+-- what is written for a message: the digits of the reply or a dash, and then the audit line, if any
+abbrev pub shown : List ℕ → List ℕ → List ℕ
+shown reply line = codes "> " ++ (if length reply == 0 then codes "-" else encode_lower reply) ++ 10 ∷ line
+
+abbrev pub answered : SiteRules → ℕ → List ℕ → Outcome → List ℕ
+answered rs asker bytes r = shown r.reply (line_of rs asker (heading_of bytes) r)
+
+-- the same for one that found no memory
+abbrev pub lacking : ℕ → List ℕ → List ℕ
+lacking asker bytes = answered [] asker bytes (refused (heading_of bytes))
 
 -- what a message may be answered with, in at most so many bytes, and what it leaves
 abbrev pub Answers : ℕ → World → List ℕ → List ℕ → World → Type 0
 Answers limit w bytes out v =
-    ((t : Told) × (after : History) × IsAnswer opening_rules w.place w.history w.moment w.asker limit bytes t after × (out ≡ answered t) × (v ≡ record w { history = after }))
-    ⊎ ((out ≡ refused bytes w.asker) × (v ≡ w))
+    ((r : Outcome) × (change : Option Event) × IsAnswer (opening_of w) w.history (call_of limit w bytes) r change
+    × (out ≡ answered (rules opening_rules w.history) w.asker bytes r) × (v ≡ record w { history = followed change w.history }))
+    ⊎ ((out ≡ lacking w.asker bytes) × (v ≡ w))
 
 -- messages that came on a stream, one after the other
 abbrev pub AnswersAll : World → List (List ℕ) → List ℕ → World → Type 0

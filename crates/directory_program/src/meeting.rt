@@ -27,8 +27,7 @@ pub fn meet<W: Write>(
         (λ e. e ≡ Unwritten) }
 {
     let written = match session.take(alloc, bytes, limit, answer) {
-        Ok(Some(digits)) => print(Some(digits.as_bytes()), answer.audit.as_slice(), writer),
-        Ok(None) => print(None, answer.audit.as_slice(), writer),
+        Ok(_sent) => print(answer.bytes.as_slice(), answer.audit.as_slice(), writer),
         Err(NoMemory) => print_refusal(bytes, session.asker, writer),
     };
     match written {

@@ -1,36 +1,62 @@
-ghost use Rattle.std.specs.Prelude.{◌≡◌, ◌++◌, ◌∷◌, codes, OnOk};
-ghost use Rattle.std.specs.Option.{option_map_or};
+ghost use Rattle.std.specs.Prelude.{◌≤◌, length, OnOk};
 ghost use Rattle.std.specs.Io.KnownBytes.{Appends};
-ghost use Rattle.directory_program.specs.Running.{refused};
+ghost use Rattle.hex.specs.Hex.{encode_lower};
+ghost use Rattle.directory_program.specs.Running.{lacking, shown};
 
 use access_rules::Addr;
 use slp_answer::refusal;
 use std::io;
 use std::io::Write;
 
+/// So many bytes are shown by digits at once.
+const PIECE: usize = 64;
+
+// Writes the digits of at most 64 bytes.
+fn print_piece<W: Write>(bytes: &[u8], writer: &mut W) -> io::Result<()>
+    requires { length bytes.now ≤ 64 }
+    ensures { OnOk result (Appends (W.contents writer.old) (W.contents writer.new) (encode_lower bytes.now)) }
+{
+    let mut digits = [0u8; 2 * PIECE];
+    let shown = &mut digits[..2 * bytes.len()];
+    match hex::encode_to_slice(bytes, shown) {
+        Ok(()) => writer.write_all(shown),
+        Err(_) => unreachable!(),
+    }
+}
+
+// Writes the digits of bytes. Takes no memory.
+fn print_digits<W: Write>(bytes: &[u8], writer: &mut W) -> io::Result<()>
+    ensures { OnOk result (Appends (W.contents writer.old) (W.contents writer.new) (encode_lower bytes.now)) }
+{
+    let mut rest = bytes;
+    while rest.len() > PIECE {
+        let (piece, more) = rest.split_at(PIECE);
+        print_piece(piece, writer)?;
+        rest = more;
+    }
+    print_piece(rest, writer)
+}
+
 /// Writes what came of a message: the digits of the reply or a dash, and the audit line, if any.
-pub fn print<W: Write>(digits: Option<&[u8]>, audit: &[u8], writer: &mut W) -> io::Result<()>
-    ensures { OnOk result (Appends (W.contents writer.old) (W.contents writer.new) (codes "> " ++ option_map_or (λ d. d.now) digits.entry (codes "-") ++ 10 ∷ audit.now)) }
+pub fn print<W: Write>(reply: &[u8], line: &[u8], writer: &mut W) -> io::Result<()>
+    ensures { OnOk result (Appends (W.contents writer.old) (W.contents writer.new) (shown reply.now line.now)) }
 {
     writer.write_all(b"> ")?;
-    match digits {
-        Some(digits) => writer.write_all(digits)?,
-        None => writer.write_all(b"-")?,
+    if reply.is_empty() {
+        writer.write_all(b"-")?;
+    } else {
+        print_digits(reply, writer)?;
     }
     writer.write_all(b"\n")?;
-    writer.write_all(audit)
+    writer.write_all(line)
 }
 
 /// Writes what comes of a message that found no memory. Takes none itself.
 pub fn print_refusal<W: Write>(bytes: &[u8], asker: Addr, writer: &mut W) -> io::Result<()>
-    ensures { OnOk result (Appends (W.contents writer.old) (W.contents writer.new) (refused bytes.now asker)) }
+    ensures { OnOk result (Appends (W.contents writer.old) (W.contents writer.new) (lacking asker bytes.now)) }
 {
     let mut reply = [0u8; 80];
     let mut line = [0u8; 128];
-    let mut digits = [0u8; 160];
     let (sent, told) = refusal(bytes, asker, &mut reply, &mut line);
-    match hex::encode_to_slice(&reply[..sent], &mut digits[..2 * sent]) {
-        Ok(()) if sent > 0 => print(Some(&digits[..2 * sent]), &line[..told], writer),
-        _ => print(None, &line[..told], writer),
-    }
+    print(&reply[..sent], &line[..told], writer)
 }

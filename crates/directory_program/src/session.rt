@@ -1,21 +1,19 @@
-ghost use Rattle.std.specs.Prelude.{◌≡◌, ◌≤◌, [], IfOk, MatchResult, string_bytes};
-ghost use Rattle.std.specs.Option.{option_map, option_map_or, option_copied};
+ghost use Rattle.std.specs.Prelude.{◌≡◌, ◌≤◌, [], IfOk, MatchResult};
+ghost use Rattle.std.specs.Option.{option_map_or, option_copied};
 ghost use Rattle.access_rules.specs.Opening.{opening_rules};
 ghost use Rattle.directory_state.specs.Folding.{Fold};
 ghost use Rattle.directory_state.specs.State.{beginning};
 ghost use Rattle.directory_program.specs.Running.{place_of};
 ghost use Rattle.site_config.specs.Configuring.{config_of, IsWithin};
 ghost use Rattle.site_config.specs.declared.fault.ConfigFault.TheVariants.{Range};
-ghost use Rattle.hex.specs.Hex.{encode_lower};
-ghost use Rattle.slp_answer.specs.Answering.{code_of};
 ghost use Rattle.directory_program.specs.Sites.{opening_place};
 
 use access_rules::{Addr, Rules};
 use directory_judge::{Change, Site};
 use directory_state::Directory;
-use registry_core::ListRegistry;
+use registry_core::{ListRegistry, RegistryFault};
 use site_config::{Config, ConfigFault};
-use slp_answer::{Answer, Sent, acknowledge, is_change, reply};
+use slp_answer::{Answer, Call, Sent, step};
 use slp_stream::Framer;
 use slp_text::{NoMemory, ScopeList};
 use std::alloc::Global;
@@ -76,19 +74,18 @@ fn site_of(config: Config) -> Site
 
 // A directory to which nothing happened, with rules that allow everything to everyone.
 fn begin(alloc: Global, site: &Site) -> Result<Directory<ListRegistry>, NoMemory>
-    ensures state { IfOk result (λ d. d ≡ beginning opening_rules site.now) }
-    ensures fold { IfOk result (λ d. Fold opening_rules site.now [] d) }
+    ensures state { IfOk result (λ d. d ≡ beginning (record { rules = opening_rules; site = site.now })) }
+    ensures fold { IfOk result (λ d. Fold (record { rules = opening_rules; site = site.now }) [] d) }
 {
     let rules = Arc::new(alloc, Rules::opening(alloc)?)?;
     match ListRegistry::new(alloc, site.capacity()) {
         Ok(registry) => Directory::open(alloc, registry, site, rules),
-        Err(_) => Err(NoMemory),
+        Err(RegistryFault::NoMemory) => Err(NoMemory),
+        Err(RegistryFault::Full) => unreachable!(),
     }
 }
 
 impl Session {
-    ghost use Rattle.directory_judge.specs.History.{History};
-    ghost use Rattle.slp_answer.specs.Answering.{Told, Tells, HandsOut, IsAnswer};
     ghost use Rattle.directory_program.specs.Opening.{opening_session};
     ghost use Rattle.directory_program.specs.Holding.{Holds, Takes, ConfiguresTo};
     ghost use Rattle.directory_program.specs.Running.{World, swept};
@@ -141,75 +138,28 @@ impl Session {
         self.late = true;
     }
 
-    /// Answers a message in at most `limit` bytes, and makes the change that it asks for. What is
-    /// answered are the digits of the reply, if there is one; the audit line is left in `answer`.
-    /// `NoMemory` changes nothing.
+    /// Answers a message in at most `limit` bytes, and makes the change that it asks for. The reply
+    /// and the audit line are left in `answer`. `NoMemory` changes nothing.
     pub fn take(
         &mut self,
         alloc: Global,
         bytes: &[u8],
         limit: usize,
         answer: &mut Answer,
-    ) -> Result<Option<String>, NoMemory>
+    ) -> Result<Sent, NoMemory>
         requires datagram { 1400 ≤ limit }
         requires stream { limit ≤ 65535 }
         ensures { (w : World) → Holds w self.old → MatchResult result
-            (λ shown. Takes limit w bytes.now (option_map string_bytes shown) answer.new.audit.items self.new)
+            (λ what. Takes limit w bytes.now what answer.new.bytes.items answer.new.audit.items self.new)
             (λ _. self.new ≡ self.old) }
     {
-        let (sent, change) = self.respond(alloc, bytes, limit, answer)?;
-        let shown = digits(alloc, sent, answer)?;
-        if let Some(change) = change {
-            self.directory.apply(change);
-        }
-        Ok(shown)
-    }
-
-    // What is answered to a message, and the change that it asks for, which is not made yet.
-    fn respond(
-        &self,
-        alloc: Global,
-        bytes: &[u8],
-        limit: usize,
-        answer: &mut Answer,
-    ) -> Result<(Sent, Option<Change>), NoMemory>
-        requires datagram { 1400 ≤ limit }
-        requires stream { limit ≤ 65535 }
-        ensures { (w : World) → Holds w self.now → IfOk result (λ r. (t : Told) × (after : History)
-            × IsAnswer opening_rules w.place w.history w.moment w.asker limit bytes.now t after
-            × Tells t r.0 answer.new.bytes.items answer.new.audit.items
-            × HandsOut opening_rules w.place w.history r.1 after) }
-    {
-        if is_change(bytes) {
-            return acknowledge(
-                alloc,
-                &self.directory,
-                self.moment,
-                self.asker,
-                bytes,
-                answer,
-            );
-        }
-        let sent = reply(
-            alloc,
-            &self.directory,
-            OWN,
-            self.moment,
-            self.asker,
+        let call = Call {
+            own: OWN,
+            moment: self.moment,
+            asker: self.asker,
             bytes,
             limit,
-            answer,
-        )?;
-        Ok((sent, None))
-    }
-}
-
-// The hexadecimal digits of what was sent.
-fn digits(alloc: Global, sent: Sent, answer: &Answer) -> Result<Option<String>, NoMemory>
-    ensures { IfOk result (λ shown. option_map string_bytes shown ≡ option_map (λ _. encode_lower answer.now.bytes.items) (code_of sent)) }
-{
-    match sent {
-        Sent::Bytes(_) => Ok(Some(hex::encode(alloc, answer.bytes.as_slice())?)),
-        Sent::Silence => Ok(None),
+        };
+        step(alloc, &mut self.directory, &call, answer)
     }
 }

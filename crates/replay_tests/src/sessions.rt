@@ -1,6 +1,6 @@
 use crate::scripts::{ACCEPTED, REGISTRATION, REQUEST, assert_holds};
 use directory_program::{Place, RunFault, Session};
-use slp_answer::Answer;
+use slp_answer::{Answer, Sent};
 use std::alloc::Global;
 use std::test::Fail;
 
@@ -17,10 +17,9 @@ fn is_configured(alloc: Global, session: &mut Session) -> Result<bool, Fail> {
 fn is_answered(alloc: Global, session: &mut Session, digits: &str) -> Result<bool, Fail> {
     let bytes = hex::decode(alloc, digits)?;
     let mut answer = Answer::new(alloc);
-    match session.take(alloc, bytes.as_slice(), 1_400, &mut answer)? {
-        Some(told) => Ok(told.as_str() == "0202000014000000000000010002656e00000000"),
-        None => Ok(false),
-    }
+    let sent = session.take(alloc, bytes.as_slice(), 1_400, &mut answer)?;
+    let reply = hex::encode(alloc, answer.bytes.as_slice())?;
+    Ok(sent == Sent::Bytes(0) && reply.as_str() == "0202000014000000000000010002656e00000000")
 }
 
 #[test]

@@ -1,12 +1,11 @@
-use Rattle.std.proofs.Common.{◌≡◌, ℕ, false, List, [], ◌∷◌, ◌++◌, Some, Result, Ok, Err, codes, refl, sym, ap, subst, ◌∙◌, inl, inr}
-use Rattle.std.specs.Prelude.{OnOk, is_err}
+use Rattle.std.proofs.Common.{◌≡◌, ℕ, List, [], Some, refl, sym, ap, subst, ◌∙◌, inl, inr}
 use Rattle.slp_stream.specs.Framing.{Frames}
 use Rattle.directory_program.specs.Commands.{Command, Single, Blank, At, From, Udp, Open, Tcp, Tidy}
 use Rattle.directory_program.specs.Holding.{Acts}
 use Rattle.directory_program.specs.Saying.{Says}
 use Rattle.directory_program.specs.declared.session.Session.{Session}
 use Rattle.directory_program.proofs.Known.{Keeps-same, Appends-none}
-use Rattle.directory_program.proofs.Turning.{Acts-blank, Acts-at, Acts-from, Acts-udp, Acts-open, Acts-tcp, Acts-tidy}
+use Rattle.directory_program.proofs.Turning.{Acts-blank, Acts-at, Acts-from, Acts-open}
 use Rattle.directory_program.proofs.place.turn_outside.Goals as goal
 use Rattle.directory_program.proofs.place.turn_outside.Goals.{in-Blank, in-At, in-From, in-Udp+in_ok-take_datagram-in-Udp, in-Open, in-Tcp+in_ok-take_stream-in-Tcp, in-Tidy+in_ok-sweep-in-Tidy}
 
