@@ -2,7 +2,8 @@
 # make try     replays it with the program as it stands, unproved, in about a minute
 # make build   proves what the program needs, crates side by side, and leaves it in bin/
 # make test    the gate
-.PHONY: run try build programs test
+# make bench   counts instructions per message, with the built program; it is no part of the gate, and needs valgrind
+.PHONY: run try build programs test bench
 
 script := examples/printer.script
 jobs := $(shell nproc)
@@ -21,6 +22,9 @@ programs: bin/slpreplay
 
 test:
 	rt ci
+
+bench:
+	@bench/instructions bin/slpreplay
 
 # A crate is proved once those that crates.txt names in its line are: it says so, and what it waited for.
 crates := $(shell sed -n 's/^\([a-z_]*\):.*/\1/p' crates.txt)
