@@ -19,7 +19,7 @@ lower b h = grind (arith, nat_tests)
 not_white : (b : ℕ) → is_word_byte b ≡ true → is_white (to_ascii_lowercase b) ≡ false
 not_white b h = grind (arith, nat_tests)
 
-is_ascii : (text : List ℕ) → list_all is_word_byte text ≡ true → IsAscii text
+pub is_ascii : (text : List ℕ) → list_all is_word_byte text ≡ true → IsAscii text
 is_ascii [] h = IsAscii-nil
 is_ascii (b ∷ bs) h =
     let both = and_parts (is_word_byte b) (list_all is_word_byte bs) h in

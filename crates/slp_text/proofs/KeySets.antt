@@ -1,5 +1,5 @@
 -- Sets of keys: ascending lists with the same members are the same.
-use Rattle.std.proofs.Common.{◌≡◌, ℕ, Bool, true, List, [], ◌∷◌, refl, sym, ap, ap₂, subst, ◌∙◌, inl, inr, arith}
+use Rattle.std.proofs.Common.{◌≡◌, ℕ, Bool, true, false, cond, List, [], ◌∷◌, refl, sym, ap, ap₂, subst, ◌∙◌, inl, inr, arith}
 use Rattle.std.specs.Prelude.{◌⊎◌, Contains, filter}
 use Rattle.std.specs.List.{All, AllByRecursion, dedup}
 use Rattle.std.specs.List.Retain.{IsFiltered, DiffersFromLast}
@@ -42,9 +42,17 @@ all_of : (P : List ℕ → Type 0) (xs : List (List ℕ)) → AllByRecursion P x
 all_of P [] each = All-nil P
 all_of P (x ∷ xs) each = All-cons P x xs each.0 (all_of P xs each.1)
 
-each_weaker : (P Q : List ℕ → Type 0) (xs : List (List ℕ)) → ((x : List ℕ) → P x → Q x) → AllByRecursion P xs → AllByRecursion Q xs
+pub each_weaker : (P Q : List ℕ → Type 0) (xs : List (List ℕ)) → ((x : List ℕ) → P x → Q x) → AllByRecursion P xs → AllByRecursion Q xs
 each_weaker P Q [] to each = tt
 each_weaker P Q (x ∷ xs) to each = (to x each.0, each_weaker P Q xs to each.1)
+
+pub each_filtered : (P : List ℕ → Type 0) (p : List ℕ → Bool) (xs : List (List ℕ)) → AllByRecursion P xs → AllByRecursion P (filter p xs)
+each_filtered P p [] each = tt
+each_filtered P p (x ∷ xs) each =
+    elim (p x) as (λ b. AllByRecursion P (cond b (x ∷ filter p xs) (filter p xs))) [
+      | true ↦ (each.0, each_filtered P p xs each.1)
+      | false ↦ each_filtered P p xs each.1
+    ]
 
 not_there : (u : List ℕ) (us : List (List ℕ)) → All (λ w. bytes_cmp u w ≡ Less) us → Contains us u → ⊥
 not_there u us below is =

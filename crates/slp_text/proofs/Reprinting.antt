@@ -1,7 +1,7 @@
 -- Scope lists that are printed are read again.
 use Rattle.std.proofs.Common.{◌≡◌, ◌<◌, ◌+◌, ◌*◌, ℕ, Bool, true, false, cond, List, [], ◌∷◌, ◌++◌, map, Result, Ok, Err, Some, None, refl, sym, ap, ap₂, subst, ◌∙◌, chars, encode_utf8_all, arith}
 use Rattle.std.specs.Prelude.{◌/◌, ◌%◌, ◌&&◌, ◌==◌, filter, flat_map, IsUtf8}
-use Rattle.std.specs.List.{AllByRecursion, slice_split, onto_first}
+use Rattle.std.specs.List.{AllByRecursion, list_any, slice_split, onto_first}
 use Rattle.std.specs.Option.{option_map_or}
 use Rattle.std.proofs.lemmas.Bool.{and_parts}
 use Rattle.std.proofs.lemmas.Bool.Decides.{nat_tests}
@@ -10,16 +10,16 @@ use lib.Utf8.{scalar, scalars}
 use Rattle.caseless.specs.Caseless.{default_case_fold}
 use Rattle.ucd_case.specs.CaseFolding.{full_fold}
 use Rattle.slp_text.specs.Escapes.{Plain, Slash, Digit, is_escapable, is_refused, is_reserved, digit_of, capital_digit, unescaped_from, unescaped_at, written_at, escaped}
-use Rattle.slp_text.specs.Key.{squeeze}
+use Rattle.slp_text.specs.Key.{squeeze, key_of}
 use Rattle.slp_text.specs.Reading.{read_map, read_then, read_all}
-use Rattle.slp_text.specs.Scopes.{is_comma, is_some_text, folded, scopes_of, joined, printed}
+use Rattle.slp_text.specs.Scopes.{is_comma, is_some_text, folded, scopes_of, joined, printed, common_of, IsScope, AreScopes}
 use Rattle.slp_text.specs.Sets.{set_of}
-use Rattle.slp_text.specs.Words.{IsAscending}
+use Rattle.slp_text.specs.Words.{bytes_eq, IsAscending}
 use Rattle.slp_text.specs.declared.escapes.Place.TheVariants.{Scope}
 use Rattle.slp_text.specs.declared.faults.TextFault.{TextFault}
 use Rattle.slp_text.specs.declared.faults.TextFault.TheVariants.{BadEscape, Reserved}
 use Rattle.slp_text.proofs.Escaping.{read_again, refused_free, escapable_small, reserved_escapable}
-use Rattle.slp_text.proofs.KeySets.{all_with, set_ascending, set_itself}
+use Rattle.slp_text.proofs.KeySets.{all_with, each_weaker, each_filtered, filter_ascending, set_ascending, set_itself}
 use Rattle.slp_text.proofs.Refolding.{IsFixed, key_chars, fixed_key, fold-fixed, scalars-fixed, squeeze_again}
 
 -- ---- what is read
@@ -105,7 +105,7 @@ all_read_scalars (cs ∷ css) xss s h =
 -- ---- a scope as a key is one
 
 -- characters that are folded and squeezed, of which there are some
-pub record IsScope (k : List ℕ) : Type 0 where
+record IsSpelled (k : List ℕ) : Type 0 where
   pub spelled : List ℕ
   pub fixed : AllByRecursion IsFixed spelled
   pub squeezed : squeeze spelled ≡ spelled
@@ -116,7 +116,7 @@ folded-key_chars : (cs : List ℕ) → folded cs ≡ encode_utf8_all (key_chars 
 unfolding default_case_fold
 folded-key_chars cs = refl
 
-scope_of : (cs : List ℕ) → scalars cs ≡ true → is_some_text (folded cs) ≡ true → IsScope (folded cs)
+scope_of : (cs : List ℕ) → scalars cs ≡ true → is_some_text (folded cs) ≡ true → IsSpelled (folded cs)
 scope_of cs s some = record {
   spelled = key_chars cs;
   fixed = fixed_key cs s;
@@ -125,28 +125,53 @@ scope_of cs s some = record {
   some = some;
 }
 
-kept_scopes : (css : List (List ℕ)) → AreScalars css → AllByRecursion IsScope (filter is_some_text (map folded css))
+kept_scopes : (css : List (List ℕ)) → AreScalars css → AllByRecursion IsSpelled (filter is_some_text (map folded css))
 kept_scopes [] s = tt
 kept_scopes (cs ∷ css) s =
-    elim (is_some_text (folded cs)) as (λ b. is_some_text (folded cs) ≡ b → AllByRecursion IsScope (cond b (folded cs ∷ filter is_some_text (map folded css)) (filter is_some_text (map folded css)))) [
+    elim (is_some_text (folded cs)) as (λ b. is_some_text (folded cs) ≡ b → AllByRecursion IsSpelled (cond b (folded cs ∷ filter is_some_text (map folded css)) (filter is_some_text (map folded css)))) [
       | true ↦ λ t. (scope_of cs s.0 t, kept_scopes css s.1)
       | false ↦ λ f. kept_scopes css s.1
     ] refl
 
-set_scopes : (ks : List (List ℕ)) → AllByRecursion IsScope ks → AllByRecursion IsScope (set_of ks)
+set_scopes : (ks : List (List ℕ)) → AllByRecursion IsSpelled ks → AllByRecursion IsSpelled (set_of ks)
 set_scopes [] h = tt
-set_scopes (k ∷ ks) h = all_with IsScope k (set_of ks) h.0 (set_scopes ks h.1)
+set_scopes (k ∷ ks) h = all_with IsSpelled k (set_of ks) h.0 (set_scopes ks h.1)
 
-pub record AreScopes (ks : List (List ℕ)) : Type 0 where
-  pub each : AllByRecursion IsScope ks
-  pub ascending : IsAscending ks
+key_of-folded : (k : List ℕ) → key_of k ≡ folded (chars k)
+unfolding key_of
+key_of-folded k = refl
+
+spelled_from : (k : List ℕ) → IsScope k → IsSpelled k
+spelled_from k s =
+    let own : folded (chars k) ≡ k = sym (key_of-folded k) ∙ s.is_own_key in
+    subst IsSpelled own (scope_of (chars k) (scalars-chars k s.is_text) (ap is_some_text own ∙ s.is_some))
+
+chars_of : (k : List ℕ) (s : IsSpelled k) → chars k ≡ s.spelled
+chars_of k s = ap chars s.is ∙ chars-encodes s.spelled (scalars-fixed s.spelled s.fixed)
+
+folded_of : (k : List ℕ) (s : IsSpelled k) → folded s.spelled ≡ k
+folded_of k s =
+    folded-key_chars s.spelled ∙ ap (λ cs. encode_utf8_all (squeeze cs)) (fold-fixed s.spelled s.fixed) ∙ ap encode_utf8_all s.squeezed ∙ sym s.is
+
+scope_from : (k : List ℕ) → IsSpelled k → IsScope k
+scope_from k s = record {
+  is_text = (s.spelled, (scalars-fixed s.spelled s.fixed, sym s.is));
+  is_some = s.some;
+  is_own_key = key_of-folded k ∙ ap folded (chars_of k s) ∙ folded_of k s;
+}
 
 pub read_scopes : (text : List ℕ) (ks : List (List ℕ)) → IsUtf8 text → scopes_of text ≡ Ok ks → AreScopes ks
 unfolding scopes_of
 read_scopes text ks u h =
     let r = ok_of (λ parts. set_of (filter is_some_text (map folded parts))) (read_all (unescaped_at Scope) (slice_split is_comma (chars text))) ks h in
     let parts = all_read_scalars (slice_split is_comma (chars text)) r.0 (split_scalars (chars text) (scalars-chars text u)) r.1 in
-    subst AreScopes r.2 (record { each = set_scopes (filter is_some_text (map folded r.0)) (kept_scopes r.0 parts); ascending = set_ascending (filter is_some_text (map folded r.0)) })
+    let keys = filter is_some_text (map folded r.0) in
+    subst AreScopes r.2 (record { each = each_weaker IsSpelled IsScope (set_of keys) scope_from (set_scopes keys (kept_scopes r.0 parts)); ascending = set_ascending keys })
+
+pub common_scopes : (ks others : List (List ℕ)) → AreScopes ks → AreScopes (common_of ks others)
+common_scopes ks others a =
+    let both = λ (k : List ℕ). list_any (λ (o : List ℕ). bytes_eq o k) others in
+    record { each = each_filtered IsScope both ks a.each; ascending = filter_ascending both ks a.ascending }
 
 -- ---- what is printed
 
@@ -222,40 +247,33 @@ encoded_joined (cs ∷ ds ∷ css) = encodes-append cs (44 ∷ joined (ds ∷ cs
 -- ---- printed and read again
 
 -- the characters of each scope
-spelled_of : (ks : List (List ℕ)) → AllByRecursion IsScope ks → List (List ℕ)
+spelled_of : (ks : List (List ℕ)) → AllByRecursion IsSpelled ks → List (List ℕ)
 spelled_of [] h = []
 spelled_of (k ∷ ks) h = h.0.spelled ∷ spelled_of ks h.1
 
 -- the same, as they are written
-pieces_of : (ks : List (List ℕ)) → AllByRecursion IsScope ks → List (List ℕ)
+pieces_of : (ks : List (List ℕ)) → AllByRecursion IsSpelled ks → List (List ℕ)
 pieces_of [] h = []
 pieces_of (k ∷ ks) h = escaped Scope h.0.spelled ∷ pieces_of ks h.1
 
-chars_of : (k : List ℕ) (s : IsScope k) → chars k ≡ s.spelled
-chars_of k s = ap chars s.is ∙ chars-encodes s.spelled (scalars-fixed s.spelled s.fixed)
-
-pieces-printed : (ks : List (List ℕ)) (h : AllByRecursion IsScope ks) → map encode_utf8_all (pieces_of ks h) ≡ map (λ k. encode_utf8_all (escaped Scope (chars k))) ks
+pieces-printed : (ks : List (List ℕ)) (h : AllByRecursion IsSpelled ks) → map encode_utf8_all (pieces_of ks h) ≡ map (λ k. encode_utf8_all (escaped Scope (chars k))) ks
 unfolding pieces_of
 pieces-printed [] h = refl
 pieces-printed (k ∷ ks) h = ap₂ (λ t ts. t ∷ ts) (ap (λ cs. encode_utf8_all (escaped Scope cs)) (sym (chars_of k h.0))) (pieces-printed ks h.1)
 
-pieces-plain : (ks : List (List ℕ)) (h : AllByRecursion IsScope ks) → ArePlain (pieces_of ks h)
+pieces-plain : (ks : List (List ℕ)) (h : AllByRecursion IsSpelled ks) → ArePlain (pieces_of ks h)
 unfolding pieces_of
 pieces-plain [] h = tt
 pieces-plain (k ∷ ks) h = (escaped_plain h.0.spelled (scalars-fixed h.0.spelled h.0.fixed), pieces-plain ks h.1)
 
-pieces-read : (ks : List (List ℕ)) (h : AllByRecursion IsScope ks) → read_all (unescaped_at Scope) (pieces_of ks h) ≡ Ok (spelled_of ks h)
+pieces-read : (ks : List (List ℕ)) (h : AllByRecursion IsSpelled ks) → read_all (unescaped_at Scope) (pieces_of ks h) ≡ Ok (spelled_of ks h)
 unfolding pieces_of spelled_of
 pieces-read [] h = refl
 pieces-read (k ∷ ks) h =
     ap (read_then (λ y. read_map (λ ys. y ∷ ys) (read_all (unescaped_at Scope) (pieces_of ks h.1)))) (read_again Scope (is_refused Scope) (refused_free Scope) h.0.spelled)
     ∙ ap (read_map (λ ys. h.0.spelled ∷ ys)) (pieces-read ks h.1)
 
-folded_of : (k : List ℕ) (s : IsScope k) → folded s.spelled ≡ k
-folded_of k s =
-    folded-key_chars s.spelled ∙ ap (λ cs. encode_utf8_all (squeeze cs)) (fold-fixed s.spelled s.fixed) ∙ ap encode_utf8_all s.squeezed ∙ sym s.is
-
-spelled-kept : (ks : List (List ℕ)) (h : AllByRecursion IsScope ks) → filter is_some_text (map folded (spelled_of ks h)) ≡ ks
+spelled-kept : (ks : List (List ℕ)) (h : AllByRecursion IsSpelled ks) → filter is_some_text (map folded (spelled_of ks h)) ≡ ks
 unfolding spelled_of
 spelled-kept [] h = refl
 spelled-kept (k ∷ ks) h =
@@ -263,23 +281,33 @@ spelled-kept (k ∷ ks) h =
     ∙ ap (λ b. cond b (k ∷ filter is_some_text (map folded (spelled_of ks h.1))) (filter is_some_text (map folded (spelled_of ks h.1)))) h.0.some
     ∙ ap (λ t. k ∷ t) (spelled-kept ks h.1)
 
-none-read : scopes_of [] ≡ Ok []
+pub none-read : scopes_of [] ≡ Ok []
 unfolding scopes_of default_case_fold
 none-read = ap (λ cs. read_map (λ parts. set_of (filter is_some_text (map folded parts))) (read_all (unescaped_at Scope) (slice_split is_comma cs))) chars-nil
 
-some-read : (k : List ℕ) (ks : List (List ℕ)) → AreScopes (k ∷ ks) → scopes_of (printed (k ∷ ks)) ≡ Ok (k ∷ ks)
+some-read : (k : List ℕ) (ks : List (List ℕ)) → AllByRecursion IsSpelled (k ∷ ks) → IsAscending (k ∷ ks) → scopes_of (printed (k ∷ ks)) ≡ Ok (k ∷ ks)
 unfolding scopes_of pieces_of
-some-read k ks a =
-    let css = pieces_of (k ∷ ks) a.each in
-    let plain = pieces-plain (k ∷ ks) a.each in
-    let whole : printed (k ∷ ks) ≡ encode_utf8_all (joined css) = ap joined (sym (pieces-printed (k ∷ ks) a.each)) ∙ sym (encoded_joined css) in
+some-read k ks each ascending =
+    let css = pieces_of (k ∷ ks) each in
+    let plain = pieces-plain (k ∷ ks) each in
+    let whole : printed (k ∷ ks) ≡ encode_utf8_all (joined css) = ap joined (sym (pieces-printed (k ∷ ks) each)) ∙ sym (encoded_joined css) in
     let same : chars (printed (k ∷ ks)) ≡ joined css = ap chars whole ∙ chars-encodes (joined css) (joined_scalars css plain) in
-    let parts : slice_split is_comma (chars (printed (k ∷ ks))) ≡ css = ap (slice_split is_comma) same ∙ split_joined (escaped Scope a.each.0.spelled) (pieces_of ks a.each.1) plain in
+    let parts : slice_split is_comma (chars (printed (k ∷ ks))) ≡ css = ap (slice_split is_comma) same ∙ split_joined (escaped Scope each.0.spelled) (pieces_of ks each.1) plain in
     ap (λ t. read_map (λ xs. set_of (filter is_some_text (map folded xs))) (read_all (unescaped_at Scope) t)) parts
-    ∙ ap (read_map (λ xs. set_of (filter is_some_text (map folded xs)))) (pieces-read (k ∷ ks) a.each)
-    ∙ ap (λ t. Ok (set_of t)) (spelled-kept (k ∷ ks) a.each)
-    ∙ ap Ok (set_itself (k ∷ ks) a.ascending)
+    ∙ ap (read_map (λ xs. set_of (filter is_some_text (map folded xs)))) (pieces-read (k ∷ ks) each)
+    ∙ ap (λ t. Ok (set_of t)) (spelled-kept (k ∷ ks) each)
+    ∙ ap Ok (set_itself (k ∷ ks) ascending)
 
 pub printed-read : (ks : List (List ℕ)) → AreScopes ks → scopes_of (printed ks) ≡ Ok ks
 printed-read [] a = none-read
-printed-read (k ∷ ks) a = some-read k ks a
+printed-read (k ∷ ks) a = some-read k ks (each_weaker IsScope IsSpelled (k ∷ ks) spelled_from a.each) a.ascending
+
+-- what is written as one scope is read as its key
+pub written-read : (cs : List ℕ) → scalars cs ≡ true → scopes_of (encode_utf8_all (escaped Scope cs)) ≡ Ok (set_of (filter is_some_text (folded cs ∷ [])))
+unfolding scopes_of
+written-read cs s =
+    let plain = escaped_plain cs s in
+    let parts : slice_split is_comma (chars (encode_utf8_all (escaped Scope cs))) ≡ escaped Scope cs ∷ [] =
+    ap (slice_split is_comma) (chars-encodes (escaped Scope cs) (plain-scalars (escaped Scope cs) plain)) ∙ split_last (escaped Scope cs) plain in
+    ap (λ t. read_map (λ xs. set_of (filter is_some_text (map folded xs))) (read_all (unescaped_at Scope) t)) parts
+    ∙ ap (λ r. read_map (λ xs. set_of (filter is_some_text (map folded xs))) (read_then (λ y. Ok (y ∷ [])) r)) (read_again Scope (is_refused Scope) (refused_free Scope) cs)

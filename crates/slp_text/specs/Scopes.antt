@@ -1,12 +1,12 @@
 -- Scope lists (RFC 2608, section 6.4.1).
-use Rattle.std.specs.Prelude.{ℕ, Bool, ◌==◌, nat_lt, List, [], ◌∷◌, ◌++◌, map, filter, chars, encode_utf8_all, length, Result}
-use Rattle.std.specs.List.{list_any, slice_split}
+use Rattle.std.specs.Prelude.{◌≡◌, ℕ, Bool, true, ◌==◌, ◌||◌, nat_lt, List, [], ◌∷◌, ◌++◌, map, filter, chars, encode_utf8_all, length, IsUtf8, Result}
+use Rattle.std.specs.List.{AllByRecursion, list_all, list_any, slice_split}
 use Rattle.caseless.specs.Caseless.{default_case_fold}
 use Rattle.slp_text.specs.Escapes.{unescaped_at, escaped}
-use Rattle.slp_text.specs.Key.{squeeze}
+use Rattle.slp_text.specs.Key.{squeeze, key_of}
 use Rattle.slp_text.specs.Reading.{read_map, read_all}
 use Rattle.slp_text.specs.Sets.{set_of}
-use Rattle.slp_text.specs.Words.{bytes_eq}
+use Rattle.slp_text.specs.Words.{bytes_eq, is_plain, IsAscending}
 use Rattle.slp_text.specs.declared.escapes.Place.TheVariants.{Scope}
 use Rattle.slp_text.specs.declared.faults.TextFault.{TextFault}
 
@@ -24,6 +24,24 @@ folded cs = encode_utf8_all (squeeze (default_case_fold cs))
 -- The scopes that a text names: its parts between commas, unescaped and made keys, without the empty ones, as a set.
 unfoldable pub scopes_of : List ℕ → Result (List (List ℕ)) TextFault
 scopes_of text = read_map (λ parts. set_of (filter is_some_text (map folded parts))) (read_all (unescaped_at Scope) (slice_split is_comma (chars text)))
+
+-- a letter or a digit of ASCII, `-`, `.` or `_`, which are written in lists of scopes as they are
+abbrev pub is_plain_byte : ℕ → Bool
+is_plain_byte b = is_plain b || b == 45 || b == 46 || b == 95
+
+abbrev pub is_plain_text : List ℕ → Bool
+is_plain_text = list_all is_plain_byte
+
+-- a scope is a text that is not empty and its own key
+pub record IsScope (k : List ℕ) : Type 0 where
+  pub is_text : IsUtf8 k
+  pub is_some : is_some_text k ≡ true
+  pub is_own_key : key_of k ≡ k
+
+-- scopes in key order, each once
+pub record AreScopes (ks : List (List ℕ)) : Type 0 where
+  pub each : AllByRecursion IsScope ks
+  pub ascending : IsAscending ks
 
 -- texts with a comma between each two
 abbrev pub joined : List (List ℕ) → List ℕ

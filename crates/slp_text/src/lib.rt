@@ -19,6 +19,6 @@ pub use faults::{NoMemory, TextFault};
 pub use folding::{is_blank, key};
 pub use keys::Key;
 pub use rows::Row;
-pub use scopes::ScopeList;
+pub use scopes::{ScopeList, is_plain};
 pub use tags::TagList;
 pub use texts::Text;

@@ -1,4 +1,4 @@
-ghost use Rattle.std.specs.Prelude.{◌≡◌, ◌↔◌, ◌++◌, [], ◌∷◌, filter, length, slice_get, string_bytes, IfOk, IfErr, OnErr, IsTrue};
+ghost use Rattle.std.specs.Prelude.{◌≡◌, ◌↔◌, ◌++◌, [], ◌∷◌, true, filter, length, slice_get, string_bytes, chars, encode_utf8_all, IfOk, IfErr, OnErr, IsTrue};
 ghost use Rattle.std.specs.List.{list_any};
 ghost use Rattle.std.specs.Option.{option_copied};
 ghost use Rattle.std.proofs.Common.{rules};
@@ -6,14 +6,16 @@ ghost use Rattle.std.specs.Cmp.Rules.{comparing};
 ghost use Rattle.slp_text.specs.Key.{key_of};
 ghost use Rattle.slp_text.specs.Named.{named_of, scope_written};
 ghost use Rattle.slp_text.specs.Reading.{read_map, IsFault, IsReading};
-ghost use Rattle.slp_text.specs.Scopes.{is_some_text, scopes_of, common_of, printed};
+ghost use Rattle.slp_text.specs.Scopes.{is_some_text, is_plain_byte as is_plain_number, is_plain_text, scopes_of, common_of, printed, AreScopes};
 ghost use Rattle.slp_text.specs.Sets.{set_of};
+ghost use Rattle.slp_text.specs.Escapes.{escaped};
 ghost use Rattle.slp_text.specs.Steps.{BeginsWith, part_end};
-ghost use Rattle.slp_text.specs.Words.{bytes_eq, texts_eq, IsAscending};
+ghost use Rattle.slp_text.specs.Words.{bytes_eq, texts_eq};
 ghost use Rattle.slp_text.specs.declared.escapes.Place.TheVariants.{Scope};
 ghost use Rattle.slp_text.specs.declared.escapes.Stage.TheVariants.{Plain};
 ghost use Rattle.slp_text.specs.declared.faults.TextFault.TheVariants.{NoMemory as Lacking};
 
+use crate::ascii::word_key;
 use crate::escapes::{Place, Stage, Step, escape_into, is_refused, read_step};
 use crate::faults::{NoMemory, TextFault};
 use crate::folding::key;
@@ -29,13 +31,13 @@ pub struct ScopeList {
 
 impl Model for ScopeList {
     ghost use Rattle.std.specs.Prelude.{List, ℕ};
-    ghost use Rattle.slp_text.specs.Words.{IsAscending};
+    ghost use Rattle.slp_text.specs.Scopes.{AreScopes};
 
     ghost Value = { List (List ℕ) };
 
     ghost view = { λ a. a.keys.items };
 
-    ghost invariant = { λ a. IsAscending a.keys.items };
+    ghost invariant = { λ a. AreScopes a.keys.items };
 }
 
 // Equal keys, in the same order.
@@ -87,6 +89,41 @@ fn named(alloc: Global, text: &str) -> Result<Vec<Key>, TextFault>
         }
     }
     take_part(alloc, stage, part.as_str(), &mut keys)?;
+    Ok(keys)
+}
+
+// Small letters are asked for first, since most are.
+fn is_plain_byte(b: u8) -> bool
+    ensures { result ≡ is_plain_number b }
+{
+    (b >= b'a' && b <= b'z')
+        || (b >= b'A' && b <= b'Z')
+        || (b >= b'0' && b <= b'9')
+        || b == b'-'
+        || b == b'.'
+        || b == b'_'
+}
+
+/// Whether a text has nothing but letters and digits of ASCII, `-`, `.` and `_`. In lists of scopes such
+/// a text is written as it is.
+pub fn is_plain(text: &[u8]) -> bool
+    ensures value { result ≡ is_plain_text text.now }
+    ensures written { IsTrue result → encode_utf8_all (escaped Scope (chars text.now)) ≡ text.now }
+{
+    text.iter().all(|b| is_plain_byte(*b))
+}
+
+// The one scope that a plain text names, or none where it is empty.
+fn single(alloc: Global, text: &str) -> Result<Vec<Key>, TextFault>
+    requires { is_plain_text text.now ≡ true }
+    ensures value { IfOk result (λ v. scopes_of text.now ≡ Ok v.items) }
+    ensures memory { OnErr result (result ≡ Err Lacking) }
+{
+    if text.is_empty() {
+        return Ok(Vec::new(alloc));
+    }
+    let mut keys = Vec::with_capacity(alloc, 1)?;
+    keys.push(word_key(alloc, text)?)?;
     Ok(keys)
 }
 
@@ -145,6 +182,10 @@ impl ScopeList {
     pub fn parse(alloc: Global, text: &str) -> Result<ScopeList, TextFault>
         ensures { IsReading result (scopes_of text.now) }
     {
+        if is_plain(text.as_bytes()) {
+            let keys = single(alloc, text)?;
+            return Ok(ScopeList { keys });
+        }
         let keys = settled(named(alloc, text)?)?;
         Ok(ScopeList { keys })
     }
@@ -174,7 +215,7 @@ impl ScopeList {
     /// How many scopes there are. Takes no memory.
     pub fn len(&self) -> usize
         ensures value { result ≡ length self.now }
-        ensures ascending { IsAscending self.now }
+        ensures scopes { AreScopes self.now }
     {
         self.keys.len()
     }
