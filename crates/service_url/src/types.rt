@@ -30,10 +30,14 @@ impl Model for ServiceType {
 
 const SERVICE: &[u8] = b"service:";
 
+// Small letters are asked for first, since most are.
 fn is_name_byte(b: u8) -> bool
     ensures { result ≡ is_name_number b }
 {
-    matches!(b, b'0'..=b'9' | b'A'..=b'Z' | b'a'..=b'z' | b'+' | b'-' | b'.' | b'_')
+    (b >= b'a' && b <= b'z')
+        || (b >= b'0' && b <= b'9')
+        || (b >= b'A' && b <= b'Z')
+        || matches!(b, b'+' | b'-' | b'.' | b'_')
 }
 
 fn are_name_bytes(bytes: &[u8]) -> bool
@@ -102,7 +106,7 @@ fn is_abstract_with_colon(bytes: &[u8]) -> bool
 fn is_followed_by_colon(front: &[u8], text: &[u8]) -> bool
     ensures { result ≡ starts_with nat_eq text.now (front.now ++ 58 ∷ []) }
 {
-    front.len() < text.len() && text[front.len()] == b':' && text.starts_with(front)
+    front.len() < text.len() && text[front.len()] == b':' && front == &text[..front.len()]
 }
 
 fn before_colon(text: &str) -> &str
@@ -168,6 +172,7 @@ impl ServiceType {
 
     /// Whether it covers a type: itself, and where it is abstract each concrete type of it. Takes no
     /// memory.
+    #[inline]
     pub fn covers(&self, other: &ServiceType) -> bool
         ensures { result ≡ covers_it self.now other.now }
     {
