@@ -16,5 +16,8 @@ pub use attributes::{
 };
 pub use registrations::{registration_fields, registration_of, withdrawal_fields, withdrawal_of};
 pub use replies::refusal_fields;
-pub use services::{service_reply_of, service_request_fields, service_request_of, services_fields};
+pub use services::{
+    ServiceRequestView, service_reply_of, service_request_fields, service_request_of,
+    service_request_view_of, services_fields,
+};
 pub use types::{type_reply_of, type_request_fields, type_request_of, types_fields};

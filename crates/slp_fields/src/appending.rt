@@ -40,8 +40,9 @@ pub fn put_entry(bytes: &mut Vec<u8>, lifetime: u16, url: &str)
     ensures capacity { vec_capacity bytes.old ≤ vec_capacity bytes.new }
 {
     let [high, low] = lifetime.to_be_bytes();
-    append(bytes, &[0, high, low]);
-    put_text(bytes, url);
+    let [long, short] = two_bytes(url.len());
+    append(bytes, &[0, high, low, long, short]);
+    append(bytes, url.as_bytes());
     append(bytes, &[0]);
 }
 

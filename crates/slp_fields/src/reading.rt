@@ -42,7 +42,7 @@ pub fn long_of(bytes: &[u8]) -> Result<(u32, &[u8]), WireFault>
 
 /// A string, whose length stands in front of it, without a copy.
 #[tactic(auto, using(crate::proofs::Texts::is_utf8_true, crate::proofs::Texts::is_utf8_false), unfolding(crate::specs::Reading::string_at))]
-pub(crate) fn str_of(bytes: &[u8]) -> Result<(&str, &[u8]), WireFault>
+pub fn str_of(bytes: &[u8]) -> Result<(&str, &[u8]), WireFault>
     ensures { Gives (λ x. (x.0.now, x.1.now)) result (string_at bytes.now) }
 {
     let (length, rest) = number_of(bytes)?;

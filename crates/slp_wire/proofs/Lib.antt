@@ -12,3 +12,4 @@ pub mod Chains
 pub mod Skipping
 pub mod Plain
 pub mod Whole
+pub mod Functions

@@ -8,7 +8,8 @@ pub mod laws;
 mod reading;
 mod writing;
 
-pub use reading::decode;
+pub use reading::{decode, read_service_request};
+pub use slp_bodies::ServiceRequestView;
 pub use slp_fields::{WireFault, append, entry_length, put_entry};
 pub use slp_headers::{
     HeaderView, error_reply, flag, opening, place, read_header, reply_function, two_bytes,

@@ -1,13 +1,16 @@
-ghost use Rattle.std.specs.Prelude.{◌≡◌, ◌<◌, ◌^◌, IfOk, Ok};
+ghost use Rattle.std.specs.Prelude.{◌≡◌, ◌<◌, ◌^◌, IfOk, IfErr, Some, Ok, Err};
+ghost use Rattle.slp_messages.specs.declared.message.Message.TheVariants as message;
 ghost use Rattle.slp_messages.specs.declared.message.Message.{Message as AnyMessage};
-ghost use Rattle.slp_headers.specs.Headers.{flags_of, heading};
+ghost use Rattle.slp_headers.specs.Headers.{flags_of, heading, heading_of};
 ghost use Rattle.slp_fields.specs.Steps.{Gives};
+ghost use Rattle.slp_bodies.specs.Views.{request};
 ghost use Rattle.slp_wire.specs.Bodies.{body_at};
 ghost use Rattle.slp_wire.specs.Reading.{is_known, kept_header, tail_of, ends_at, ended, reading_behind, reading, marked};
 ghost use Rattle.slp_wire.specs.Spelling.{Spells};
 
 use crate::body::body_of;
 use crate::extensions::skip_extensions;
+use slp_bodies::{ServiceRequestView, service_request_view_of};
 use slp_fields::WireFault;
 use slp_headers::{HeaderView, VERSION, flag, place, read_header};
 use slp_messages::{Flags, Header, Message, Tag, function};
@@ -89,9 +92,11 @@ fn whole_body(
     }
 }
 
+// What stands after the header, where a message of this header may be read.
 #[tactic(auto, unfolding(crate::specs::Reading::reading_behind))]
-fn message_behind(alloc: Global, view: &HeaderView<'_>, bytes: &[u8]) -> Result<Message, WireFault>
-    ensures { Gives (λ m. m) result (reading_behind (heading view.now) bytes.now) }
+fn body_behind<'a>(view: &HeaderView<'_>, bytes: &'a [u8]) -> Result<&'a [u8], WireFault>
+    ensures ok { IfOk result (λ body. reading_behind (heading view.now) bytes.now ≡ ended (heading view.now) (body_at view.now.function (tail_of (heading view.now)) (kept_header (heading view.now)) body.now)) }
+    ensures err { IfErr result (λ e. reading_behind (heading view.now) bytes.now ≡ Err e) }
 {
     if !is_read(view.function) {
         return Err(WireFault::Unknown);
@@ -104,8 +109,31 @@ fn message_behind(alloc: Global, view: &HeaderView<'_>, bytes: &[u8]) -> Result<
     if length < start || bytes.len() < length {
         return Err(WireFault::Parse);
     }
+    Ok(&bytes[..length][start..])
+}
+
+fn message_behind(alloc: Global, view: &HeaderView<'_>, bytes: &[u8]) -> Result<Message, WireFault>
+    ensures { Gives (λ m. m) result (reading_behind (heading view.now) bytes.now) }
+{
+    let body = body_behind(view, bytes)?;
     let header = header_in(alloc, view)?;
-    whole_body(alloc, view, header, &bytes[..length][start..])
+    whole_body(alloc, view, header, body)
+}
+
+/// The service request in front of the bytes, whose header was read from them. Its texts are lent.
+#[tactic(auto, unfolding(crate::specs::Reading::reading, crate::specs::Reading::ended, crate::specs::Bodies::body_at))]
+pub fn read_service_request<'a>(
+    view: &HeaderView<'_>,
+    bytes: &'a [u8],
+) -> Result<ServiceRequestView<'a>, WireFault>
+    requires header { heading_of bytes.now ≡ Some (heading view.now) }
+    requires function { view.now.function ≡ 1 }
+    ensures { Gives (λ r. message.ServiceRequest (kept_header (heading view.now)) (request r)) result (reading bytes.now) }
+{
+    let body = body_behind(view, bytes)?;
+    let (request, rest) = service_request_view_of(body)?;
+    check_end(view.extension as usize, view.length as usize, rest)?;
+    Ok(request)
 }
 
 #[tactic(auto, unfolding(crate::specs::Reading::reading))]
