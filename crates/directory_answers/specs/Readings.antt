@@ -1,13 +1,16 @@
 -- What bytes that come in are read as.
 use Rattle.std.specs.Prelude.{◌≡◌, ℕ, Bool, List, Option, Some, None, Ok, Err}
 use Rattle.slp_messages.specs.Messages.{IsMessage, function_of}
-use Rattle.slp_wire.specs.Reading.{reading}
+use Rattle.slp_headers.specs.Headers.{Heading}
+use Rattle.slp_wire.specs.Reading.{kept_header, reading}
 use Rattle.slp_fields.specs.declared.fault.WireFault.{WireFault}
 use Rattle.slp_messages.specs.declared.header.Header.{Header}
 use Rattle.slp_messages.specs.declared.message.Message.{Message}
 use Rattle.slp_messages.specs.declared.message.Message.TheVariants as message
 use Rattle.slp_messages.specs.declared.message.ServiceRequest.{ServiceRequest}
 use Rattle.directory_answers.specs.Answering.{is_change_function, is_change_of}
+use Rattle.directory_answers.specs.Questions.{question_of}
+use Rattle.directory_answers.specs.declared.question.Question.{Question}
 
 -- a registration or a withdrawal, by its function
 abbrev pub may_change : Message → Bool
@@ -18,6 +21,12 @@ pub record IsRead (bytes : List ℕ) (m : Message) : Type 0 where
   pub read : reading bytes ≡ Ok m
   pub sound : IsMessage m
   pub change : is_change_of bytes ≡ may_change m
+
+-- the bytes are read as a service request, whose question this is
+pub record IsAsked (h : Heading) (bytes : List ℕ) (q : Question) : Type 0 where
+  pub request : ServiceRequest
+  pub read : reading bytes ≡ Ok (message.ServiceRequest (kept_header h) request)
+  pub asks : q ≡ question_of (kept_header h) request
 
 -- the bytes are no message that is read, by this fault
 abbrev pub IsUnread : List ℕ → WireFault → Type 0

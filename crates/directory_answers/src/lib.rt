@@ -13,5 +13,5 @@ pub use call::Call;
 pub use change::{is_change, is_change_function};
 pub use fault::decider_of;
 pub use query::{QueryFault, ServiceQuery};
-pub use question::{Question, read_question};
-pub use reading::{request_in, understood};
+pub use question::{Question, asked};
+pub use reading::understood;

@@ -1,11 +1,16 @@
-ghost use Rattle.std.specs.Prelude.{◌≡◌, ◌==◌, ◌||◌, not, length, IfOk};
+ghost use Rattle.std.specs.Prelude.{◌≡◌, ◌==◌, ◌||◌, not, length, IfOk, MatchResult, Some};
 ghost use Rattle.slp_text.specs.Words.{is_blank as is_blank_text};
+ghost use Rattle.slp_headers.specs.Headers.{has_flag, heading, heading_of};
+ghost use Rattle.slp_headers.specs.declared.flag.TheConstants.{MULTICAST};
+ghost use Rattle.slp_bodies.specs.Views.{request as request_as};
+ghost use Rattle.slp_wire.specs.Reading.{kept_header};
 ghost use Rattle.directory_answers.specs.Questions.{question_of};
+ghost use Rattle.directory_answers.specs.Readings.{IsAsked, IsUnread};
 
 use crate::query::ServiceQuery;
 use directory_judge::{is_agent, read_kind, read_scopes};
 use slp_text::{NoMemory, TextFault, is_blank, key};
-use slp_wire::{Header, ServiceRequest};
+use slp_wire::{HeaderView, ServiceRequestView, WireFault, flag, read_service_request};
 use std::alloc::Global;
 
 /// What a service request asks.
@@ -21,16 +26,34 @@ pub enum Question {
 /// The type that only service agents answer for.
 const OTHER_AGENT_TYPE: &str = "service:service-agent";
 
-/// What a service request asks. Requests that are sent to many, that name responders or have a
-/// predicate, and those for directory agents are not answered yet.
-pub fn read_question(
+/// What the service request in front of bytes asks, or the fault for which they are none. The header
+/// was read from them, and is that of a service request. Requests that are sent to many, that name
+/// responders or have a predicate, and those for directory agents are not answered yet.
+pub fn asked(
     alloc: Global,
-    header: &Header,
-    request: &ServiceRequest,
-) -> Result<Question, NoMemory>
-    ensures { IfOk result (λ q. q ≡ question_of header.now request.now) }
+    header: &HeaderView<'_>,
+    bytes: &[u8],
+) -> Result<Result<Question, WireFault>, NoMemory>
+    requires header { heading_of bytes.now ≡ Some (heading header.now) }
+    requires function { header.now.function ≡ 1 }
+    ensures { IfOk result (λ read. MatchResult read (IsAsked (heading header.now) bytes.now) (IsUnread bytes.now)) }
 {
-    let kind = read_kind(alloc, request.kind.as_str())?;
+    match read_service_request(header, bytes) {
+        Ok(request) => Ok(Ok(question_in(alloc, header, &request)?)),
+        Err(WireFault::NoMemory) => Err(NoMemory),
+        Err(fault) => Ok(Err(fault)),
+    }
+}
+
+// What a service request asks.
+fn question_in(
+    alloc: Global,
+    header: &HeaderView<'_>,
+    request: &ServiceRequestView<'_>,
+) -> Result<Question, NoMemory>
+    ensures { IfOk result (λ q. q ≡ question_of (kept_header (heading header.now)) (request_as request.now)) }
+{
+    let kind = read_kind(alloc, request.kind)?;
     if is_odd(header, request) || is_agent(kind.as_ref()) {
         return Ok(Question::Silent);
     }
@@ -40,10 +63,10 @@ pub fn read_question(
     if kind.text() == OTHER_AGENT_TYPE {
         return Ok(Question::Silent);
     }
-    let Some(scopes) = read_scopes(alloc, request.scopes.as_str())? else {
+    let Some(scopes) = read_scopes(alloc, request.scopes)? else {
         return Ok(Question::Unreadable);
     };
-    match key(alloc, header.language.as_str()) {
+    match key(alloc, header.language) {
         Ok(language) => Ok(Question::Asks(ServiceQuery {
             kind,
             scopes,
@@ -55,10 +78,10 @@ pub fn read_question(
 }
 
 // Whether a request is sent to many, or names responders or has a predicate.
-fn is_odd(header: &Header, request: &ServiceRequest) -> bool
-    ensures { result ≡ (header.now.flags.multicast || not (length request.now.responders == 0) || not (is_blank_text request.now.predicate)) }
+fn is_odd(header: &HeaderView<'_>, request: &ServiceRequestView<'_>) -> bool
+    ensures { result ≡ (has_flag MULTICAST header.now.flags || not (length request.now.responders.now == 0) || not (is_blank_text request.now.predicate.now)) }
 {
-    header.flags.multicast
-        || !request.responders.as_str().is_empty()
-        || !is_blank(request.predicate.as_str())
+    header.flags & flag::MULTICAST != 0
+        || !request.responders.is_empty()
+        || !is_blank(request.predicate)
 }

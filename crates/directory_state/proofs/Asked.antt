@@ -29,12 +29,13 @@ use Rattle.directory_judge.specs.Meaning.{AreLive, rules}
 use Rattle.directory_judge.specs.Sites.{Place}
 use Rattle.directory_answers.specs.declared.query.ServiceQuery.{ServiceQuery}
 use Rattle.directory_answers.specs.Asking.{IsOpenNow, Matches, IsItem, AreItems, AreServices}
-use Rattle.directory_state.specs.Finding.{Dated, joined, is_seen, all_seen, item_at}
+use Rattle.directory_state.specs.Deadlines.{Dated, urls_of}
+use Rattle.directory_state.specs.Finding.{joined, is_seen, all_seen, item_at}
 use Rattle.directory_state.specs.Folding.{Fold}
 use Rattle.directory_state.specs.State.{State}
 use Rattle.directory_answers.specs.Verdicts.{IsLegal}
 use Rattle.directory_state.proofs.Folding.{kept-some, some-kept}
-use Rattle.directory_state.proofs.Joining.{is_same, is_same-itself, reversed, urls_of, latest_in, ascending-joined}
+use Rattle.directory_state.proofs.Joining.{is_same, is_same-itself, reversed, latest_in, ascending-joined}
 use Rattle.directory_state.proofs.Seen.{latest, latest-joined, latest-ge, latest-from, latest-some, here, there}
 use Rattle.directory_state.proofs.Lasting.{last-deadline}
 

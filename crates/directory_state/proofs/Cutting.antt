@@ -6,7 +6,8 @@ use Rattle.std.specs.declared.cmp.Ordering.TheVariants.{Less, Equal, Greater}
 use Rattle.std.proofs.lemmas.Bool.{leb-true, leb-false, le-leb, lt-leb}
 use Rattle.registry_core.specs.declared.entry.Entry.{Entry}
 use Rattle.slp_text.specs.Words.{bytes_cmp}
-use Rattle.directory_state.specs.Finding.{Dated, join, joined, size, cut, cut_in}
+use Rattle.directory_state.specs.Deadlines.{Dated, join, size}
+use Rattle.directory_state.specs.Finding.{joined, cut, cut_in}
 
 module _ (cost : List ℕ → ℕ) where
   -- one that fits comes before what is cut of the others, and one that does not fit is the last

@@ -13,9 +13,10 @@ use Rattle.registry_core.specs.declared.entry.Entry.{Entry}
 use Rattle.slp_text.specs.Words.{bytes_cmp, IsAscending}
 use Rattle.directory_judge.specs.Judging.{supports}
 use Rattle.directory_judge.specs.Sites.{Place}
-use Rattle.directory_state.specs.Finding.{Dated, join, joined, cut, is_seen, all_seen}
+use Rattle.directory_state.specs.Deadlines.{Dated, join, urls_of}
+use Rattle.directory_state.specs.Finding.{joined, cut, is_seen, all_seen}
 use Rattle.directory_state.proofs.Cutting.{cut-joined}
-use Rattle.directory_state.proofs.Joining.{is_same, is_same-itself, reversed, urls_of, latest_in, none_before_first, ascending-join}
+use Rattle.directory_state.proofs.Joining.{is_same, is_same-itself, reversed, latest_in, none_before_first, ascending-join}
 
 -- a URL is found with one more deadline
 abbrev pub noted : List ℕ → ℕ → List ℕ → Option ℕ → Option ℕ

@@ -1,29 +1,17 @@
 -- How what answers a question is found: each entry that is seen joins a list of URLs with their latest deadlines, which is cut to its room.
-use Rattle.std.specs.Prelude.{◌≡◌, ℕ, ◌+◌, ◌-◌, ◌≤◌, Bool, ◌&&◌, nat_le, max, min, if◌then◌else◌, List, [], ◌∷◌, ◌++◌, length, map, filter, Option, Some, None, IfSome}
-use Rattle.std.specs.Borrow.{Bor}
-use Rattle.std.specs.BTreeMap.{BTreeMap}
-use Rattle.std.specs.Ordering.{match_ordering}
+use Rattle.std.specs.Prelude.{◌≡◌, ℕ, ◌+◌, ◌-◌, ◌≤◌, Bool, ◌&&◌, nat_le, min, if◌then◌else◌, List, [], ◌∷◌, ◌++◌, length, filter, Option, Some, None, IfSome}
 use Rattle.access_rules.specs.Deciding.{SiteRules, deciding}
 use Rattle.access_rules.specs.declared.rule.Action.TheVariants.{See}
 use Rattle.registry_core.specs.Entries.{outlives}
 use Rattle.registry_core.specs.declared.entry.Entry.{Entry}
-use Rattle.slp_text.specs.Words.{bytes_cmp}
 use Rattle.slp_messages.specs.declared.message.UrlEntry.{UrlEntry}
 use Rattle.directory_judge.specs.Judging.{supports}
 use Rattle.directory_judge.specs.Sites.{Place}
+use Rattle.directory_state.specs.Deadlines.{Dated, join, size}
 use Rattle.directory_state.specs.declared.finding.Kept.{Kept}
 use Rattle.directory_state.specs.declared.finding.Room.{Room}
 
 -- ---- what is seen
-
--- a URL, and the latest deadline of what was found of it
-abbrev pub Dated : Type 0
-Dated = List ℕ × ℕ
-
--- an entry of the URL is found: it stands in its place among the others, once and with the latest deadline
-abbrev pub join : List ℕ → ℕ → List Dated → List Dated
-join url deadline [] = (url, deadline) ∷ []
-join url deadline (p ∷ ps) = match_ordering (bytes_cmp url p.0) ((url, deadline) ∷ p ∷ ps) ((p.0, max p.1 deadline) ∷ ps) (p ∷ join url deadline ps)
 
 -- entries are found one by one
 abbrev pub joined : List Entry → List Dated → List Dated
@@ -56,11 +44,6 @@ abbrev pub bytes_in : Option Room → ℕ
 bytes_in None = 0
 bytes_in (Some room) = room.bytes
 
--- the bytes that items take
-abbrev pub size : (List ℕ → ℕ) → List Dated → ℕ
-size cost [] = 0
-size cost (p ∷ ps) = cost p.0 + size cost ps
-
 -- as many from the front as there is room for, and one more, where there is one
 abbrev pub cut : (List ℕ → ℕ) → ℕ → List Dated → List Dated
 cut cost left [] = []
@@ -69,20 +52,9 @@ cut cost left (p ∷ ps) = if nat_le (cost p.0) left then p ∷ cut cost (left -
 abbrev pub cut_in : Option Room → List Dated → List Dated
 cut_in room = cut (cost_in room) (bytes_in room)
 
--- URLs that are lent
-abbrev pub Lent : Type 0
-Lent = List (Bor (List ℕ) × ℕ)
-
-abbrev pub plain : Lent → List Dated
-plain es = map (λ p. (p.0.now, p.1)) es
-
--- what a map of them has
-abbrev pub dated : BTreeMap (Bor (List ℕ)) ℕ → List Dated
-dated m = plain m.entries
-
 -- what is kept is counted
 abbrev pub IsCounted : Kept → Type 0
-IsCounted k = k.used ≡ size (cost_in k.room) (dated k.latest)
+IsCounted k = k.used ≡ size (cost_in k.room) k.latest
 
 -- what an item takes beside its URL is little, so that the bytes of one item can be counted
 abbrev pub IsSmall : Option Room → Type 0
@@ -92,4 +64,4 @@ IsSmall room = IfSome room (λ r. r.each ≤ 65535)
 pub record IsKept (k : Kept) : Type 0 where
   pub counted : IsCounted k
   pub small : IsSmall k.room
-  pub is_cut : cut_in k.room (dated k.latest) ≡ dated k.latest
+  pub is_cut : cut_in k.room k.latest ≡ k.latest

@@ -3,7 +3,7 @@ use Rattle.std.specs.Prelude.{◌≡◌, ℕ, ◌+◌, ◌≤◌, Bool, nat_lt, 
 use Rattle.slp_messages.specs.declared.message.UrlEntry.{UrlEntry}
 use Rattle.directory_state.specs.declared.finding.Found.{Found}
 use Rattle.directory_state.specs.declared.finding.Room.{Room}
-use Rattle.directory_state.specs.Finding.{dated, item_at}
+use Rattle.directory_state.specs.Finding.{item_at}
 
 -- the bytes that items take
 abbrev pub size_in : Room → List UrlEntry → ℕ
@@ -21,4 +21,4 @@ pub record IsFront (room : Room) (all items : List UrlEntry) (is_cut : Bool) : T
 
 -- what is shown of it
 abbrev pub items_in : Found → List UrlEntry
-items_in found = map (item_at found.moment) (dated found.latest)
+items_in found = map (item_at found.moment) found.latest

@@ -1,3 +1,4 @@
+pub mod Deadlines
 pub mod Finding
 pub mod Fitting
 pub mod Folding

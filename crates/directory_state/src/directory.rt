@@ -7,7 +7,8 @@ ghost use Rattle.directory_judge.specs.Judging.{IsChange, Judgement, supports};
 ghost use Rattle.directory_judge.specs.Making.{content};
 ghost use Rattle.directory_answers.specs.Calls.{Opening};
 ghost use Rattle.directory_answers.specs.Asking.{AreServices};
-ghost use Rattle.directory_state.specs.Finding.{Dated, item_at, dated, cut_in, IsSmall, IsKept};
+ghost use Rattle.directory_state.specs.Deadlines.{Dated};
+ghost use Rattle.directory_state.specs.Finding.{item_at, cut_in, IsSmall, IsKept};
 ghost use Rattle.directory_state.specs.Fitting.{IsFront, items_in, size_in};
 ghost use Rattle.directory_state.specs.Folding.{Fold, StandsFor};
 ghost use Rattle.directory_state.specs.State.{State, beginning, made};
@@ -163,7 +164,7 @@ impl<R: Registry> Directory<R> {
         ensures faults { IfErr result (λ e. (e ≡ QueryFault.Scope) ⊎ (e ≡ QueryFault.NoMemory)) }
         ensures kept { IfOk result (λ kept. IsKept kept × (kept.room ≡ room)) }
         ensures items { (o : Opening) (h : History) → Fold o h self.now → IsLegal o h
-            → IfOk result (λ kept. (all : List Dated) × AreServices o h moment asker query.now (map (item_at (max moment self.now.clock)) all) × (dated kept.latest ≡ cut_in room all)) }
+            → IfOk result (λ kept. (all : List Dated) × AreServices o h moment asker query.now (map (item_at (max moment self.now.clock)) all) × (kept.latest ≡ cut_in room all)) }
     {
         let search = Search {
             query,

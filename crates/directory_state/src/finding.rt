@@ -2,9 +2,11 @@ ghost use Rattle.std.specs.Prelude.{◌≡◌, ◌+◌, ◌-◌, ◌<◌, ◌↔
 ghost use Rattle.std.specs.List.{list_any};
 ghost use Rattle.registry_core.specs.Entries.{is_at_place, IsListing};
 ghost use Rattle.directory_judge.specs.Judging.{supports};
-ghost use Rattle.directory_state.specs.Finding.{Dated, join, joined, is_seen, all_seen, item_at, cost_in, bytes_in, size, cut_in, dated, IsCounted, IsSmall, IsKept};
+ghost use Rattle.directory_state.specs.Deadlines.{Dated, join, size};
+ghost use Rattle.directory_state.specs.Finding.{joined, is_seen, all_seen, item_at, cost_in, bytes_in, cut_in, IsCounted, IsSmall, IsKept};
 ghost use Rattle.directory_state.specs.Fitting.{IsFront, items_in};
 
+use crate::deadlines::Deadlines;
 use access_rules::{Action, Addr, Rules};
 use directory_answers::{QueryFault, ServiceQuery};
 use directory_judge::Site;
@@ -13,7 +15,6 @@ use service_url::Url;
 use slp_messages::UrlEntry;
 use slp_text::{Key, NoMemory, Text};
 use std::alloc::Global;
-use std::collections::BTreeMap;
 
 /// How many bytes there are for what is found, and how many each item takes beside its URL.
 #[derive(Clone, Copy, Debug)]
@@ -26,7 +27,7 @@ pub struct Room {
 /// front as many as there is room for.
 #[derive(Drop)]
 pub struct Found<'a> {
-    pub latest: BTreeMap<&'a Url, u64>,
+    pub latest: Deadlines<'a>,
     /// The moment, in seconds, from which lifetimes are counted.
     pub moment: u64,
     /// Whether there is more than there is room for.
@@ -47,7 +48,7 @@ pub struct Search<'q> {
 /// room for, and one more, where there is one; all, where there is no bound.
 #[derive(Drop)]
 pub struct Kept<'a> {
-    latest: BTreeMap<&'a Url, u64>,
+    latest: Deadlines<'a>,
     used: usize,
     room: Option<Room>,
 }
@@ -77,15 +78,9 @@ impl<'a> Kept<'a> {
     // Whether a URL comes after all that is kept, where there is no room for the last of that.
     fn is_past(&self, url: &Url) -> bool
         requires { IsCounted self.now }
-        ensures { IsTrue result → (deadline : ℕ) → cut_in self.now.room (join url.now deadline (dated self.now.latest)) ≡ cut_in self.now.room (dated self.now.latest) }
+        ensures { IsTrue result → (deadline : ℕ) → cut_in self.now.room (join url.now deadline self.now.latest) ≡ cut_in self.now.room self.now.latest }
     {
-        if !self.is_over(self.used) {
-            return false;
-        }
-        match self.latest.last_key_value() {
-            Some((last, _)) => url > *last,
-            None => false,
-        }
+        self.is_over(self.used) && self.latest.are_before(url)
     }
 
     // A URL joins what is kept.
@@ -94,16 +89,13 @@ impl<'a> Kept<'a> {
         requires small { IsSmall self.old.room }
         ensures room { self.new.room ≡ self.old.room }
         ensures counted { IfOk result (λ _. IsCounted self.new) }
-        ensures joins { IfOk result (λ _. dated self.new.latest ≡ join url.now deadline (dated self.old.latest)) }
+        ensures joins { IfOk result (λ _. self.new.latest ≡ join url.now deadline self.old.latest) }
     {
         // A sum that is not a number of bytes is more than there is memory for.
         let used = self.used.checked_add(cost(self.room, url)).ok_or(NoMemory)?;
-        match self.latest.insert(url, deadline)? {
-            None => self.used = used,
-            Some(other) if other > deadline => {
-                self.latest.insert(url, other)?;
-            }
-            Some(_) => (),
+        self.latest.make_room()?;
+        if self.latest.join(url, deadline)? {
+            self.used = used;
         }
         Ok(())
     }
@@ -112,10 +104,10 @@ impl<'a> Kept<'a> {
     fn used_before_last(&self) -> Option<usize>
         requires counted { IsCounted self.now }
         requires small { IsSmall self.now.room }
-        ensures none { IfNone result (dated self.now.latest ≡ []) }
-        ensures some { IfSome result (λ n. n ≡ size (cost_in self.now.room) (take (length (dated self.now.latest) - 1) (dated self.now.latest))) }
+        ensures none { IfNone result (self.now.latest ≡ []) }
+        ensures some { IfSome result (λ n. n ≡ size (cost_in self.now.room) (take (length self.now.latest - 1) self.now.latest)) }
     {
-        let (last, _) = self.latest.last_key_value()?;
+        let last = self.latest.last()?;
         Some(self.used - cost(self.room, last))
     }
 
@@ -125,12 +117,13 @@ impl<'a> Kept<'a> {
         requires small { IsSmall self.old.room }
         ensures room { self.new.room ≡ self.old.room }
         ensures kept { IsKept self.new }
-        ensures cut { dated self.new.latest ≡ cut_in self.old.room (dated self.old.latest) }
+        ensures cut { self.new.latest ≡ cut_in self.old.room self.old.latest }
     {
-        while let Some(used) = self.used_before_last()
+        while self.is_over(self.used)
+            && let Some(used) = self.used_before_last()
             && self.is_over(used)
         {
-            self.latest.pop_last();
+            self.latest.drop_last();
             self.used = used;
         }
     }
@@ -140,7 +133,7 @@ impl<'a> Kept<'a> {
         requires { IsKept self.old }
         ensures room { self.new.room ≡ self.old.room }
         ensures kept { IfOk result (λ _. IsKept self.new) }
-        ensures found { IfOk result (λ _. dated self.new.latest ≡ cut_in self.old.room (joined (filter (is_seen question.now.rules.now question.now.moment question.now.asker scope.now) (entry.now ∷ [])) (dated self.old.latest))) }
+        ensures found { IfOk result (λ _. self.new.latest ≡ cut_in self.old.room (joined (filter (is_seen question.now.rules.now question.now.moment question.now.asker scope.now) (entry.now ∷ [])) self.old.latest)) }
     {
         if entry.deadline <= question.moment || self.is_past(&entry.url) {
             return Ok(());
@@ -157,6 +150,8 @@ impl<'a> Kept<'a> {
     }
 
     // Finds the entries of a scope that are live now, of a type that is covered, and open to the asker there.
+    // A function of its own in the machine's code as well, so that its loop keeps its registers.
+    #[inline(never)]
     fn collect<R: Registry>(
         &mut self,
         registry: &'a R,
@@ -166,7 +161,7 @@ impl<'a> Kept<'a> {
         requires { IsKept self.old }
         ensures room { self.new.room ≡ self.old.room }
         ensures kept { IfOk result (λ _. IsKept self.new) }
-        ensures found { IfOk result (λ _. dated self.new.latest ≡ cut_in self.old.room (joined (filter (is_seen question.now.rules.now question.now.moment question.now.asker scope.now) (R.rest_at registry.now scope.now (Some question.now.query.now.kind) 0)) (dated self.old.latest))) }
+        ensures found { IfOk result (λ _. self.new.latest ≡ cut_in self.old.room (joined (filter (is_seen question.now.rules.now question.now.moment question.now.asker scope.now) (R.rest_at registry.now scope.now (Some question.now.query.now.kind) 0)) self.old.latest)) }
         ensures listing { IfOk result (λ _. IsListing (is_at_place scope.now (Some question.now.query.now.kind)) (R.contents registry.now) (R.rest_at registry.now scope.now (Some question.now.query.now.kind) 0)) }
     {
         let mut from = 0;
@@ -186,7 +181,7 @@ impl<'a> Kept<'a> {
         requires { IsKept self.old }
         ensures room { self.new.room ≡ self.old.room }
         ensures kept { IfOk result (λ _. IsKept self.new) }
-        ensures found { IfOk result (λ _. dated self.new.latest ≡ cut_in self.old.room (joined (all_seen (λ s. R.rest_at registry.now s (Some question.now.query.now.kind) 0) question.now.rules.now question.now.site.now question.now.moment question.now.asker question.now.query.now.scopes) (dated self.old.latest))) }
+        ensures found { IfOk result (λ _. self.new.latest ≡ cut_in self.old.room (joined (all_seen (λ s. R.rest_at registry.now s (Some question.now.query.now.kind) 0) question.now.rules.now question.now.site.now question.now.moment question.now.asker question.now.query.now.scopes) self.old.latest)) }
         ensures listings { IfOk result (λ _. (k : ℕ) (s : List ℕ) → slice_get question.now.query.now.scopes k ≡ Some s → IsTrue (supports question.now.site.now s)
             → IsListing (is_at_place s (Some question.now.query.now.kind)) (R.contents registry.now) (R.rest_at registry.now s (Some question.now.query.now.kind) 0)) }
         ensures supported { IfOk result (λ is. is ≡ list_any (supports question.now.site.now) question.now.query.now.scopes) }
@@ -217,12 +212,12 @@ impl<'a> Kept<'a> {
         ensures faults { IfErr result (λ e. (e ≡ QueryFault.Scope) ⊎ (e ≡ QueryFault.NoMemory)) }
         ensures room { IfOk result (λ kept. kept.room ≡ room) }
         ensures kept { IfOk result (λ kept. IsKept kept) }
-        ensures found { IfOk result (λ kept. dated kept.latest ≡ cut_in room (joined (all_seen (λ s. R.rest_at registry.now s (Some question.now.query.now.kind) 0) question.now.rules.now question.now.site.now question.now.moment question.now.asker question.now.query.now.scopes) [])) }
+        ensures found { IfOk result (λ kept. kept.latest ≡ cut_in room (joined (all_seen (λ s. R.rest_at registry.now s (Some question.now.query.now.kind) 0) question.now.rules.now question.now.site.now question.now.moment question.now.asker question.now.query.now.scopes) [])) }
         ensures listings { IfOk result (λ _. (k : ℕ) (s : List ℕ) → slice_get question.now.query.now.scopes k ≡ Some s → IsTrue (supports question.now.site.now s)
             → IsListing (is_at_place s (Some question.now.query.now.kind)) (R.contents registry.now) (R.rest_at registry.now s (Some question.now.query.now.kind) 0)) }
     {
         let mut kept = Kept {
-            latest: BTreeMap::new(alloc),
+            latest: Deadlines::new(alloc),
             used: 0,
             room,
         };
@@ -234,7 +229,7 @@ impl<'a> Kept<'a> {
 
     /// All that is kept, in byte order, with what is left of the lifetimes in seconds.
     pub fn into_items(self, alloc: Global, now: u64) -> Result<Vec<UrlEntry>, QueryFault>
-        ensures items { IfOk result (λ items. items.items ≡ map (item_at now) (dated self.entry.latest)) }
+        ensures items { IfOk result (λ items. items.items ≡ map (item_at now) self.entry.latest) }
         ensures err { IfErr result (λ e. e ≡ QueryFault.NoMemory) }
     {
         let latest = self.latest;
@@ -245,12 +240,12 @@ impl<'a> Kept<'a> {
     pub fn fitting(self, now: u64) -> Found<'a>
         requires { IsKept self }
         ensures moment { result.moment ≡ now }
-        ensures front { (room : Room) (all : List Dated) → self.entry.room ≡ Some room → dated self.entry.latest ≡ cut_in self.entry.room all → IsFront room (map (item_at now) all) (items_in result) result.is_cut }
+        ensures front { (room : Room) (all : List Dated) → self.entry.room ≡ Some room → self.entry.latest ≡ cut_in self.entry.room all → IsFront room (map (item_at now) all) (items_in result) result.is_cut }
     {
         let is_cut = self.is_over(self.used);
         let mut latest = self.latest;
         if is_cut {
-            latest.pop_last();
+            latest.drop_last();
         }
         Found {
             latest,
@@ -261,11 +256,11 @@ impl<'a> Kept<'a> {
 }
 
 // The URLs in byte order, with what is left of their lifetimes in seconds.
-fn listed(alloc: Global, latest: &BTreeMap<&Url, u64>, now: u64) -> Result<Vec<UrlEntry>, NoMemory>
-    ensures { IfOk result (λ items. items.items ≡ map (item_at now) (dated latest.now)) }
+fn listed(alloc: Global, latest: &Deadlines<'_>, now: u64) -> Result<Vec<UrlEntry>, NoMemory>
+    ensures { IfOk result (λ items. items.items ≡ map (item_at now) latest.now) }
 {
     let mut items = Vec::with_capacity(alloc, latest.len())?;
-    for (url, deadline) in latest {
+    for (url, deadline) in latest.as_slice() {
         let left = deadline.saturating_sub(now).min(u64::from(u16::MAX));
         items.push(UrlEntry {
             lifetime: left as u16,

@@ -2,10 +2,12 @@
 //! it answers.
 #![tactic(auto)]
 
+mod deadlines;
 mod directory;
 mod finding;
 pub mod laws;
 
+pub use deadlines::Deadlines;
 pub use directory::Directory;
 pub use directory_answers::{QueryFault, ServiceQuery};
 pub use finding::{Found, Room};

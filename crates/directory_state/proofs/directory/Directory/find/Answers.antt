@@ -1,5 +1,5 @@
 use Rattle.std.proofs.Common.{max, map, sym, ap, subst, ◌∙◌, arith}
-use Rattle.directory_state.specs.Finding.{item_at, cut_in, dated}
+use Rattle.directory_state.specs.Finding.{item_at, cut_in}
 use Rattle.directory_state.specs.Fitting.{IsFront, items_in, size_in}
 use Rattle.directory_state.proofs.directory.Directory.find.Goals as goal
 
@@ -16,5 +16,5 @@ returns-clause-items g c = λ o h fold legal.
 pub returns-clause-fits : goal.returns-clause-fits
 returns-clause-fits g c =
     let kept = c.in_ok-kept.ensures.kept in
-    let front = c.fitting.ensures.front c.args.room (dated c.in_ok-kept.kept.latest) kept.1 (sym kept.0.is_cut) in
+    let front = c.fitting.ensures.front c.args.room c.in_ok-kept.kept.latest kept.1 (sym kept.0.is_cut) in
     omega (arith, front.fits, ap (size_in c.args.room) front.items_are)

@@ -6,7 +6,8 @@ use Rattle.directory_answers.specs.Calls.{Opening}
 use Rattle.registry_core.specs.declared.entry.Entry.{Entry}
 use Rattle.directory_judge.specs.History.{History}
 use Rattle.directory_answers.specs.Asking.{AreServices}
-use Rattle.directory_state.specs.Finding.{Dated, joined, all_seen, item_at, cut_in, dated}
+use Rattle.directory_state.specs.Deadlines.{Dated}
+use Rattle.directory_state.specs.Finding.{joined, all_seen, item_at, cut_in}
 use Rattle.directory_state.specs.Folding.{Fold}
 use Rattle.directory_state.specs.State.{State}
 use Rattle.directory_answers.specs.Verdicts.{IsLegal}
@@ -27,7 +28,7 @@ returns-clause-items g c =
     let is : c.from.result ≡ n = c.from.ensures ∙ c.now.ensures ∙ ap (λ (s : State). max c.args.moment s.clock) (sym view-is) in
     let seen : SiteRules → ℕ → List Dated = λ rs t. joined (all_seen listing rs inside.site t c.args.asker c.args.query.now.scopes) [] in
     subst (λ (s : State). (o : Opening) (h : History) → Fold o h s → IsLegal o h → IfOk c.search.result
-    (λ kept. (all : List Dated) × AreServices o h c.args.moment c.args.asker c.args.query.now (map (item_at (max c.args.moment s.clock)) all) × (dated kept.latest ≡ cut_in c.args.room all))) view-is
+    (λ kept. (all : List Dated) × AreServices o h c.args.moment c.args.asker c.args.query.now (map (item_at (max c.args.moment s.clock)) all) × (kept.latest ≡ cut_in c.args.room all))) view-is
     (λ o h fold legal.
     on_ok c.search.result _ _ _ c.search.ensures.found c.search.ensures.listings
     (λ kept found listings. (

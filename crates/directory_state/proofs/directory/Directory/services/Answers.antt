@@ -1,7 +1,7 @@
 use Rattle.std.proofs.Common.{map, sym, ap, subst, ◌∙◌}
 use Rattle.std.proofs.lemmas.Result.{IfOk-weaker}
 use Rattle.directory_answers.specs.Asking.{AreServices}
-use Rattle.directory_state.specs.Finding.{item_at, dated}
+use Rattle.directory_state.specs.Finding.{item_at}
 use Rattle.directory_state.proofs.Cutting.{cut-none}
 use Rattle.directory_state.proofs.directory.Directory.services.Goals as goal
 
@@ -11,5 +11,5 @@ returns-clause-items g c = λ o h fold legal.
     IfOk-weaker c.into_items.result _ _
     (λ items are.
     subst (AreServices o h c.args.moment c.args.asker c.args.query.now)
-    (sym (are ∙ ap (λ t. map (item_at t) (dated c.in_ok-kept.kept.latest)) (c.from.ensures ∙ c.now.ensures) ∙ ap (map (item_at _)) (found.2 ∙ cut-none found.0))) found.1)
+    (sym (are ∙ ap (λ t. map (item_at t) c.in_ok-kept.kept.latest) (c.from.ensures ∙ c.now.ensures) ∙ ap (map (item_at _)) (found.2 ∙ cut-none found.0))) found.1)
     c.into_items.ensures.items

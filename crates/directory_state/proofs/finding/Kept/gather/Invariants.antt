@@ -3,7 +3,7 @@ use Rattle.std.specs.Prelude.{slice_get, IsTrue, ◌||◌}
 use Rattle.std.specs.List.{list_any}
 use Rattle.registry_core.specs.Entries.{is_at_place, IsListing}
 use Rattle.directory_judge.specs.Judging.{supports}
-use Rattle.directory_state.specs.Finding.{dated, joined, all_seen, cut_in, IsKept}
+use Rattle.directory_state.specs.Finding.{joined, all_seen, cut_in, IsKept}
 use Rattle.directory_state.proofs.finding.Kept.gather.Given as goal
 
 abbrev pub invariant-loop-place : goal.invariant-loop-place
@@ -12,7 +12,7 @@ invariant-loop-place g l =
     let seen = all_seen listing l.question.rules.now l.question.site.now l.question.moment l.question.asker in record {
       room : l.self.room ≡ l.initial.self.room;
       kept : IsKept l.self;
-      found : cut_in l.initial.self.room (joined (seen (drop l.place l.question.query.now.scopes)) (dated l.self.latest)) ≡ cut_in l.initial.self.room (joined (seen l.question.query.now.scopes) (dated l.initial.self.latest));
+      found : cut_in l.initial.self.room (joined (seen (drop l.place l.question.query.now.scopes)) l.self.latest) ≡ cut_in l.initial.self.room (joined (seen l.question.query.now.scopes) l.initial.self.latest);
       listings : (k : ℕ) (s : List ℕ) → k < l.place → slice_get l.question.query.now.scopes k ≡ Some s → IsTrue (supports l.question.site.now s)
           → IsListing (is_at_place s (Some l.question.query.now.kind)) (g.R.Registry.contents l.registry) (listing s);
       supported : (l.is_supported || list_any (supports l.question.site.now) (drop l.place l.question.query.now.scopes)) ≡ list_any (supports l.question.site.now) l.question.query.now.scopes;
