@@ -22,7 +22,7 @@ abbrev pub told : Action → ℕ → List ℕ
 told a asker = codes "# deny code=10 by=memory action=" ++ action_text a ++ (codes " asker=" ++ address_text asker) ++ (codes " type=- scope=-" ++ 10 ∷ [])
 
 parts_are_one : (v d b m w a k r t n s o e : List ℕ)
-    → (v ++ d ++ b ++ m ++ w) ++ a ++ (k ++ r) ++ (t ++ n ++ s ++ o ++ e) ≡ v ++ d ++ b ++ m ++ w ++ a ++ k ++ r ++ t ++ n ++ s ++ o ++ e
+    → (v ++ d ++ b ++ m ++ w) ++ a ++ (k ++ r) ++ (t ++ n ++ s ++ o ++ e) ≡ v ++ d ++ b ++ m ++ w ++ a ++ k ++ r ++ t ++ n ++ (s ++ o ++ e)
 parts_are_one v d b m w a k r t n s o e = simp append_assoc refl
 
 ten : decimal 10 ≡ 49 ∷ 48 ∷ []

@@ -4,14 +4,15 @@ use Rattle.std.specs.Prelude.{◌==◌, ◌&&◌, ◌||◌, ◌+◌, ◌/◌, �
 use Rattle.std.specs.Fmt.{decimal}
 use Rattle.std.specs.Result.{result_ok}
 use Rattle.std.specs.List.{list_any}
-use Rattle.std.proofs.lemmas.Option.{none-some, same_Some}
+use Rattle.std.proofs.lemmas.Option.{none-some}
 use Rattle.slp_headers.specs.Headers.{Heading, heading_of}
 use Rattle.slp_messages.specs.declared.header.Header.{Header}
 use Rattle.slp_messages.specs.declared.message.Message.{Message}
 use Rattle.slp_messages.specs.declared.message.Message.TheVariants as message
 use Rattle.slp_messages.specs.declared.message.ServiceRequest.{ServiceRequest}
 use Rattle.slp_fields.specs.declared.fault.WireFault.{WireFault}
-use Rattle.slp_wire.specs.Reading.{reading}
+use Rattle.slp_wire.specs.Reading.{kept_header, reading}
+use Rattle.slp_wire.proofs.Functions.{message_function}
 use Rattle.slp_wire.specs.Spelling.{plain}
 use Rattle.slp_messages.specs.declared.message.UrlEntry.{UrlEntry}
 use Rattle.access_rules.specs.Deciding.{SiteRules}
@@ -23,7 +24,7 @@ use Rattle.directory_judge.specs.Judging.{Judgement, IsChange, by_step, is_agent
 use Rattle.directory_judge.specs.declared.because.Decider.TheVariants as decider
 use Rattle.directory_judge.specs.Meaning.{rules}
 use Rattle.directory_judge.specs.Sites.{Place}
-use Rattle.slp_messages.specs.Messages.{IsMessage}
+use Rattle.slp_messages.specs.Messages.{IsMessage, function_of}
 use Rattle.directory_judge.specs.declared.because.Because.{Because}
 use Rattle.directory_judge.specs.declared.change.Change.{Change}
 use Rattle.directory_judge.specs.declared.judged.Judged.{Judged}
@@ -36,7 +37,7 @@ use Rattle.directory_answers.specs.Asking.{IsOpenNow, AreServices}
 use Rattle.directory_answers.specs.declared.query.ServiceQuery.{ServiceQuery}
 use Rattle.directory_answers.specs.declared.question.Question.{Question}
 use Rattle.directory_answers.specs.declared.question.Question.TheVariants.{Silent, Asks}
-use Rattle.directory_answers.specs.Readings.{may_change, request_of}
+use Rattle.directory_answers.specs.Readings.{may_change, request_of, IsAsked}
 use Rattle.directory_answers.specs.Verdicts.{IsLegal, IsVerdict, change_in, followed}
 use Rattle.directory_judge.specs.Making.{content}
 use Rattle.directory_state.specs.Fitting.{IsFront}
@@ -114,19 +115,6 @@ module _ (o : Opening) (h : History) (c : Call) where
   change-answer head (message.TypeReply header r) v is verdict = absurd is
   change-answer head (message.ServiceAdvert header a) v is verdict = absurd is
 
-request-is : (x : Message) (header : Header) (q : ServiceRequest) → request_of x ≡ Some (header, q) → x ≡ message.ServiceRequest header q
-request-is (message.ServiceRequest g p) header q is = let e : (g, p) ≡ (header, q) = same_Some (g, p) (header, q) is in ap (λ (y : Header × ServiceRequest). message.ServiceRequest y.0 y.1) e
-request-is (message.Registration g r) header q is = absurd (none-some _ is)
-request-is (message.ServiceReply g r) header q is = absurd (none-some _ is)
-request-is (message.Acknowledgement g code) header q is = absurd (none-some _ is)
-request-is (message.Withdrawal g w) header q is = absurd (none-some _ is)
-request-is (message.AttributeRequest g p) header q is = absurd (none-some _ is)
-request-is (message.AttributeReply g r) header q is = absurd (none-some _ is)
-request-is (message.DirectoryAdvert g a) header q is = absurd (none-some _ is)
-request-is (message.TypeRequest g p) header q is = absurd (none-some _ is)
-request-is (message.TypeReply g r) header q is = absurd (none-some _ is)
-request-is (message.ServiceAdvert g a) header q is = absurd (none-some _ is)
-
 -- ---- questions
 
 or_second : (a b c d : Bool) → b ≡ true → (a || b || c || d) ≡ true
@@ -158,11 +146,10 @@ module _ (site : Place) (own : ℕ) (head : Heading) (header : Header) (request 
 
 module _ (o : Opening) (h : History) (c : Call) (head : Heading) where
   -- what comes of a service request is what comes of its question
-  pub question-answer : (x : Message) (header : Header) (request : ServiceRequest) (q : Question) (r : Outcome) → request_of x ≡ Some (header, request) → question_of header request ≡ q
-      → IsAnswerTo o h c (sense_asked o.site head q) r None → IsAnswerTo o h c (sense_read o.site c.own head (Ok x)) r None
-  question-answer x header request q r some asks answer =
-      subst (λ (y : Message). IsAnswerTo o h c (sense_read o.site c.own head (Ok y)) r None) (sym (request-is x header request some))
-      (subst (λ (s : Sense). IsAnswerTo o h c s r None) (sym (asked-by o.site c.own head header request request.responders refl ∙ ap (sense_asked o.site head) asks)) answer)
+  question-answer : (header : Header) (request : ServiceRequest) (q : Question) (r : Outcome) → question_of header request ≡ q
+      → IsAnswerTo o h c (sense_asked o.site head q) r None → IsAnswerTo o h c (sense_read o.site c.own head (Ok (message.ServiceRequest header request))) r None
+  question-answer header request q r asks answer =
+      subst (λ (s : Sense). IsAnswerTo o h c s r None) (sym (asked-by o.site c.own head header request request.responders refl ∙ ap (sense_asked o.site head) asks)) answer
 
   -- services that were found where a scope is supported
   pub found-answer : (query : ServiceQuery) (r : Outcome) → list_any (supports o.site) query.scopes ≡ true
@@ -266,6 +253,41 @@ unheaded-replies o h c reply line none r l = record {
   is = unheaded-answer o h c none;
   told = silence-tells (rules o.rules h) c.asker (heading_of c.bytes) reply line r l;
 }
+
+-- a service request is answered as its question is
+pub asked-replies : (o : Opening) (h : History) (c : Call) (what : Sent) (reply line : List ℕ) (head : Heading) (q : Question) (rs : SiteRules) → rs ≡ rules o.rules h → heading_of c.bytes ≡ Some head → IsAsked head c.bytes q
+    → (r : Outcome) × IsAnswerTo o h c (sense_asked o.site head q) r None × Tells rs c.asker (Some head) r what reply line → Replies o h c what reply line
+asked-replies o h c what reply line head q rs ruled is asked told =
+    let x = message.ServiceRequest (kept_header head) asked.request in
+    answered-replies o h c what reply line head x rs ruled is asked.read (
+      told.0,
+      question-answer o h c head (kept_header head) asked.request q told.0 (sym asked.asks) told.1,
+      told.2,
+    )
+
+no_request_of : (x : Message) → (function_of x ≡ 1 → ⊥) → request_of x ≡ None
+no_request_of (message.ServiceRequest h q) other = absurd (other refl)
+no_request_of (message.Registration h r) other = refl
+no_request_of (message.ServiceReply h r) other = refl
+no_request_of (message.Acknowledgement h code) other = refl
+no_request_of (message.Withdrawal h w) other = refl
+no_request_of (message.AttributeRequest h q) other = refl
+no_request_of (message.AttributeReply h r) other = refl
+no_request_of (message.DirectoryAdvert h a) other = refl
+no_request_of (message.TypeRequest h q) other = refl
+no_request_of (message.TypeReply h r) other = refl
+no_request_of (message.ServiceAdvert h a) other = refl
+
+-- nothing is answered to a message of another function that asks for no change
+pub other-replies : (o : Opening) (h : History) (c : Call) (reply line : List ℕ) (head : Heading) (x : Message) (rs : SiteRules) → rs ≡ rules o.rules h → heading_of c.bytes ≡ Some head → reading c.bytes ≡ Ok x
+    → (head.function ≡ 1 → ⊥) → may_change x ≡ false → reply ≡ [] → line ≡ [] → Replies o h c sent.Silence reply line
+other-replies o h c reply line head x rs ruled is read other still r l =
+    let none = no_request_of x (λ e. other (sym (message_function c.bytes head x is read) ∙ e)) in
+    answered-replies o h c sent.Silence reply line head x rs ruled is read (
+      silence,
+      other-answer o h c head x none still,
+      silence-tells rs c.asker (Some head) reply line r l,
+    )
 
 -- ---- steps
 

@@ -55,15 +55,21 @@ abbrev pub scope_or_dash : Option (List ℕ) → List ℕ
 scope_or_dash None = codes "-"
 scope_or_dash (Some scope) = encode_utf8_all (escaped Scope (chars scope))
 
+-- how a line begins, and how it ends
+abbrev pub beginning_text : ℕ → List ℕ
+beginning_text code = (if code == 0 then codes "# allow code=" else codes "# deny code=") ++ decimal code ++ codes " by="
+
+abbrev pub ending_text : Option (List ℕ) → List ℕ
+ending_text scope = codes " scope=" ++ scope_or_dash scope ++ 10 ∷ []
+
 -- the whole line, where a rule that decided has this name
 unfoldable pub line_text : List ℕ → Audit → List ℕ
 line_text name a =
-    (if a.code == 0 then codes "# allow code=" else codes "# deny code=") ++ decimal a.code
-    ++ codes " by=" ++ decider_text name a.because.decider
+    beginning_text a.code ++ decider_text name a.because.decider
     ++ codes " action=" ++ action_text a.action
     ++ codes " asker=" ++ address_text a.asker
     ++ codes " type=" ++ text_or_dash a.because.kind
-    ++ codes " scope=" ++ scope_or_dash a.because.scope ++ 10 ∷ []
+    ++ ending_text a.because.scope
 
 -- the whole line
 unfoldable pub audit_text : SiteRules → Audit → List ℕ

@@ -1,14 +1,13 @@
-ghost use Rattle.std.specs.Prelude.{◌≡◌, [], ◌++◌, Some, OnOk, OnErr, chars, codes, encode_utf8_all, ◌==◌, if◌then◌else◌};
+ghost use Rattle.std.specs.Prelude.{◌≡◌, [], ◌++◌, Some, OnOk, OnErr, chars, codes, encode_utf8_all};
 ghost use Rattle.std.specs.Fmt.{WritesOnOk};
-ghost use Rattle.slp_answer.specs.Auditing.{action_text, decider_text, rule_named, text_or_dash, scope_or_dash, line_text, audit_text};
+ghost use Rattle.slp_answer.specs.Auditing.{action_text, decider_text, rule_named, text_or_dash, beginning_text, ending_text, line_text, audit_text};
 ghost use Rattle.slp_text.specs.Escapes.{written_at, escaped};
 ghost use Rattle.slp_text.specs.declared.escapes.Place.TheVariants.{Scope};
 
 use access_rules::{Action, Addr, Rules};
 use directory_judge::{Because, Decider};
-use slp_text::{Key, NoMemory, Place, is_reserved};
-use std::fmt;
-use std::io::Write;
+use slp_text::{Key, NoMemory, Place, is_plain, is_reserved};
+use std::{fmt, mem};
 
 /// What came of a message: its code, who decided and on what, what was asked for, and by whom.
 #[derive(Drop)]
@@ -30,14 +29,14 @@ pub(crate) fn action_word(action: Action) -> &'static str
     }
 }
 
-// How the line of a code begins.
-fn verdict(code: u16) -> &'static str
-    ensures { result.now ≡ (if code == 0 then codes "# allow code=" else codes "# deny code=") }
+// What stands between who decided and the asker.
+fn action_part(action: Action) -> &'static str
+    ensures { result.now ≡ codes " action=" ++ action_text action ++ codes " asker=" }
 {
-    if code == 0 {
-        "# allow code="
-    } else {
-        "# deny code="
+    match action {
+        Action::Register => " action=register asker=",
+        Action::Withdraw => " action=withdraw asker=",
+        Action::See => " action=see asker=",
     }
 }
 
@@ -64,6 +63,23 @@ fn rule_name(rules: &Rules, decider: Decider) -> &str
             }
         }
         _ => "",
+    }
+}
+
+// How a line begins: the code, and whether it allows.
+#[derive(Clone, Copy)]
+struct Beginning(u16);
+
+impl fmt::Display for Beginning {
+    ghost output = { λ b. Some (beginning_text b.0) };
+
+    fn fmt<W: fmt::Write>(&self, f: &mut fmt::Formatter<W>) -> fmt::Result {
+        let code = self.0;
+        if code == 0 {
+            f.write_str("# allow code=0 by=")
+        } else {
+            write!(f, "# deny code={code} by=")
+        }
     }
 }
 
@@ -127,17 +143,31 @@ fn write_escaped<W: fmt::Write>(scope: &str, f: &mut fmt::Formatter<W>) -> fmt::
     Ok(())
 }
 
-// A scope with its escapes, or a dash.
-#[derive(Clone, Copy)]
-struct Within<'a>(&'a Option<Key>);
+// Writes a scope, in one piece where it has no escapes.
+fn write_scope<W: fmt::Write>(scope: &str, f: &mut fmt::Formatter<W>) -> fmt::Result
+    ensures { WritesOnOk W.write_str_gives f.old result (encode_utf8_all (escaped Scope (chars scope.now))) f.new }
+{
+    if is_plain(scope.as_bytes()) {
+        return f.write_str(scope);
+    }
+    write_escaped(scope, f)
+}
 
-impl fmt::Display for Within<'_> {
-    ghost output = { λ w. Some (scope_or_dash w.0.now) };
+// How a line ends: a scope with its escapes, or a dash.
+#[derive(Clone, Copy)]
+struct Ending<'a>(&'a Option<Key>);
+
+impl fmt::Display for Ending<'_> {
+    ghost output = { λ e. Some (ending_text e.0.now) };
 
     fn fmt<W: fmt::Write>(&self, f: &mut fmt::Formatter<W>) -> fmt::Result {
         match self.0 {
-            Some(scope) => write_escaped(scope.as_str(), f),
-            None => f.write_str("-"),
+            Some(scope) => {
+                f.write_str(" scope=")?;
+                write_scope(scope.as_str(), f)?;
+                f.write_str("\n")
+            }
+            None => f.write_str(" scope=-\n"),
         }
     }
 }
@@ -159,15 +189,14 @@ impl fmt::Display for Line<'_> {
             action,
             asker,
         } = self.audit;
-        let (verdict, action) = (verdict(*code), action_word(*action));
+        let (beginning, action) = (Beginning(*code), action_part(*action));
         let by = By {
             rule: self.rule,
             decider: because.decider,
         };
-        let (kind, scope) = (kind_text(because), Within(&because.scope));
-        write!(f, "{verdict}{code} by={by}")?;
-        write!(f, " action={action} asker={asker}")?;
-        write!(f, " type={kind} scope={scope}\n")
+        let (kind, ending) = (kind_text(because), Ending(&because.scope));
+        write!(f, "{beginning}{by}{action}")?;
+        write!(f, "{asker} type={kind}{ending}")
     }
 }
 
@@ -178,8 +207,15 @@ pub(crate) fn put_line(rules: &Rules, audit: &Audit, line: &mut Vec<u8>) -> Resu
     ensures err { OnErr result (line.new.items ≡ []) }
 {
     let rule = rule_name(rules, audit.because.decider);
+    let none = Vec::new(*line.allocator());
+    let mut text = match String::from_utf8(mem::replace(line, none)) {
+        Ok(text) => text,
+        Err(_) => unreachable!(),
+    };
     let told = Line { rule, audit };
-    match write!(line, "{told}") {
+    let done = write!(text, "{told}");
+    *line = text.into_bytes();
+    match done {
         Ok(()) => Ok(()),
         Err(_) => {
             line.clear();

@@ -35,7 +35,7 @@ fn entries_length(found: &Found<'_>) -> usize
     ensures { result ≡ length (flat_map (entry_bytes 0) (items_in found.now)) }
 {
     let mut total = 0;
-    for (url, _) in &found.latest {
+    for (url, _) in found.latest.as_slice() {
         total += EMPTY_ENTRY + url.text().len();
     }
     total
@@ -46,7 +46,7 @@ fn put_entries(bytes: &mut Vec<u8>, found: &Found<'_>)
     requires room { vec_len bytes.old + length (flat_map (entry_bytes 0) (items_in found.now)) ≤ vec_capacity bytes.old }
     ensures items { bytes.new.items ≡ bytes.old.items ++ flat_map (entry_bytes 0) (items_in found.now) }
 {
-    for (url, deadline) in &found.latest {
+    for (url, deadline) in found.latest.as_slice() {
         let left = deadline
             .saturating_sub(found.moment)
             .min(u64::from(u16::MAX));

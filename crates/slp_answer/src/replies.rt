@@ -1,13 +1,12 @@
-ghost use Rattle.std.specs.Prelude.{◌≡◌, ◌≤◌, ◌==◌, ◌&&◌, ◌||◌, [], false, if◌then◌else◌, not, length, IfOk, OnErr, Some, None, Ok as Read};
-ghost use Rattle.slp_headers.specs.Headers.{heading};
+ghost use Rattle.std.specs.Prelude.{◌≡◌, ◌≤◌, ◌==◌, ◌&&◌, ◌||◌, [], false, if◌then◌else◌, not, length, IfOk, OnErr, Some, None};
+ghost use Rattle.slp_headers.specs.Headers.{heading, heading_of};
 ghost use Rattle.slp_wire.specs.Spelling.{plain};
 ghost use Rattle.directory_judge.specs.History.{History};
 ghost use Rattle.directory_judge.specs.Judging.{by_step};
 ghost use Rattle.directory_judge.specs.declared.because.Decider.TheVariants as decider;
-ghost use Rattle.directory_answers.specs.Answering.{is_change_of, sense_asked, sense_read, IsAnswerTo};
+ghost use Rattle.directory_answers.specs.Answering.{is_change_of, sense_asked, IsAnswerTo};
 ghost use Rattle.directory_answers.specs.Calls.{Opening, call_in};
 ghost use Rattle.directory_answers.specs.Outcomes.{Outcome, is_to_many, outcome, sent_of};
-ghost use Rattle.directory_answers.specs.Readings.{may_change};
 ghost use Rattle.directory_answers.specs.Verdicts.{IsLegal};
 ghost use Rattle.directory_answers.specs.declared.question.Question.TheVariants.{Asks as Asked};
 ghost use Rattle.directory_state.specs.Fitting.{items_in};
@@ -22,15 +21,13 @@ use crate::coded::{Finding, answer_code, answer_fault, is_unsent};
 use crate::listing::{put_found, room_in};
 use crate::refusals::action_in;
 use access_rules::{Addr, Rules};
-use directory_answers::{
-    Call, QueryFault, Question, ServiceQuery, read_question, request_in, understood,
-};
+use directory_answers::{Call, QueryFault, Question, ServiceQuery, asked, understood};
 use directory_judge::Decider;
 use directory_state::{Directory, Found};
 use registry_core::Registry;
 use service_url::ServiceType;
 use slp_text::NoMemory;
-use slp_wire::{HeaderView, Message, code, read_header};
+use slp_wire::{HeaderView, code, function, read_header};
 use std::alloc::Global;
 
 // Writes the services that were found, where a reply is sent.
@@ -55,29 +52,37 @@ fn write_found(
     Ok(Sent::Bytes(code::OK))
 }
 
+// A call whose header was read.
+#[derive(Clone, Copy)]
+struct Headed<'a> {
+    call: &'a Call<'a>,
+    header: &'a HeaderView<'a>,
+}
+
 // Sends the services that were found, and tells of it.
 fn send_found(
     rules: &Rules,
-    asker: Addr,
-    header: &HeaderView<'_>,
+    headed: &Headed<'_>,
     kind: ServiceType,
     found: &Found<'_>,
     answer: &mut Answer,
 ) -> Result<Sent, NoMemory>
-    requires short { length (plain (listed_with (heading header.now) found.now.is_cut (items_in found.now))) ≤ 65535 }
+    requires short { length (plain (listed_with (heading headed.now.header.now) found.now.is_cut (items_in found.now))) ≤ 65535 }
     requires no_reply { answer.old.bytes.items ≡ [] }
     requires no_line { answer.old.audit.items ≡ [] }
-    ensures { let whole = plain (listed_with (heading header.now) found.now.is_cut (items_in found.now)) in
+    ensures { let head = heading headed.now.header.now in
+        let whole = plain (listed_with head found.now.is_cut (items_in found.now)) in
         let is_empty = length (items_in found.now) == 0 && not found.now.is_cut in
-        IfOk result (λ what. Tells rules.now asker (Some (heading header.now)) (outcome (sent_of (heading header.now) 0 is_empty whole) 0 (by_step decider.Nobody (Some kind))) what answer.new.bytes.items answer.new.audit.items) }
+        IfOk result (λ what. Tells rules.now headed.now.call.now.asker (Some head) (outcome (sent_of head 0 is_empty whole) 0 (by_step decider.Nobody (Some kind))) what answer.new.bytes.items answer.new.audit.items) }
 {
+    let Headed { call, header } = *headed;
     let sent = write_found(header, found, answer)?;
     let Finding { code, because } = Finding::by(Decider::Nobody, Some(kind));
     let audit = Audit {
         code,
         because,
         action: action_in(header.function),
-        asker,
+        asker: call.asker,
     };
     put_line(rules, &audit, &mut answer.audit)?;
     Ok(sent)
@@ -88,19 +93,19 @@ fn send_found(
 fn answer_query<R: Registry>(
     alloc: Global,
     directory: &Directory<R>,
-    call: &Call<'_>,
-    header: &HeaderView<'_>,
+    headed: &Headed<'_>,
     query: ServiceQuery,
     answer: &mut Answer,
 ) -> Result<Sent, NoMemory>
-    requires datagram { 1400 ≤ call.now.limit }
-    requires stream { call.now.limit ≤ 65535 }
+    requires datagram { 1400 ≤ headed.now.call.now.limit }
+    requires stream { headed.now.call.now.limit ≤ 65535 }
     requires no_reply { answer.old.bytes.items ≡ [] }
     requires no_line { answer.old.audit.items ≡ [] }
     ensures { (o : Opening) (h : History) → Fold o h directory.now → IsLegal o h
-        → IfOk result (λ what. (r : Outcome) × IsAnswerTo o h (call_in call.now) (sense_asked o.site (heading header.now) (Asked query)) r None
-        × Tells directory.now.rules call.now.asker (Some (heading header.now)) r what answer.new.bytes.items answer.new.audit.items) }
+        → IfOk result (λ what. (r : Outcome) × IsAnswerTo o h (call_in headed.now.call.now) (sense_asked o.site (heading headed.now.header.now) (Asked query)) r None
+        × Tells directory.now.rules headed.now.call.now.asker (Some (heading headed.now.header.now)) r what answer.new.bytes.items answer.new.audit.items) }
 {
+    let Headed { call, header } = *headed;
     let room = room_in(header, call.limit);
     let found = directory.find(alloc, call.moment, call.asker, &query, room);
     let ServiceQuery {
@@ -110,7 +115,7 @@ fn answer_query<R: Registry>(
     } = query;
     let (rules, asker) = (directory.rules(), call.asker);
     match found {
-        Ok(found) => send_found(rules, asker, header, kind, &found, answer),
+        Ok(found) => send_found(rules, headed, kind, &found, answer),
         Err(QueryFault::Scope) => {
             let finding = Finding::by(Decider::Scope, Some(kind));
             answer_code(rules, asker, header, finding, answer)
@@ -123,33 +128,34 @@ fn answer_query<R: Registry>(
     }
 }
 
-fn answer_message<R: Registry>(
+// Answers a service request.
+fn answer_request<R: Registry>(
     alloc: Global,
     directory: &Directory<R>,
     call: &Call<'_>,
     header: &HeaderView<'_>,
-    message: &Message,
     answer: &mut Answer,
 ) -> Result<Sent, NoMemory>
-    requires no_change { may_change message.now ≡ false }
+    requires header { heading_of call.now.bytes.now ≡ Some (heading header.now) }
+    requires function { header.now.function ≡ 1 }
     requires datagram { 1400 ≤ call.now.limit }
     requires stream { call.now.limit ≤ 65535 }
     requires no_reply { answer.old.bytes.items ≡ [] }
     requires no_line { answer.old.audit.items ≡ [] }
     ensures { (o : Opening) (h : History) → Fold o h directory.now → IsLegal o h
-        → IfOk result (λ what. (r : Outcome) × IsAnswerTo o h (call_in call.now) (sense_read o.site call.now.own (heading header.now) (Read message.now)) r None
-        × Tells directory.now.rules call.now.asker (Some (heading header.now)) r what answer.new.bytes.items answer.new.audit.items) }
+        → IfOk result (λ what. Replies o h (call_in call.now) what answer.new.bytes.items answer.new.audit.items) }
 {
-    let Some((request_header, request)) = request_in(message) else {
-        return Ok(Sent::Silence);
-    };
-    match read_question(alloc, request_header, request)? {
-        Question::Silent => Ok(Sent::Silence),
-        Question::Unreadable => {
+    match asked(alloc, header, call.bytes)? {
+        Ok(Question::Silent) => Ok(Sent::Silence),
+        Ok(Question::Unreadable) => {
             let finding = Finding::by(Decider::Parse, None);
             answer_code(directory.rules(), call.asker, header, finding, answer)
         }
-        Question::Asks(query) => answer_query(alloc, directory, call, header, query, answer),
+        Ok(Question::Asks(query)) => {
+            let headed = Headed { call, header };
+            answer_query(alloc, directory, &headed, query, answer)
+        }
+        Err(fault) => answer_fault(directory.rules(), call.asker, header, fault, answer),
     }
 }
 
@@ -170,11 +176,13 @@ fn answer_bytes<R: Registry>(
     let Some(header) = read_header(call.bytes) else {
         return Ok(Sent::Silence);
     };
+    if header.function == function::SERVICE_REQUEST {
+        return answer_request(alloc, directory, call, &header, answer);
+    }
     match understood(alloc, call.bytes)? {
         Ok(message) => {
-            let told = answer_message(alloc, directory, call, &header, &message, answer);
             drop(message);
-            told
+            Ok(Sent::Silence)
         }
         Err(fault) => answer_fault(directory.rules(), call.asker, &header, fault, answer),
     }

@@ -2,6 +2,6 @@ use Rattle.std.proofs.Common.{rules}
 use Rattle.slp_answer.specs.Auditing.{audit_text}
 use Rattle.slp_answer.proofs.audit.put_line.Goals as goal
 
-pub returns-in-Ok-clause-ok : goal.returns-in-Ok-clause-ok
+pub returns-in-Ok-done-clause-ok : goal.returns-in-Ok-done-clause-ok
 unfolding audit_text
-returns-in-Ok-clause-ok c = search rules
+returns-in-Ok-done-clause-ok c = search rules

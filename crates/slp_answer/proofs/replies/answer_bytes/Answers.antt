@@ -4,14 +4,8 @@ use Rattle.std.proofs.lemmas.Result.{IfOk-weaker}
 use Rattle.slp_headers.specs.Headers.{heading}
 use Rattle.directory_answers.specs.Calls.{call_in}
 use Rattle.directory_answers.specs.Readings.{IsRead, IsUnread}
-use Rattle.slp_answer.proofs.Tellings.{answered-replies, fault-replies, unheaded-replies}
+use Rattle.slp_answer.proofs.Tellings.{fault-replies, other-replies, unheaded-replies}
 use Rattle.slp_answer.proofs.replies.answer_bytes.Goals as goal
-
-pub answer_message-told-requires-clause-no_change : goal.answer_message-told-requires-clause-no_change
-answer_message-told-requires-clause-no_change g c =
-    let bytes = c.args.call.now.bytes.now in
-    let read : IsRead bytes c.in-Ok.message = subst (λ r. MatchResult r (IsRead bytes) (IsUnread bytes)) c.in-Ok.is c.in_ok-message.ensures in
-    sym read.change ∙ c.requires.no_change
 
 pub returns-in_default : goal.returns-in_default
 returns-in_default g c = λ o h fold legal.
@@ -21,10 +15,8 @@ pub returns-in-Ok : goal.returns-in-Ok
 returns-in-Ok g c = λ o h fold legal.
     let bytes = c.args.call.now.bytes.now in
     let read : IsRead bytes c.in-Ok.message = subst (λ r. MatchResult r (IsRead bytes) (IsUnread bytes)) c.in-Ok.is c.in_ok-message.ensures in
-    IfOk-weaker c.answer_message-told.result _ _
-    (λ what told. answered-replies o h (call_in c.args.call.now) what c.answer_message-told.new.answer.bytes.items c.answer_message-told.new.answer.audit.items (heading c.in-Some.header) c.in-Ok.message c.args.directory.now.rules
-    fold.ruled c.in-Some.ensures read.read told)
-    (c.answer_message-told.ensures o h fold legal)
+    other-replies o h (call_in c.args.call.now) c.args.answer.now.bytes.items c.args.answer.now.audit.items (heading c.in-Some.header) c.in-Ok.message c.args.directory.now.rules fold.ruled c.in-Some.ensures read.read
+    c.if-header-eq-SERVICE_REQUEST.false (sym read.change ∙ c.requires.no_change) c.requires.no_reply c.requires.no_line
 
 pub returns-in-Err : goal.returns-in-Err
 returns-in-Err g c = λ o h fold legal.

@@ -6,8 +6,7 @@ use Rattle.slp_answer.proofs.audit.LineDisplay.fmt.Goals as goal
 pub returns-clause-writes : goal.returns-clause-writes
 returns-clause-writes g c = λ plain ok.
     let first = c.write.ensures.writes plain (search rules) in
-    let second = c.write-2.ensures.writes first.plain (search rules) in
-    let third = c.write-3.ensures.writes second.plain ok in
+    let second = c.write-2.ensures.writes first.plain ok in
     has_written_of_eq _ _ _ _ _
-    (line_is_written c.args.self.now.rule.now c.args.self.now.audit.now c.verdict-verdict.result.now c.action_word-action.result.now c.kind_text-kind.result.now c.verdict-verdict.ensures c.action_word-action.ensures c.kind_text-kind.ensures)
-    (has_written_append _ _ _ _ _ _ (has_written_append _ _ _ _ _ _ first second) third)
+    (line_is_written c.args.self.now.rule.now c.args.self.now.audit.now c.action_part-action.result.now c.kind_text-kind.result.now c.action_part-action.ensures c.kind_text-kind.ensures)
+    (has_written_append _ _ _ _ _ _ first second)
