@@ -7,7 +7,6 @@ pub mod Standing
 pub mod Stood
 pub mod Pieces
 pub mod Reading
-pub mod Taking
 pub mod Renewed
 pub mod Turning
 pub mod Streams

@@ -1,17 +1,12 @@
 -- What each order makes of a session.
-use Rattle.std.proofs.Common.{◌≡◌, ℕ, ◌+◌, Bool, true, false, List, [], ◌∷◌, ◌++◌, Option, Some, None, Result, Ok, Err, codes, refl, sym, ap, ap₂, subst, ◌∙◌, inl, inr}
+use Rattle.std.proofs.Common.{◌≡◌, ℕ, ◌+◌, true, List, [], Option, Some, None, Result, Ok, Err, refl, sym, ap, ap₂, subst, ◌∙◌, inl, inr}
 use Rattle.std.specs.Prelude.{MatchResult}
-use Rattle.std.specs.Option.{option_map_or}
-use Rattle.site_config.specs.Configuring.{config_of}
-use Rattle.site_config.specs.declared.config.Config.{Config}
-use Rattle.site_config.specs.declared.fault.ConfigFault.{ConfigFault}
-use Rattle.site_config.specs.declared.fault.ConfigFault.TheVariants.{Range}
 use Rattle.directory_answers.specs.Verdicts.{followed}
 use Rattle.slp_answer.specs.declared.answer.Sent.{Sent}
-use Rattle.directory_program.specs.Commands.{Single, Blank, At, From, Udp, Open, Tcp, Tidy}
-use Rattle.directory_program.specs.Holding.{Holds, Takes, TakesPiece, Acts, Meets, ConfiguresTo, config_told}
-use Rattle.directory_program.specs.Running.{World, Configures, lacking, shown, new_stream, longest_reply, begun, swept, place_of}
-use Rattle.directory_program.specs.Standing.{Closes, Turns, TurnsTo, TurnsOutside, TurnsInside}
+use Rattle.directory_program.specs.Commands.{Single, Blank, At, From, Udp, Open, Tcp}
+use Rattle.directory_program.specs.Holding.{Holds, Takes, TakesPiece, Acts, Meets}
+use Rattle.directory_program.specs.Running.{World, lacking, shown, new_stream, longest_reply, begun}
+use Rattle.directory_program.specs.Standing.{Turns, TurnsTo, TurnsOutside, TurnsInside}
 use Rattle.directory_program.specs.declared.place.Block.{Block}
 use Rattle.directory_program.specs.declared.place.Place.{Place}
 use Rattle.directory_program.specs.declared.session.Session.{Session}
@@ -38,9 +33,6 @@ Acts-udp s t bytes now meets = λ w h. meets (begun w) (Holds-begun w s h)
 pub Acts-tcp : (s t : Session) (bytes now : List ℕ) → TakesPiece (record s { late = true }) bytes now t → Acts s (Single (Tcp bytes)) now t
 Acts-tcp s t bytes now takes = λ w h. takes (begun w) (Holds-begun w s h)
 
-pub Acts-tidy : (s t : Session) → ((w : World) → Holds w s → Holds (swept w) t) → Acts s (Single Tidy) (codes "# sweep" ++ 10 ∷ []) t
-Acts-tidy s t tidied = λ w h. (swept w, (refl, refl), tidied w h)
-
 -- a message that was answered
 pub Meets-answered : (limit : ℕ) (s : Session) (bytes : List ℕ) (what : Sent) (reply line : List ℕ) (t : Session) → ((w : World) → Holds w s → Takes limit w bytes what reply line t) → Meets limit s bytes (shown reply line) t
 Meets-answered limit s bytes what reply line t takes = λ w h.
@@ -52,21 +44,6 @@ pub Meets-refused : (limit : ℕ) (s : Session) (bytes : List ℕ) (t : Session)
 Meets-refused limit s bytes t same = λ w h.
     let e = same w h in
     (w, inr (ap (λ (a : ℕ). lacking a bytes) (ap (λ (u : Session). u.asker) e ∙ h.asker), refl), rw e h)
-
-configured : (read : Result Config ConfigFault) (told : Result (Unit {0}) ConfigFault) (w : World) (t : Session) → ConfiguresTo w read told t → (v : World) × Configures false w read (config_told told) v × Holds v t
-configured (Ok c) told w t k = (record w { place = place_of c; history = [] }, (ap config_told k.0, refl), k.1)
-configured (Err e) told w t k = (w, (ap config_told k.0, refl), k.1)
-
--- the block is a configuration
-pub Closes-configured : (s : Session) (kept : Option (List ℕ)) (told : Result (Unit {0}) ConfigFault) (t : Session) → s.late ≡ false → ((w : World) → Holds w s → ConfiguresTo w (option_map_or config_of kept (Err Range)) told t) → Closes s kept (config_told told) t
-Closes-configured s kept told t early does = λ w h.
-    let k = configured (option_map_or config_of kept (Err Range)) told w t (does w h) in
-    (k.0, subst (λ (b : Bool). Configures b w (option_map_or config_of kept (Err Range)) (config_told told) k.0) (sym early ∙ h.late) k.1, k.2)
-
--- the block comes too late
-pub Closes-late : (s : Session) (kept : Option (List ℕ)) (t : Session) → s.late ≡ true → t ≡ s → Closes s kept (codes "! late" ++ 10 ∷ []) t
-Closes-late s kept t late e = λ w h.
-    (w, subst (λ (b : Bool). Configures b w (option_map_or config_of kept (Err Range)) (codes "! late" ++ 10 ∷ []) w) (sym late ∙ h.late) (refl, refl), rw e h)
 
 pub TurnsTo-outside : (p : Place) (l now : List ℕ) (q : Place) → p.block ≡ None → q.number ≡ p.number + 1 → TurnsOutside p.session l (p.number + 1) now q.session q.block → TurnsTo p l now q
 TurnsTo-outside p l now q off number turns =

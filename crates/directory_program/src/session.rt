@@ -15,7 +15,7 @@ use registry_core::{ListRegistry, RegistryFault};
 use site_config::{Config, ConfigFault};
 use slp_answer::{Answer, Call, Sent, step};
 use slp_stream::Framer;
-use slp_text::{NoMemory, ScopeList};
+use slp_text::{NoMemory, ScopeList, TextFault};
 use std::alloc::Global;
 use std::sync::Arc;
 
@@ -54,8 +54,9 @@ fn opening_site(alloc: Global) -> Result<Site, NoMemory>
     ensures { IfOk result (λ s. s ≡ opening_place) }
 {
     match ScopeList::parse(alloc, "DEFAULT") {
-        Ok(scopes) if scopes.len() == 1 => Ok(Site::new(scopes, CAPACITY, BOOT)),
-        _ => Err(NoMemory),
+        Ok(scopes) => Ok(Site::new(scopes, CAPACITY, BOOT)),
+        Err(TextFault::NoMemory) => Err(NoMemory),
+        Err(TextFault::BadEscape | TextFault::Reserved | TextFault::NotUtf8) => unreachable!(),
     }
 }
 

@@ -1,21 +1,34 @@
-use Rattle.std.proofs.Common.{◌≡◌, List, ℕ, [], ◌∷◌, Ok, Result, length, sym, ap, ◌∙◌, arith, codes}
+use Rattle.std.proofs.Common.{◌≡◌, ◌≢◌, List, ℕ, [], ◌∷◌, Ok, length, refl, rules, ap, ◌∙◌, arith, codes}
 use Rattle.slp_text.specs.Key.{key_of}
+use Rattle.slp_text.specs.Reading.{IsFault}
 use Rattle.slp_text.specs.Scopes.{printed, scopes_of}
 use Rattle.slp_text.specs.declared.faults.TextFault.{TextFault}
+use Rattle.slp_text.specs.declared.faults.TextFault.TheVariants.{BadEscape, Reserved, NotUtf8, NoMemory}
 use Rattle.slp_text.proofs.KeyRows.{default_length, default_scopes}
 use Rattle.directory_program.proofs.session.opening_site.Goals as goal
 
-same_list : (a b : List (List ℕ)) → ◌≡◌ {A = Result (List (List ℕ)) TextFault} (Ok a) (Ok b) → a ≡ b
-same_list a b h = cc
+-- `DEFAULT` reads as one scope
+read_one : (ks : List (List ℕ)) → scopes_of (codes "DEFAULT") ≡ Ok ks → ks ≡ key_of (codes "DEFAULT") ∷ []
+read_one ks read = cc default_scopes
+
+-- and without a fault
+no_fault : (e : TextFault) → e ≢ NoMemory → IsFault e (scopes_of (codes "DEFAULT")) → ⊥
+no_fault BadEscape some read = cc default_scopes
+no_fault Reserved some read = cc default_scopes
+no_fault NotUtf8 some read = cc default_scopes
+no_fault NoMemory some read = some refl
+
+pub new-requires-clause-some_scope : goal.new-requires-clause-some_scope
+new-requires-clause-some_scope c = omega (arith, ap length (read_one c.in-Ok.scopes c.in-Ok.ensures))
+
+pub new-requires-clause-few_scopes : goal.new-requires-clause-few_scopes
+new-requires-clause-few_scopes c = omega (arith, ap length (read_one c.in-Ok.scopes c.in-Ok.ensures))
 
 pub new-requires-clause-short_scopes : goal.new-requires-clause-short_scopes
-new-requires-clause-short_scopes c =
-    let read : scopes_of (codes "DEFAULT") ≡ Ok c.in-Ok.scopes = c.in-Ok.ensures in
-    let long : length (printed c.in-Ok.scopes) ≡ 7 = ap (λ ks. length (printed ks)) (same_list c.in-Ok.scopes (key_of (codes "DEFAULT") ∷ []) (sym read ∙ default_scopes)) ∙ default_length in
-    omega (arith, long)
+new-requires-clause-short_scopes c = omega (arith, ap (λ ks. length (printed ks)) (read_one c.in-Ok.scopes c.in-Ok.ensures), default_length)
+
+pub unreachable-requires : goal.unreachable-requires
+unreachable-requires c = no_fault c.in-Err-BadEscape.field-0 (search rules) c.in-Err-BadEscape.ensures
 
 pub returns-in-Ok : goal.returns-in-Ok
-returns-in-Ok c =
-    let read : scopes_of (codes "DEFAULT") ≡ Ok c.in-Ok.scopes = c.in-Ok.ensures in
-    let same : c.in-Ok.scopes ≡ key_of (codes "DEFAULT") ∷ [] = same_list c.in-Ok.scopes (key_of (codes "DEFAULT") ∷ []) (sym read ∙ default_scopes) in
-    c.new.ensures ∙ ap (λ (ks : List (List ℕ)). record { scopes = ks; capacity = 16; boot = 1 }) same
+returns-in-Ok c = c.new.ensures ∙ ap (λ (ks : List (List ℕ)). record { scopes = ks; capacity = 16; boot = 1 }) (read_one c.in-Ok.scopes c.in-Ok.ensures)
