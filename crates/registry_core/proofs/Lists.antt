@@ -249,3 +249,16 @@ module _ {A : Type 0} (v : A → Entry) (p : Entry → Bool) (xs : List A) (i : 
   walk_past t =
       let at = read_at v xs i x e h is same in
       sym (filter_past p (map v xs) i e (omega (arith, length-map xs v)) (ap p (sym at) ∙ t))
+
+-- a filter of a filter
+pub filter_both : (f p : Entry → Bool) (es : List Entry) → filter f (filter p es) ≡ filter (λ e. f e && p e) es
+filter_both f p [] = refl
+filter_both f p (e ∷ es) =
+    let more = filter_both f p es in
+    elim (p e) as (λ b. filter f (cond b (e ∷ filter p es) (filter p es)) ≡ cond (f e && b) (e ∷ filter (λ x. f x && p x) es) (filter (λ x. f x && p x) es)) [
+      | true ↦ elim (f e) as (λ b. cond b (e ∷ filter f (filter p es)) (filter f (filter p es)) ≡ cond (b && true) (e ∷ filter (λ x. f x && p x) es) (filter (λ x. f x && p x) es)) [
+        | true ↦ ap (λ xs. e ∷ xs) more
+        | false ↦ more
+      ]
+      | false ↦ elim (f e) as (λ b. filter f (filter p es) ≡ cond (b && false) (e ∷ filter (λ x. f x && p x) es) (filter (λ x. f x && p x) es)) [ true ↦ more | false ↦ more ]
+    ]

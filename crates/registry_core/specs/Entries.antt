@@ -1,7 +1,7 @@
 -- Entries, and finite maps of them from pairs of URL and language.
 use Rattle.std.specs.Prelude.{◌≡◌, ℕ, Bool, true, if◌then◌else◌, ◌&&◌, nat_lt, List, [], ◌∷◌, map, find, Option, Some, None, is_some, refl}
 use Rattle.std.specs.List.{list_any}
-use Rattle.std.specs.Ordering.{ordering_then}
+use Rattle.std.specs.Ordering.{is_le, ordering_then}
 use Rattle.std.specs.declared.cmp.Ordering.{Ordering}
 use Rattle.std.specs.Coded.{Coded, code_by, coded×, coded_ℕ, coded_list}
 use Rattle.std.specs.FinMap as fin
@@ -67,6 +67,10 @@ is_kind (Some kind) e = covers kind e.kind
 -- of this URL
 abbrev pub is_of_url : List ℕ → Entry → Bool
 is_of_url url e = bytes_eq e.url url
+
+-- its URL does not come after a bound
+abbrev pub is_within : List ℕ → Entry → Bool
+is_within bound e = is_le (bytes_cmp e.url bound)
 
 -- registered with this URL in just these scopes
 abbrev pub is_registered : List ℕ → List (List ℕ) → Entry → Bool

@@ -1,8 +1,8 @@
-ghost use Rattle.std.specs.Prelude.{◌≡◌, ◌<◌, ◌≤◌, [], IfOk, OnErr, position};
+ghost use Rattle.std.specs.Prelude.{◌≡◌, ◌<◌, ◌≤◌, ◌&&◌, [], IfOk, OnErr, position};
 ghost use Rattle.std.specs.Arc.{arc_value};
 ghost use Rattle.std.specs.FinMap as fin;
 ghost use Rattle.std.specs.Option.{option_copied};
-ghost use Rattle.registry_core.specs.Entries.{is_of, is_at_place, is_of_url, of_list};
+ghost use Rattle.registry_core.specs.Entries.{is_of, is_at_place, is_of_url, is_within, of_list};
 
 use crate::entry::Entry;
 use crate::registry::{Registry, RegistryFault};
@@ -71,6 +71,13 @@ fn is_here(entry: &Entry, scope: &Key, kind: Option<&ServiceType>) -> bool
     is_kind && entry.scopes.has(scope)
 }
 
+// The same of an entry whose URL does not come after a bound, which is asked first.
+fn is_here_within(entry: &Entry, scope: &Key, kind: Option<&ServiceType>, bound: &Url) -> bool
+    ensures { result ≡ (is_within bound.now entry.now && is_at_place scope.now (option_copied kind.entry) entry.now) }
+{
+    entry.url <= *bound && is_here(entry, scope, kind)
+}
+
 impl Registry for ListRegistry {
     ghost use Rattle.std.specs.Prelude.{filter, drop};
     ghost use Rattle.registry_core.specs.Entries.{of_list, is_at_place, is_of_url};
@@ -125,6 +132,22 @@ impl Registry for ListRegistry {
         for at in from..self.entries.len() {
             let entry: &Entry = &self.entries[at];
             if is_here(entry, scope, kind) {
+                return Some((entry, at + 1));
+            }
+        }
+        None
+    }
+
+    fn by_place_within(
+        &self,
+        scope: &Key,
+        kind: Option<&ServiceType>,
+        bound: &Url,
+        from: usize,
+    ) -> Option<(&Entry, usize)> {
+        for at in from..self.entries.len() {
+            let entry: &Entry = &self.entries[at];
+            if is_here_within(entry, scope, kind, bound) {
                 return Some((entry, at + 1));
             }
         }

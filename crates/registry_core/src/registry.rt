@@ -1,8 +1,8 @@
-ghost use Rattle.std.specs.Prelude.{◌≡◌, ◌<◌, ◌≤◌, ◌∷◌, [], ◌↔◌, length, not, IsErrOf, OnOk, OnErr, MatchOption, None};
+ghost use Rattle.std.specs.Prelude.{◌≡◌, ◌<◌, ◌≤◌, ◌∷◌, [], ◌↔◌, length, filter, not, IsErrOf, OnOk, OnErr, IfSome, MatchOption, None};
 ghost use Rattle.std.specs.Arc.{arc_value};
 ghost use Rattle.std.specs.FinMap as fin;
 ghost use Rattle.std.specs.Option.{option_copied};
-ghost use Rattle.registry_core.specs.Entries.{Pair, pair_of, outlives, kept, passing, is_at_place, is_of_url, is_registered, IsListing};
+ghost use Rattle.registry_core.specs.Entries.{Pair, pair_of, outlives, kept, passing, is_at_place, is_of_url, is_within, is_registered, IsListing};
 
 use crate::entry::Entry;
 use service_url::{ServiceType, Url};
@@ -75,7 +75,22 @@ pub trait Registry {
         from: usize,
     ) -> Option<(&Entry, usize)>
         ensures next { MatchOption result (rest_at self.now scope.now (option_copied kind.entry) from ≡ []) (λ p. rest_at self.now scope.now (option_copied kind.entry) from ≡ p.0.now ∷ rest_at self.now scope.now (option_copied kind.entry) p.1) }
-        ensures whole { IsListing (is_at_place scope.now (option_copied kind.entry)) (contents self.now) (rest_at self.now scope.now (option_copied kind.entry) 0) };
+        ensures whole { IsListing (is_at_place scope.now (option_copied kind.entry)) (contents self.now) (rest_at self.now scope.now (option_copied kind.entry) 0) }
+        ensures onward { IfSome result (λ p. from < p.1) };
+
+    /// The same without the entries whose URL comes after a bound, in byte order. These are passed
+    /// over before anything else of them is looked at.
+    fn by_place_within(
+        &self,
+        scope: &Key,
+        kind: Option<&ServiceType>,
+        bound: &Url,
+        from: usize,
+    ) -> Option<(&Entry, usize)>
+        ensures next { MatchOption result (filter (is_within bound.now) (rest_at self.now scope.now (option_copied kind.entry) from) ≡ [])
+            (λ p. filter (is_within bound.now) (rest_at self.now scope.now (option_copied kind.entry) from) ≡ p.0.now ∷ filter (is_within bound.now) (rest_at self.now scope.now (option_copied kind.entry) p.1)) }
+        ensures whole { IsListing (is_at_place scope.now (option_copied kind.entry)) (contents self.now) (rest_at self.now scope.now (option_copied kind.entry) 0) }
+        ensures onward { IfSome result (λ p. from < p.1) };
 
     /// The next entry of a URL, with the number to go on from. The first number is 0. On a registry
     /// that stays as it is each such entry comes once.
