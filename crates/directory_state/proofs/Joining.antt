@@ -7,7 +7,7 @@ use Rattle.std.specs.List.{AllByRecursion, insert}
 use Rattle.std.specs.List.Sorted.{IsBinarySearchResult, IsNonDecreasingBy, IsSearchInRange}
 use Rattle.std.specs.Map.{lookup}
 use Rattle.std.specs.BTreeMap.{is_at}
-use Rattle.std.specs.Ordering.{is_eq, is_gt, match_ordering, ordering_index, ordering_reverse}
+use Rattle.std.specs.Ordering.{is_eq, is_gt, is_le, match_ordering, ordering_index, ordering_reverse}
 use Rattle.std.specs.Cmp.{eq_by_cmp_equiv}
 use Rattle.std.specs.declared.cmp.Ordering.{Ordering}
 use Rattle.std.specs.declared.cmp.Ordering.TheVariants.{Less, Equal, Greater}
@@ -42,7 +42,7 @@ reversed a b o h = nat_list_cmp_total.antisymm b a ∙ ap ordering_reverse h
 abbrev pub latest_in : List ℕ → List Dated → Option ℕ
 latest_in url ps = lookup (is_at (bytes_cmp url)) ps
 
-all_urls-join : (Q : List ℕ → Type 0) (url : List ℕ) (deadline : ℕ) (ps : List Dated) → Q url → AllByRecursion Q (urls_of ps) → AllByRecursion Q (urls_of (join url deadline ps))
+pub all_urls-join : (Q : List ℕ → Type 0) (url : List ℕ) (deadline : ℕ) (ps : List Dated) → Q url → AllByRecursion Q (urls_of ps) → AllByRecursion Q (urls_of (join url deadline ps))
 all_urls-join Q url deadline [] q all = (q, tt)
 all_urls-join Q url deadline (p ∷ ps) q all =
     elim (bytes_cmp url p.0) as (λ o. AllByRecursion Q (urls_of (match_ordering o ((url, deadline) ∷ p ∷ ps) ((p.0, max p.1 deadline) ∷ ps) (p ∷ join url deadline ps)))) [
@@ -250,6 +250,21 @@ rises url a b h =
     most Less = omega arith
     most Equal = omega arith
     most Greater = omega arith
+
+-- the last is the greatest
+pub greatest : (last : List ℕ) (deadline : ℕ) (ps : List Dated) → IsAscending (urls_of ps) → slice_get ps (length ps - 1) ≡ Some (last, deadline) → AllByRecursion (λ w. is_le (bytes_cmp w last) ≡ true) (urls_of ps)
+greatest last deadline ps a h = elim (split_last ps) [
+  | inl e ↦ absurd (none-some (last, deadline) (sym (ap (λ xs. slice_get xs (length xs - 1)) e) ∙ h))
+  | inr s ↦
+      let same : s.1 ≡ (last, deadline) = same_Some s.1 (last, deadline) (sym (ap (λ xs. slice_get xs (length xs - 1)) s.2 ∙ last_of s.0 s.1) ∙ h) in
+      let key : s.1.0 ≡ last = ap (λ (p : Dated). p.0) same in
+      subst (λ u. AllByRecursion (λ w. is_le (bytes_cmp w u) ≡ true) (urls_of ps)) key
+      (subst (λ xs. AllByRecursion (λ w. is_le (bytes_cmp w s.1.0) ≡ true) (urls_of xs)) (sym s.2) (all_at_most s.0 s.1 (others_before s.0 s.1 (subst (λ xs. IsAscending (urls_of xs)) s.2 a))))
+]
+  where
+    all_at_most : (xs : List Dated) (p : Dated) → AllByRecursion (λ w. bytes_cmp w p.0 ≡ Less) (urls_of xs) → AllByRecursion (λ w. is_le (bytes_cmp w p.0) ≡ true) (urls_of (xs ++ p ∷ []))
+    all_at_most [] p all = (ap is_le (cmp-same p.0), tt)
+    all_at_most (x ∷ xs) p all = (ap is_le all.0, all_at_most xs p all.1)
 
 -- what a binary search answers
 pub place_in : (k : Bor (List ℕ)) (es : Lent) → IsAscending (urls_of (plain es)) → (r : Result ℕ ℕ) → IsSearchInRange r (length es) → IsBinarySearchResult (λ (p : Bor (List ℕ) × ℕ). bytes_cmp p.0.now k.now) es r

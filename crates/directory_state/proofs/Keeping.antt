@@ -1,9 +1,14 @@
 -- What is kept of the URLs that are found, as more join and the last leaves.
-use Rattle.std.proofs.Common.{◌≡◌, ℕ, suc, ◌+◌, ◌-◌, ◌<◌, ◌≤◌, Bool, true, false, List, [], ◌∷◌, ◌++◌, map, length, take, get_or, Bor, Option, Some, refl, sym, ap, ◌∙◌, arith, inl, inr, length-append}
+use Rattle.std.proofs.Common.{◌≡◌, ℕ, suc, ◌+◌, ◌-◌, ◌<◌, ◌≤◌, max, Bool, true, false, cond, List, [], ◌∷◌, ◌++◌, map, length, take, get_or, Bor, Option, Some, None, refl, sym, ap, subst, ◌∙◌, arith, inl, inr, length-append}
 use Rattle.std.proofs.Math.Seq.{take-length}
-use Rattle.std.specs.Prelude.{slice_get, nat_lt}
+use Rattle.std.specs.Prelude.{filter, slice_get, nat_lt, MatchOption}
 use Rattle.std.specs.List.{AllByRecursion}
-use Rattle.std.specs.declared.cmp.Ordering.TheVariants.{Greater}
+use Rattle.std.specs.Ordering.{is_eq, is_le, match_ordering}
+use Rattle.std.specs.declared.cmp.Ordering.{Ordering}
+use Rattle.std.specs.declared.cmp.Ordering.TheVariants.{Less, Equal, Greater}
+use Rattle.std.proofs.lemmas.Cmp.{nat_list_cmp_total}
+use Rattle.registry_core.specs.Entries.{is_within}
+use Rattle.registry_core.specs.declared.entry.Entry.{Entry}
 use Rattle.std.proofs.lemmas.Bool.{cases_lt}
 use borrow.Author.Tests.{lt-ltb, le-ltb}
 use Rattle.std.proofs.lemmas.List.{length-map, map-append, take-take, take-map, take_all, take_more, length-take-le}
@@ -11,10 +16,10 @@ use Rattle.std.proofs.lemmas.Option.{same_Some, none-some}
 use Rattle.slp_text.specs.Words.{bytes_cmp}
 use Rattle.directory_state.specs.declared.finding.Room.{Room}
 use Rattle.directory_state.specs.Deadlines.{Dated, join, size, Lent, plain, urls_of}
-use Rattle.directory_state.specs.Finding.{cut, item_at, cost_in, bytes_in}
+use Rattle.directory_state.specs.Finding.{joined, cut, item_at, cost_in, bytes_in, IsBound}
 use Rattle.directory_state.specs.Fitting.{size_in, IsFront}
-use Rattle.directory_state.proofs.Cutting.{cut-append, cut-whole, size-append, room_for, cut-take, room_for-within, room_for-fits, room_for-longest}
-use Rattle.directory_state.proofs.Joining.{join-last, split_last, but_last, last_of, plain-last}
+use Rattle.directory_state.proofs.Cutting.{cut-joined, cut-append, cut-whole, size-append, room_for, cut-take, room_for-within, room_for-fits, room_for-longest}
+use Rattle.directory_state.proofs.Joining.{all_urls-join, is_same, reversed, join-last, split_last, but_last, last_of, plain-last}
 
 module _ (cost : List ℕ → ℕ) where
   pub size-last : (ps : List Dated) (p : Dated) → slice_get ps (length ps - 1) ≡ Some p → size cost ps ≡ size cost (take (length ps - 1) ps) + cost p.0
@@ -150,3 +155,80 @@ pub listed-more : (n : ℕ) (es : Lent) (i : ℕ) (e : Bor (List ℕ) × ℕ) �
 listed-more n es i e lt is =
     sym (ap (λ xs. map (item_at n) (plain xs)) (take_more es i e lt ∙ ap (λ x. take i es ++ x ∷ []) (sym is))
     ∙ ap (map (item_at n)) (plain-last (take i es) e) ∙ map-append (item_at n) (plain (take i es)) ((e.0.now, e.1) ∷ []))
+
+-- ---- what comes after a bound
+
+le-greater : (u w bound : List ℕ) → is_le (bytes_cmp u bound) ≡ false → is_le (bytes_cmp w bound) ≡ true → bytes_cmp u w ≡ Greater
+le-greater u w bound after le =
+    let less : bytes_cmp bound u ≡ Less = reversed u bound Greater (not_le (bytes_cmp u bound) after) in
+    elim (bytes_cmp w bound) as (λ o. bytes_cmp w bound ≡ o → is_le o ≡ true → bytes_cmp u w ≡ Greater) [
+      | Less ↦ λ l _. reversed w u Less (nat_list_cmp_total.trans w bound u l less)
+      | Equal ↦ λ e _. reversed w u Less (ap (λ x. bytes_cmp x u) (is_same w bound (ap is_eq e)) ∙ less)
+      | Greater ↦ λ _ k. absurd cc
+    ] refl le
+  where
+    not_le : (o : Ordering) → is_le o ≡ false → o ≡ Greater
+    not_le Less h = cc
+    not_le Equal h = cc
+    not_le Greater h = refl
+
+all_after : (u bound : List ℕ) (ps : List Dated) → is_le (bytes_cmp u bound) ≡ false → AllByRecursion (λ w. is_le (bytes_cmp w bound) ≡ true) (urls_of ps) → AllByRecursion (λ w. bytes_cmp u w ≡ Greater) (urls_of ps)
+all_after u bound [] after all = tt
+all_after u bound (p ∷ ps) after all = (le-greater u p.0 bound after all.0, all_after u bound ps after all.1)
+
+module _ (cost : List ℕ → ℕ) (left : ℕ) (bound : List ℕ) where
+  size-join : (url : List ℕ) (deadline : ℕ) (ps : List Dated) → size cost ps ≤ size cost (join url deadline ps)
+  size-join url deadline [] = omega arith
+  size-join url deadline (p ∷ ps) =
+      let k = size-join url deadline ps in
+      elim (bytes_cmp url p.0) as (λ o. size cost (p ∷ ps) ≤ size cost (match_ordering o ((url, deadline) ∷ p ∷ ps) ((p.0, max p.1 deadline) ∷ ps) (p ∷ join url deadline ps))) [
+        | Less ↦ omega arith
+        | Equal ↦ omega arith
+        | Greater ↦ omega (arith, k)
+      ]
+
+  bound-join : (e : Entry) (ps : List Dated) → is_within bound e ≡ true → IsBound cost left bound ps → IsBound cost left bound (join e.url e.deadline ps)
+  bound-join e ps within b = record {
+    over = let k = size-join e.url e.deadline ps in omega (arith, k, b.over);
+    all = all_urls-join (λ held. is_le (bytes_cmp held bound) ≡ true) e.url e.deadline ps within b.all;
+  }
+
+  -- entries after the bound may be passed over
+  pub passed_over : (seen : Entry → Bool) (es : List Entry) (ps : List Dated) → IsBound cost left bound ps
+      → cut cost left (joined (filter seen es) ps) ≡ cut cost left (joined (filter seen (filter (is_within bound) es)) ps)
+  passed_over seen [] ps b = refl
+  passed_over seen (e ∷ es) ps b =
+      let f = is_within bound in
+      elim (f e) as (λ w. f e ≡ w → cut cost left (joined (filter seen (e ∷ es)) ps) ≡ cut cost left (joined (filter seen (cond w (e ∷ filter f es) (filter f es))) ps)) [
+        | true ↦ λ t. elim (seen e) as (λ s. cut cost left (joined (cond s (e ∷ filter seen es) (filter seen es)) ps) ≡ cut cost left (joined (cond s (e ∷ filter seen (filter f es)) (filter seen (filter f es))) ps)) [
+          | true ↦ passed_over seen es (join e.url e.deadline ps) (bound-join e ps t b)
+          | false ↦ passed_over seen es ps b
+        ]
+        | false ↦ λ n. elim (seen e) as (λ s. cut cost left (joined (cond s (e ∷ filter seen es) (filter seen es)) ps) ≡ cut cost left (joined (filter seen (filter f es)) ps)) [
+          | true ↦
+              sym (cut-joined cost left (filter seen es) (join e.url e.deadline ps))
+              ∙ ap (λ xs. cut cost left (joined (filter seen es) xs)) (past cost left e.url e.deadline ps b.over (all_after e.url bound ps n b.all))
+              ∙ cut-joined cost left (filter seen es) ps ∙ passed_over seen es ps b
+          | false ↦ passed_over seen es ps b
+        ]
+      ] refl
+
+  head_within : (e : Entry) (es xs : List Entry) → filter (is_within bound) xs ≡ e ∷ es → is_within bound e ≡ true
+  head_within e es [] h = cc
+  head_within e es (x ∷ xs) h =
+      elim (is_within bound x) as (λ w. is_within bound x ≡ w → cond w (x ∷ filter (is_within bound) xs) (filter (is_within bound) xs) ≡ e ∷ es → is_within bound e ≡ true) [
+        | true ↦ λ t k. subst (λ y. is_within bound y ≡ true) (let same : x ≡ e = cc in same) t
+        | false ↦ λ _ k. head_within e es xs k
+      ] refl h
+
+  pub next_within : (seen : Entry → Bool) (rest more : List Entry) (e : Entry) (ps : List Dated) → IsBound cost left bound ps → filter (is_within bound) rest ≡ e ∷ filter (is_within bound) more
+      → cut cost left (joined (filter seen rest) ps) ≡ cut cost left (joined (filter seen (e ∷ more)) ps)
+  next_within seen rest more e ps b h =
+      let f = is_within bound in
+      passed_over seen rest ps b ∙ ap (λ xs. cut cost left (joined (filter seen xs) ps)) (h ∙ sym (ap (λ w. cond w (e ∷ filter f more) (filter f more)) (head_within e (filter f more) rest h)))
+      ∙ sym (passed_over seen (e ∷ more) ps b)
+
+-- of each case of an option, what follows from what holds of it
+pub each_case : {A P Q : Type 0} {R S : A → Type 0} (o : Option A) → (P → Q) → ((a : A) → R a → S a) → MatchOption o P R → MatchOption o Q S
+each_case None f g m = f m
+each_case (Some a) f g m = g a m

@@ -1,5 +1,5 @@
 -- How what answers a question is found: each entry that is seen joins a list of URLs with their latest deadlines, which is cut to its room.
-use Rattle.std.specs.Prelude.{◌≡◌, ℕ, ◌+◌, ◌-◌, ◌≤◌, Bool, ◌&&◌, nat_le, min, if◌then◌else◌, List, [], ◌∷◌, ◌++◌, length, filter, Option, Some, None, IfSome}
+use Rattle.std.specs.Prelude.{◌≡◌, ℕ, ◌+◌, ◌-◌, ◌<◌, ◌≤◌, Bool, true, ◌&&◌, nat_le, min, if◌then◌else◌, List, [], ◌∷◌, ◌++◌, length, filter, Option, Some, None, IfSome}
 use Rattle.access_rules.specs.Deciding.{SiteRules, deciding}
 use Rattle.access_rules.specs.declared.rule.Action.TheVariants.{See}
 use Rattle.registry_core.specs.Entries.{outlives}
@@ -7,9 +7,13 @@ use Rattle.registry_core.specs.declared.entry.Entry.{Entry}
 use Rattle.slp_messages.specs.declared.message.UrlEntry.{UrlEntry}
 use Rattle.directory_judge.specs.Judging.{supports}
 use Rattle.directory_judge.specs.Sites.{Place}
-use Rattle.directory_state.specs.Deadlines.{Dated, join, size}
+use Rattle.directory_state.specs.Deadlines.{Dated, join, size, urls_of}
+use Rattle.std.specs.List.{AllByRecursion}
+use Rattle.std.specs.Ordering.{is_le}
+use Rattle.slp_text.specs.Words.{bytes_cmp}
 use Rattle.directory_state.specs.declared.finding.Kept.{Kept}
 use Rattle.directory_state.specs.declared.finding.Room.{Room}
+use Rattle.directory_state.specs.declared.finding.Search.{Search}
 
 -- ---- what is seen
 
@@ -65,3 +69,12 @@ pub record IsKept (k : Kept) : Type 0 where
   pub counted : IsCounted k
   pub small : IsSmall k.room
   pub is_cut : cut_in k.room k.latest ≡ k.latest
+
+-- there is no room for all that is kept, and none of it comes after a URL
+pub record IsBound (cost : List ℕ → ℕ) (left : ℕ) (url : List ℕ) (ps : List Dated) : Type 0 where
+  pub over : left < size cost ps
+  pub all : AllByRecursion (λ held. is_le (bytes_cmp held url) ≡ true) (urls_of ps)
+
+-- what is kept, with what is seen of these entries of a scope
+abbrev pub kept_of : Kept → Search → List ℕ → List Entry → List Dated
+kept_of k s scope es = cut_in k.room (joined (filter (is_seen s.rules.now s.moment s.asker scope) es) k.latest)

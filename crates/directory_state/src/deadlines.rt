@@ -2,6 +2,7 @@
 ghost use Rattle.std.specs.Prelude.{◌≡◌, ◌+◌, ◌-◌, ◌<◌, ◌↔◌, ℕ, List, [], length, take, slice_get, Some, IfOk, IfErr, IfSome, IfNone, IsTrue, if◌then◌else◌};
 ghost use Rattle.std.specs.List.{AllByRecursion};
 ghost use Rattle.slp_text.specs.Words.{bytes_cmp};
+ghost use Rattle.std.specs.Ordering.{is_le};
 ghost use Rattle.std.specs.declared.cmp.Ordering.TheVariants.{Greater as After};
 ghost use Rattle.directory_state.specs.Deadlines.{join, size, urls_of, plain, IsPlace, IsGap};
 
@@ -67,6 +68,7 @@ impl<'a> Deadlines<'a> {
     pub fn last(&self) -> Option<&'a Url>
         ensures none { IfNone result (self.now ≡ []) }
         ensures some { IfSome result (λ url. (deadline : ℕ) × (slice_get self.now (length self.now - 1) ≡ Some (url.now, deadline))) }
+        ensures greatest { IfSome result (λ url. AllByRecursion (λ held. IsTrue (is_le (bytes_cmp held url.now))) (urls_of self.now)) }
     {
         let (url, _) = self.urls.last()?;
         Some(*url)

@@ -1,9 +1,9 @@
-ghost use Rattle.std.specs.Prelude.{◌≡◌, ◌+◌, ◌-◌, ◌<◌, ◌↔◌, ◌⊎◌, [], ◌∷◌, ℕ, List, false, length, map, filter, take, IfOk, IfErr, IsErrOf, IfSome, IfNone, OnErr, IsTrue, slice_get, Some};
+ghost use Rattle.std.specs.Prelude.{◌≡◌, ◌+◌, ◌-◌, ◌<◌, ◌↔◌, ◌⊎◌, [], ◌∷◌, ℕ, List, false, length, map, filter, take, IfOk, IfErr, IsErrOf, IfSome, IfNone, MatchOption, OnErr, IsTrue, slice_get, Some};
 ghost use Rattle.std.specs.List.{list_any};
 ghost use Rattle.registry_core.specs.Entries.{is_at_place, IsListing};
 ghost use Rattle.directory_judge.specs.Judging.{supports};
 ghost use Rattle.directory_state.specs.Deadlines.{Dated, join, size};
-ghost use Rattle.directory_state.specs.Finding.{joined, is_seen, all_seen, item_at, cost_in, bytes_in, cut_in, IsCounted, IsSmall, IsKept};
+ghost use Rattle.directory_state.specs.Finding.{joined, is_seen, all_seen, item_at, cost_in, bytes_in, cut_in, kept_of, IsBound, IsCounted, IsSmall, IsKept};
 ghost use Rattle.directory_state.specs.Fitting.{IsFront, items_in};
 
 use crate::deadlines::Deadlines;
@@ -149,6 +149,40 @@ impl<'a> Kept<'a> {
         Ok(())
     }
 
+    // The URL after which nothing is kept, where there is no room for more.
+    fn bound(&self) -> Option<&'a Url>
+        requires { IsKept self.now }
+        ensures { IfSome result (λ url. IsBound (cost_in self.now.room) (bytes_in self.now.room) url.now self.now.latest) }
+    {
+        if !self.is_over(self.used) {
+            return None;
+        }
+        let bound = self.latest.last()?;
+        Some(bound)
+    }
+
+    // The next entry of a place that may be kept, with the number to go on from.
+    fn next<R: Registry>(
+        &self,
+        registry: &'a R,
+        question: &Search<'_>,
+        scope: &Key,
+        from: usize,
+    ) -> Option<(&'a Entry, usize)>
+        requires { IsKept self.now }
+        ensures next { let rest = R.rest_at registry.now scope.now (Some question.now.query.now.kind) in
+            MatchOption result (kept_of self.now question.now scope.now (rest from) ≡ self.now.latest)
+            (λ p. kept_of self.now question.now scope.now (rest from) ≡ kept_of self.now question.now scope.now (p.0.now ∷ rest p.1)) }
+        ensures whole { IsListing (is_at_place scope.now (Some question.now.query.now.kind)) (R.contents registry.now) (R.rest_at registry.now scope.now (Some question.now.query.now.kind) 0) }
+        ensures onward { IfSome result (λ p. from < p.1) }
+    {
+        let kind = Some(&question.query.kind);
+        match self.bound() {
+            Some(bound) => registry.by_place_within(scope, kind, bound, from),
+            None => registry.by_place(scope, kind, from),
+        }
+    }
+
     // Finds the entries of a scope that are live now, of a type that is covered, and open to the asker there.
     // A function of its own in the machine's code as well, so that its loop keeps its registers.
     #[inline(never)]
@@ -165,7 +199,7 @@ impl<'a> Kept<'a> {
         ensures listing { IfOk result (λ _. IsListing (is_at_place scope.now (Some question.now.query.now.kind)) (R.contents registry.now) (R.rest_at registry.now scope.now (Some question.now.query.now.kind) 0)) }
     {
         let mut from = 0;
-        while let Some((entry, next)) = registry.by_place(scope, Some(&question.query.kind), from) {
+        while let Some((entry, next)) = self.next(registry, question, scope, from) {
             self.look(entry, question, scope)?;
             from = next;
         }

@@ -1,4 +1,4 @@
-use Rattle.std.proofs.Common.{◌≡◌, Some, length, filter}
+use Rattle.std.proofs.Common.{◌≡◌, ◌-◌, ◌^◌, Some, filter}
 use Rattle.directory_state.specs.Finding.{joined, is_seen, cut_in, IsKept}
 use Rattle.directory_state.proofs.finding.Kept.collect.Given as goal
 
@@ -13,4 +13,4 @@ invariant-loop-entry g l =
     }
 
 abbrev pub decreases-loop-entry : goal.decreases-loop-entry
-decreases-loop-entry g l = length (g.R.Registry.rest_at l.registry l.scope (Some l.question.query.now.kind) l.from)
+decreases-loop-entry g l = 2 ^ 64 - l.from
