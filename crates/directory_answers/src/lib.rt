@@ -14,4 +14,4 @@ pub use change::{is_change, is_change_function};
 pub use fault::decider_of;
 pub use query::{QueryFault, ServiceQuery};
 pub use question::{Question, asked};
-pub use reading::understood;
+pub use reading::{asked_change, understood};

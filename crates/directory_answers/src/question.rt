@@ -2,7 +2,7 @@ ghost use Rattle.std.specs.Prelude.{◌≡◌, ◌==◌, ◌||◌, not, length, 
 ghost use Rattle.slp_text.specs.Words.{is_blank as is_blank_text};
 ghost use Rattle.slp_headers.specs.Headers.{has_flag, heading, heading_of};
 ghost use Rattle.slp_headers.specs.declared.flag.TheConstants.{MULTICAST};
-ghost use Rattle.slp_bodies.specs.Views.{request as request_as};
+ghost use Rattle.slp_messages.specs.Views.{request_in};
 ghost use Rattle.slp_wire.specs.Reading.{kept_header};
 ghost use Rattle.directory_answers.specs.Questions.{question_of};
 ghost use Rattle.directory_answers.specs.Readings.{IsAsked, IsUnread};
@@ -51,7 +51,7 @@ fn question_in(
     header: &HeaderView<'_>,
     request: &ServiceRequestView<'_>,
 ) -> Result<Question, NoMemory>
-    ensures { IfOk result (λ q. q ≡ question_of (kept_header (heading header.now)) (request_as request.now)) }
+    ensures { IfOk result (λ q. q ≡ question_of (kept_header (heading header.now)) (request_in request.now)) }
 {
     let kind = read_kind(alloc, request.kind)?;
     if is_odd(header, request) || is_agent(kind.as_ref()) {

@@ -1,8 +1,11 @@
-ghost use Rattle.std.specs.Prelude.{IfOk, MatchResult};
+ghost use Rattle.std.specs.Prelude.{◌≡◌, true, IfOk, MatchResult, Some};
+ghost use Rattle.slp_headers.specs.Headers.{heading, heading_of};
+ghost use Rattle.slp_messages.specs.Views.{message_in};
+ghost use Rattle.directory_answers.specs.Answering.{is_change_of};
 ghost use Rattle.directory_answers.specs.Readings.{IsRead, IsUnread};
 
 use slp_text::NoMemory;
-use slp_wire::{Message, WireFault, decode};
+use slp_wire::{ChangeView, HeaderView, Message, WireFault, decode, read_change};
 use std::alloc::Global;
 
 /// What bytes are: a message that is read, or the fault for which they are none.
@@ -11,6 +14,23 @@ pub fn understood(alloc: Global, bytes: &[u8]) -> Result<Result<Message, WireFau
 {
     match decode(alloc, bytes) {
         Ok(message) => Ok(Ok(message)),
+        Err(WireFault::NoMemory) => Err(NoMemory),
+        Err(fault) => Ok(Err(fault)),
+    }
+}
+
+/// The change that bytes ask for, as the message that they are, lent, or the fault for which they are
+/// none. The header was read from them.
+pub fn asked_change<'a>(
+    header: &HeaderView<'a>,
+    bytes: &'a [u8],
+) -> Result<Result<ChangeView<'a>, WireFault>, NoMemory>
+    requires header { heading_of bytes.now ≡ Some (heading header.now) }
+    requires change { is_change_of bytes.now ≡ true }
+    ensures { IfOk result (λ read. MatchResult read (λ change. IsRead bytes.now (message_in change)) (IsUnread bytes.now)) }
+{
+    match read_change(header, bytes) {
+        Ok(change) => Ok(Ok(change)),
         Err(WireFault::NoMemory) => Err(NoMemory),
         Err(fault) => Ok(Err(fault)),
     }

@@ -15,11 +15,11 @@ use std::marker::Model;
 /// the moment in seconds at which the message acts, and who sent it. All of it is lent.
 #[derive(Drop)]
 pub struct Grounds<'a, R: Registry> {
-    pub(crate) registry: &'a R,
-    pub(crate) rules: &'a Rules,
-    pub(crate) site: &'a Site,
-    pub(crate) moment: u32,
-    pub(crate) asker: Addr,
+    pub registry: &'a R,
+    pub rules: &'a Rules,
+    pub site: &'a Site,
+    pub moment: u32,
+    pub asker: Addr,
 }
 
 impl<'a, R: Registry> Model for Grounds<'a, R> {

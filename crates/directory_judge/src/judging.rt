@@ -2,6 +2,7 @@ ghost use Rattle.std.specs.Prelude.{◌≡◌, ◌<◌, ◌≤◌, ◌+◌, IfOk
 ghost use Rattle.std.specs.FinMap as fin;
 ghost use Rattle.std.specs.Option.{option_map, option_or};
 ghost use Rattle.slp_text.specs.Key.{key_of};
+ghost use Rattle.slp_messages.specs.Views.{header_in, message_in, registration_in};
 ghost use Rattle.registry_core.specs.Entries.{outlives, passing, pair_of};
 ghost use Rattle.directory_judge.specs.History.{Putting, Put};
 ghost use Rattle.directory_judge.specs.Making.{entry_of};
@@ -17,7 +18,7 @@ use crate::ruling::{deny, deny_by};
 use crate::site::Site;
 use access_rules::{Action, Addr, Rules};
 use registry_core::{Entry, Registry};
-use slp_messages::{Header, Message, Registration};
+use slp_messages::{ChangeView, KeptHeader, Message, RegistrationView};
 use slp_text::{NoMemory, TextFault, is_blank, key};
 use std::alloc::Global;
 use std::sync::Arc;
@@ -62,14 +63,14 @@ impl<R: Registry> Grounds<'_, R> {
     fn founded(
         &self,
         alloc: Global,
-        header: &Header,
-        registration: &Registration,
+        header: &KeptHeader<'_>,
+        registration: &RegistrationView<'_>,
         taken: Taken,
     ) -> Result<Entry, NoMemory>
-        ensures { IfOk result (λ e. e ≡ record { url = taken.url; language = key_of header.now.language; kind = taken.kind; scopes = taken.scopes; deadline = self.now.now + registration.now.entry.lifetime }) }
+        ensures { IfOk result (λ e. e ≡ record { url = taken.url; language = key_of header.now.language.now; kind = taken.kind; scopes = taken.scopes; deadline = self.now.now + registration.now.entry.lifetime }) }
     {
         let Taken { url, kind, scopes } = taken;
-        match key(alloc, header.language.as_str()) {
+        match key(alloc, header.language) {
             Ok(language) => Ok(Entry {
                 url,
                 language,
@@ -86,13 +87,13 @@ impl<R: Registry> Grounds<'_, R> {
     fn judge_taken(
         &self,
         alloc: Global,
-        header: &Header,
-        registration: &Registration,
+        header: &KeptHeader<'_>,
+        registration: &RegistrationView<'_>,
         taken: Taken,
     ) -> Result<Judged, NoMemory>
-        requires named { taken.url ≡ registration.now.entry.url }
+        requires named { taken.url ≡ registration.now.entry.url.now }
         requires few_scopes { length taken.scopes ≤ 16 }
-        ensures { IfOk result (λ j. IsJudged self.now.live j (judged_taken self.now header.now registration.now taken)) }
+        ensures { IfOk result (λ j. IsJudged self.now.live j (judged_taken self.now (header_in header.now) (registration_in registration.now) taken)) }
     {
         let entry = self.founded(alloc, header, registration, taken)?;
         match self.rule(Action::Register, &entry.kind, &entry.scopes) {
@@ -112,15 +113,15 @@ impl<R: Registry> Grounds<'_, R> {
     fn judge_registration(
         &self,
         alloc: Global,
-        header: &Header,
-        registration: &Registration,
+        header: &KeptHeader<'_>,
+        registration: &RegistrationView<'_>,
     ) -> Result<Judged, NoMemory>
-        ensures { IfOk result (λ j. IsJudged self.now.live j (judgement_of self.now header.now registration.now)) }
+        ensures { IfOk result (λ j. IsJudged self.now.live j (judgement_of self.now (header_in header.now) (registration_in registration.now))) }
     {
-        let kind = read_kind(alloc, registration.kind.as_str())?;
+        let kind = read_kind(alloc, registration.kind)?;
         if !header.flags.fresh
             || header.flags.multicast
-            || !is_blank(registration.attributes.as_str())
+            || !is_blank(registration.attributes)
             || is_agent(kind.as_ref())
         {
             return Ok(Judged::Unjudged);
@@ -128,6 +129,23 @@ impl<R: Registry> Grounds<'_, R> {
         match name(alloc, self.site, header, registration, kind)? {
             Named::Denied(decider) => Ok(deny_by(decider, None)),
             Named::Taken(taken) => self.judge_taken(alloc, header, registration, taken),
+        }
+    }
+}
+
+impl<R: Registry> Grounds<'_, R> {
+    /// Judges a message that asks for a change (RFC 2608, sections 8.3 and 9.3): the first step whose
+    /// fault is there, else the change is accepted. Nothing is changed.
+    pub fn judge(&self, alloc: Global, change: &ChangeView<'_>) -> Result<Judged, NoMemory>
+        ensures { IfOk result (λ j. IsJudged self.now.live j (judgement self.now (message_in change.now))) }
+    {
+        match change {
+            ChangeView::Registration(header, registration) => {
+                self.judge_registration(alloc, header, registration)
+            }
+            ChangeView::Withdrawal(header, withdrawal) => {
+                self.judge_withdrawal(alloc, header, withdrawal)
+            }
         }
     }
 }
@@ -156,10 +174,10 @@ pub fn judge_on<R: Registry>(
     };
     match message {
         Message::Registration(header, registration) => {
-            grounds.judge_registration(alloc, header, registration)
+            grounds.judge_registration(alloc, &header.view(), &registration.view())
         }
         Message::Withdrawal(header, withdrawal) => {
-            grounds.judge_withdrawal(alloc, header, withdrawal)
+            grounds.judge_withdrawal(alloc, &header.view(), &withdrawal.view())
         }
         _ => unreachable!(),
     }

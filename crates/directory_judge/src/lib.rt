@@ -13,6 +13,7 @@ mod withdrawing;
 
 pub use because::{Because, Decider};
 pub use change::{Change, Placed, Withdrawn};
+pub use grounds::Grounds;
 pub use judged::Judged;
 pub use judging::judge_on;
 pub use naming::{is_agent, read_kind, read_scopes};

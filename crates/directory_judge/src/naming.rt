@@ -3,6 +3,7 @@ ghost use Rattle.std.specs.Option.{option_copied, option_map};
 ghost use Rattle.std.specs.Result.{result_ok};
 ghost use Rattle.slp_text.specs.Scopes.{scopes_of, common_of};
 ghost use Rattle.slp_text.specs.Tags.{tags_of};
+ghost use Rattle.slp_messages.specs.Views.{header_in, registration_in};
 ghost use Rattle.service_url.specs.Types.{type_of};
 ghost use Rattle.service_url.specs.Urls.{url_of};
 ghost use Rattle.directory_judge.specs.Judging.{names_tags as names_tags_of, is_agent as is_agent_type, named, named_in, IsNamedAt};
@@ -10,7 +11,7 @@ ghost use Rattle.directory_judge.specs.Judging.{names_tags as names_tags_of, is_
 use crate::because::Decider;
 use crate::site::Site;
 use service_url::{ServiceType, Url, UrlFault};
-use slp_messages::{Header, Registration};
+use slp_messages::{KeptHeader, RegistrationView};
 use slp_text::{NoMemory, ScopeList, TagList, TextFault};
 use std::alloc::Global;
 
@@ -73,7 +74,7 @@ pub fn read_supported(alloc: Global, site: &Site, text: &str) -> Result<Option<S
     let Some(scopes) = read_scopes(alloc, text)? else {
         return Ok(None);
     };
-    Ok(Some(site.scopes().common(alloc, &scopes)?))
+    Ok(Some(scopes.within(site.scopes())))
 }
 
 // The tags that a text names, if it is a list of tags.
@@ -111,24 +112,24 @@ pub fn is_agent(kind: Option<&ServiceType>) -> bool
 pub fn name(
     alloc: Global,
     site: &Site,
-    header: &Header,
-    registration: &Registration,
+    header: &KeptHeader<'_>,
+    registration: &RegistrationView<'_>,
     kind: Option<ServiceType>,
 ) -> Result<Named, NoMemory>
-    requires { kind ≡ result_ok (type_of registration.now.kind) }
-    ensures value { IfOk result (λ n. named site.now header.now registration.now ≡ named_in n) }
-    ensures url { IfOk result (IsNamedAt registration.now.entry.url) }
+    requires { kind ≡ result_ok (type_of registration.now.kind.now) }
+    ensures value { IfOk result (λ n. named site.now (header_in header.now) (registration_in registration.now) ≡ named_in n) }
+    ensures url { IfOk result (IsNamedAt registration.now.entry.url.now) }
 {
-    if header.language.as_str().is_empty() || registration.entry.lifetime == 0 {
+    if header.language.is_empty() || registration.entry.lifetime == 0 {
         return Ok(Named::Denied(Decider::Registration));
     }
     let Some(kind) = kind else {
         return Ok(Named::Denied(Decider::Registration));
     };
-    let Some(url) = read_url(alloc, registration.entry.url.as_str())? else {
+    let Some(url) = read_url(alloc, registration.entry.url)? else {
         return Ok(Named::Denied(Decider::Registration));
     };
-    let Some(scopes) = read_supported(alloc, site, registration.scopes.as_str())? else {
+    let Some(scopes) = read_supported(alloc, site, registration.scopes)? else {
         return Ok(Named::Denied(Decider::Parse));
     };
     Ok(Named::Taken(Taken { url, kind, scopes }))

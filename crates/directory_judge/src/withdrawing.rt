@@ -3,6 +3,7 @@ ghost use Rattle.std.specs.List.{list_any};
 ghost use Rattle.std.specs.Option.{option_map};
 ghost use Rattle.std.specs.Result.{result_ok};
 ghost use Rattle.slp_text.specs.Scopes.{scopes_of};
+ghost use Rattle.slp_messages.specs.Views.{header_in, withdrawal_in};
 ghost use Rattle.service_url.specs.Urls.{url_of};
 ghost use Rattle.registry_core.specs.Entries.{is_of_url};
 ghost use Rattle.directory_judge.specs.Judging.{concerned, entries_in, first_of, is_kept, judged_stored, judgement_to, IsJudged};
@@ -18,7 +19,7 @@ use crate::ruling::{Ruling, deny, deny_by};
 use crate::site::Site;
 use access_rules::Action;
 use registry_core::{Entry, Registry};
-use slp_messages::{Header, Withdrawal};
+use slp_messages::{KeptHeader, WithdrawalView};
 use slp_text::{NoMemory, ScopeList};
 use std::alloc::Global;
 use std::cmp::Ordering;
@@ -28,14 +29,14 @@ use std::sync::Arc;
 fn read_withdrawn(
     alloc: Global,
     site: &Site,
-    withdrawal: &Withdrawal,
+    withdrawal: &WithdrawalView<'_>,
 ) -> Result<Option<Withdrawn>, NoMemory>
-    ensures { IfOk result (λ w. w ≡ withdrawn_in site.now (result_ok (url_of withdrawal.now.entry.url)) (result_ok (scopes_of withdrawal.now.scopes))) }
+    ensures { IfOk result (λ w. w ≡ withdrawn_in site.now (result_ok (url_of withdrawal.now.entry.url.now)) (result_ok (scopes_of withdrawal.now.scopes.now))) }
 {
-    let Some(url) = read_url(alloc, withdrawal.entry.url.as_str())? else {
+    let Some(url) = read_url(alloc, withdrawal.entry.url)? else {
         return Ok(None);
     };
-    match read_supported(alloc, site, withdrawal.scopes.as_str())? {
+    match read_supported(alloc, site, withdrawal.scopes)? {
         Some(scopes) => Ok(Some(Withdrawn { url, scopes })),
         None => Ok(None),
     }
@@ -158,12 +159,12 @@ impl<'a, R: Registry> Grounds<'a, R> {
     pub fn judge_withdrawal(
         &self,
         alloc: Global,
-        header: &Header,
-        withdrawal: &Withdrawal,
+        header: &KeptHeader<'_>,
+        withdrawal: &WithdrawalView<'_>,
     ) -> Result<Judged, NoMemory>
-        ensures { IfOk result (λ j. IsJudged self.now.live j (judgement_to self.now header.now withdrawal.now)) }
+        ensures { IfOk result (λ j. IsJudged self.now.live j (judgement_to self.now (header_in header.now) (withdrawal_in withdrawal.now))) }
     {
-        let tags = names_tags(alloc, withdrawal.tags.as_str())?;
+        let tags = names_tags(alloc, withdrawal.tags)?;
         if header.flags.multicast || tags.unwrap_or(false) {
             return Ok(Judged::Unjudged);
         }

@@ -2,6 +2,7 @@ ghost use Rattle.std.specs.Prelude.{◌≡◌, ◌∷◌, [], max, map, List, If
 ghost use Rattle.std.specs.List.{list_any};
 ghost use Rattle.std.specs.Arc.{arc_value};
 ghost use Rattle.std.specs.FinMap as fin;
+ghost use Rattle.slp_messages.specs.Views.{message_in};
 ghost use Rattle.directory_judge.specs.History.{History, Event};
 ghost use Rattle.directory_judge.specs.Judging.{IsChange, Judgement, supports};
 ghost use Rattle.directory_judge.specs.Making.{content};
@@ -18,9 +19,9 @@ ghost use Rattle.directory_state.specs.Folding.{IsJudgedAs};
 use crate::finding::{Found, Kept, Room, Search};
 use access_rules::{Addr, Rules};
 use directory_answers::{QueryFault, ServiceQuery};
-use directory_judge::{Change, Judged, Placed, Site, judge_on};
+use directory_judge::{Change, Grounds, Judged, Placed, Site, judge_on};
 use registry_core::Registry;
-use slp_messages::{Message, UrlEntry};
+use slp_messages::{ChangeView, Message, UrlEntry};
 use slp_text::NoMemory;
 use std::alloc::Global;
 use std::marker::Model;
@@ -123,6 +124,27 @@ impl<R: Registry> Directory<R> {
             asker,
             message,
         )
+    }
+
+    /// The same of a message whose texts are lent.
+    pub fn judge_change(
+        &self,
+        alloc: Global,
+        moment: u32,
+        asker: Addr,
+        change: &ChangeView<'_>,
+    ) -> Result<Judged, NoMemory>
+        ensures { (o : Opening) (h : History) → Fold o h self.now → IsLegal o h
+            → IfOk result (λ j. (v : Judgement) × IsVerdict o h moment asker (message_in change.now) v × IsJudgedAs h j v) }
+    {
+        let grounds = Grounds {
+            registry: &self.registry,
+            rules: &self.rules,
+            site: &self.site,
+            moment: self.now(moment),
+            asker,
+        };
+        grounds.judge(alloc, change)
     }
 
     /// Makes a change: what is dead at its moment is dropped, and the clock raised. It has no answer for want of memory.

@@ -75,14 +75,6 @@ impl<'a> Kept<'a> {
         }
     }
 
-    // Whether a URL comes after all that is kept, where there is no room for the last of that.
-    fn is_past(&self, url: &Url) -> bool
-        requires { IsCounted self.now }
-        ensures { IsTrue result → (deadline : ℕ) → cut_in self.now.room (join url.now deadline self.now.latest) ≡ cut_in self.now.room self.now.latest }
-    {
-        self.is_over(self.used) && self.latest.are_before(url)
-    }
-
     // A URL joins what is kept.
     fn put(&mut self, url: &'a Url, deadline: u64) -> Result<(), NoMemory>
         requires counted { IsCounted self.old }
@@ -135,7 +127,7 @@ impl<'a> Kept<'a> {
         ensures kept { IfOk result (λ _. IsKept self.new) }
         ensures found { IfOk result (λ _. self.new.latest ≡ cut_in self.old.room (joined (filter (is_seen question.now.rules.now question.now.moment question.now.asker scope.now) (entry.now ∷ [])) self.old.latest)) }
     {
-        if entry.deadline <= question.moment || self.is_past(&entry.url) {
+        if entry.deadline <= question.moment {
             return Ok(());
         }
         let ruling = question

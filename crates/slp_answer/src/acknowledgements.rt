@@ -1,8 +1,9 @@
 ghost use Rattle.std.specs.Prelude.{◌≡◌, [], true, IfOk, OnErr, Some, None};
 ghost use Rattle.slp_headers.specs.Headers.{heading};
 ghost use Rattle.slp_messages.specs.Messages.{IsMessage};
+ghost use Rattle.slp_messages.specs.Views.{message_in};
 ghost use Rattle.directory_judge.specs.History.{History};
-ghost use Rattle.directory_judge.specs.Judging.{IsChange, Judgement};
+ghost use Rattle.directory_judge.specs.Judging.{Judgement};
 ghost use Rattle.directory_answers.specs.Answering.{is_change_of};
 ghost use Rattle.directory_answers.specs.Calls.{Opening};
 ghost use Rattle.directory_answers.specs.Outcomes.{acknowledged};
@@ -11,36 +12,35 @@ ghost use Rattle.directory_state.specs.Folding.{Fold, HandsOut};
 ghost use Rattle.slp_answer.specs.Telling.{Tells, Acknowledges};
 
 use crate::answer::{Answer, Sent};
-use crate::coded::{Finding, answer_code, answer_fault};
+use crate::coded::{Finding, Headed, answer_code, answer_fault};
 use access_rules::Addr;
-use directory_answers::{Call, understood};
+use directory_answers::{Call, asked_change};
 use directory_judge::{Change, Decider, Judged};
 use directory_state::Directory;
 use registry_core::Registry;
 use slp_text::NoMemory;
-use slp_wire::{HeaderView, Message, code, read_header};
+use slp_wire::{ChangeView, code, read_header};
 use std::alloc::Global;
 
-// Judges a message, and acknowledges what comes of it.
-fn acknowledge_message<R: Registry>(
+// Judges a message that asks for a change, and acknowledges what comes of it.
+fn acknowledge_change<R: Registry>(
     alloc: Global,
     directory: &Directory<R>,
-    call: &Call<'_>,
-    header: &HeaderView<'_>,
-    message: &Message,
+    headed: &Headed<'_>,
+    change: &ChangeView<'_>,
     answer: &mut Answer,
 ) -> Result<(Sent, Option<Change>), NoMemory>
-    requires change { IsChange message.now }
-    requires sound { IsMessage message.now }
+    requires sound { IsMessage (message_in change.now) }
     requires no_reply { answer.old.bytes.items ≡ [] }
     requires no_line { answer.old.audit.items ≡ [] }
     ensures { (o : Opening) (h : History) → Fold o h directory.now → IsLegal o h
-        → IfOk result (λ p. (v : Judgement) × IsVerdict o h call.now.moment call.now.asker message.now v
-        × Tells directory.now.rules call.now.asker (Some (heading header.now)) (acknowledged (heading header.now) v) p.0 answer.new.bytes.items answer.new.audit.items
+        → IfOk result (λ p. (v : Judgement) × IsVerdict o h headed.now.call.now.moment headed.now.call.now.asker (message_in change.now) v
+        × Tells directory.now.rules headed.now.call.now.asker (Some (heading headed.now.header.now)) (acknowledged (heading headed.now.header.now) v) p.0 answer.new.bytes.items answer.new.audit.items
         × HandsOut o h p.1 (change_in v)) }
 {
+    let Headed { call, header } = *headed;
     let (rules, asker) = (directory.rules(), call.asker);
-    let judged = directory.judge(alloc, call.moment, asker, message)?;
+    let judged = directory.judge_change(alloc, call.moment, asker, change)?;
     match judged {
         Judged::Accept(change, because) => {
             let code = code::OK;
@@ -80,11 +80,13 @@ fn acknowledge_bytes<R: Registry>(
     let Some(header) = read_header(call.bytes) else {
         return Ok((Sent::Silence, None));
     };
-    match understood(alloc, call.bytes)? {
-        Ok(message) => {
-            let told = acknowledge_message(alloc, directory, call, &header, &message, answer);
-            drop(message);
-            told
+    match asked_change(&header, call.bytes)? {
+        Ok(change) => {
+            let headed = Headed {
+                call,
+                header: &header,
+            };
+            acknowledge_change(alloc, directory, &headed, &change, answer)
         }
         Err(fault) => {
             let sent = answer_fault(directory.rules(), call.asker, &header, fault, answer)?;

@@ -9,7 +9,7 @@ use crate::answer::{Answer, Sent};
 use crate::audit::{Audit, put_line};
 use crate::refusals::action_in;
 use access_rules::{Addr, Rules};
-use directory_answers::decider_of;
+use directory_answers::{Call, decider_of};
 use directory_judge::{Because, Decider};
 use service_url::ServiceType;
 use slp_text::NoMemory;
@@ -36,6 +36,13 @@ impl Finding {
             },
         }
     }
+}
+
+/// A call whose header was read.
+#[derive(Clone, Copy)]
+pub struct Headed<'a> {
+    pub call: &'a Call<'a>,
+    pub header: &'a HeaderView<'a>,
 }
 
 /// Whether a reply with a code, which may have nothing in it, is not sent: a question that was sent to

@@ -17,7 +17,7 @@ ghost use Rattle.slp_answer.specs.declared.answer.Sent.TheVariants.{Silence as N
 
 use crate::answer::{Answer, Sent};
 use crate::audit::{Audit, put_line};
-use crate::coded::{Finding, answer_code, answer_fault, is_unsent};
+use crate::coded::{Finding, Headed, answer_code, answer_fault, is_unsent};
 use crate::listing::{put_found, room_in};
 use crate::refusals::action_in;
 use access_rules::{Addr, Rules};
@@ -50,13 +50,6 @@ fn write_found(
     }
     put_found(header, found, &mut answer.bytes)?;
     Ok(Sent::Bytes(code::OK))
-}
-
-// A call whose header was read.
-#[derive(Clone, Copy)]
-struct Headed<'a> {
-    call: &'a Call<'a>,
-    header: &'a HeaderView<'a>,
 }
 
 // Sends the services that were found, and tells of it.

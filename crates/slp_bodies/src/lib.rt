@@ -14,10 +14,13 @@ pub use adverts::{
 pub use attributes::{
     attribute_reply_of, attribute_request_fields, attribute_request_of, attributes_fields,
 };
-pub use registrations::{registration_fields, registration_of, withdrawal_fields, withdrawal_of};
+pub use registrations::{
+    registration_fields, registration_of, registration_view_of, withdrawal_fields, withdrawal_of,
+    withdrawal_view_of,
+};
 pub use replies::refusal_fields;
 pub use services::{
-    ServiceRequestView, service_reply_of, service_request_fields, service_request_of,
-    service_request_view_of, services_fields,
+    service_reply_of, service_request_fields, service_request_of, service_request_view_of,
+    services_fields,
 };
 pub use types::{type_reply_of, type_request_fields, type_request_of, types_fields};

@@ -3,32 +3,41 @@ ghost use Rattle.std.specs.Prelude.{◌≡◌};
 ghost use Rattle.std.specs.List.{AllByRecursion};
 ghost use Rattle.slp_messages.specs.Layouts as layout;
 ghost use Rattle.slp_messages.specs.Layouts.{IsLaid};
+ghost use Rattle.slp_messages.specs.Views.{registration_in, withdrawal_in};
 ghost use Rattle.slp_fields.specs.Spelling.{laid_bytes};
 ghost use Rattle.slp_fields.specs.Steps.{Gives};
 ghost use Rattle.slp_fields.specs.Writing.{fields_bytes, IsField};
 ghost use Rattle.slp_bodies.specs.Bodies.{registration_at, withdrawal_at};
 
-use slp_fields::{Field, WireFault, behind_no_block, entry_of, text_of};
-use slp_messages::{Registration, Withdrawal};
+use slp_fields::{Field, WireFault, behind_no_block, entry_view_of, str_of};
+use slp_messages::{Registration, RegistrationView, Withdrawal, WithdrawalView};
 use std::alloc::Global;
 
-/// Reads a registration.
+/// Reads a registration without a copy.
 #[tactic(auto, unfolding(crate::specs::Bodies::registration_at))]
-pub fn registration_of(alloc: Global, bytes: &[u8]) -> Result<(Registration, &[u8]), WireFault>
-    ensures { Gives (λ x. (x.0, x.1.now)) result (registration_at bytes.now) }
+pub fn registration_view_of(bytes: &[u8]) -> Result<(RegistrationView<'_>, &[u8]), WireFault>
+    ensures { Gives (λ x. (registration_in x.0, x.1.now)) result (registration_at bytes.now) }
 {
-    let (entry, rest) = entry_of(alloc, bytes)?;
-    let (kind, rest) = text_of(alloc, rest)?;
-    let (scopes, rest) = text_of(alloc, rest)?;
-    let (attributes, rest) = text_of(alloc, rest)?;
+    let (entry, rest) = entry_view_of(bytes)?;
+    let (kind, rest) = str_of(rest)?;
+    let (scopes, rest) = str_of(rest)?;
+    let (attributes, rest) = str_of(rest)?;
     let rest = behind_no_block(rest)?;
-    let registration = Registration {
+    let view = RegistrationView {
         entry,
         kind,
         scopes,
         attributes,
     };
-    Ok((registration, rest))
+    Ok((view, rest))
+}
+
+/// Reads a registration.
+pub fn registration_of(alloc: Global, bytes: &[u8]) -> Result<(Registration, &[u8]), WireFault>
+    ensures { Gives (λ x. (x.0, x.1.now)) result (registration_at bytes.now) }
+{
+    let (view, rest) = registration_view_of(bytes)?;
+    Ok((view.copy(alloc)?, rest))
 }
 
 /// The fields of a registration.
@@ -45,20 +54,28 @@ pub fn registration_fields(registration: &Registration) -> [Field<'_>; 5]
     ]
 }
 
-/// Reads a withdrawal.
+/// Reads a withdrawal without a copy.
 #[tactic(auto, unfolding(crate::specs::Bodies::withdrawal_at))]
-pub fn withdrawal_of(alloc: Global, bytes: &[u8]) -> Result<(Withdrawal, &[u8]), WireFault>
-    ensures { Gives (λ x. (x.0, x.1.now)) result (withdrawal_at bytes.now) }
+pub fn withdrawal_view_of(bytes: &[u8]) -> Result<(WithdrawalView<'_>, &[u8]), WireFault>
+    ensures { Gives (λ x. (withdrawal_in x.0, x.1.now)) result (withdrawal_at bytes.now) }
 {
-    let (scopes, rest) = text_of(alloc, bytes)?;
-    let (entry, rest) = entry_of(alloc, rest)?;
-    let (tags, rest) = text_of(alloc, rest)?;
-    let withdrawal = Withdrawal {
+    let (scopes, rest) = str_of(bytes)?;
+    let (entry, rest) = entry_view_of(rest)?;
+    let (tags, rest) = str_of(rest)?;
+    let view = WithdrawalView {
         scopes,
         entry,
         tags,
     };
-    Ok((withdrawal, rest))
+    Ok((view, rest))
+}
+
+/// Reads a withdrawal.
+pub fn withdrawal_of(alloc: Global, bytes: &[u8]) -> Result<(Withdrawal, &[u8]), WireFault>
+    ensures { Gives (λ x. (x.0, x.1.now)) result (withdrawal_at bytes.now) }
+{
+    let (view, rest) = withdrawal_view_of(bytes)?;
+    Ok((view.copy(alloc)?, rest))
 }
 
 /// The fields of a withdrawal.

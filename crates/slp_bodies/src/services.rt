@@ -1,52 +1,26 @@
 //! SrvRqst and SrvRply, functions 1 and 2 (RFC 2608, sections 8.1 and 8.2).
-ghost use Rattle.std.specs.Prelude.{◌≡◌, ◌++◌, IfOk};
+ghost use Rattle.std.specs.Prelude.{◌≡◌, ◌++◌};
 ghost use Rattle.std.specs.List.{AllByRecursion};
 ghost use Rattle.byteorder.specs.Endian.{big_bytes};
 ghost use Rattle.slp_messages.specs.Layouts as layout;
 ghost use Rattle.slp_messages.specs.Layouts.{IsLaid};
+ghost use Rattle.slp_messages.specs.Views.{request_in};
 ghost use Rattle.slp_fields.specs.Spelling.{laid_bytes};
 ghost use Rattle.slp_fields.specs.Steps.{Gives};
 ghost use Rattle.slp_fields.specs.Writing.{fields_bytes, IsField};
 ghost use Rattle.slp_bodies.specs.Bodies.{service_request_at, service_reply_at};
-ghost use Rattle.slp_bodies.specs.Views.{request};
 
 use crate::replies::behind_code;
 use slp_fields::{Field, WireFault, behind_no_index, listing_of, number_of, str_of};
-use slp_messages::{ErrorCode, Kind, ServiceReply, ServiceRequest, UrlEntry, code};
-use slp_text::{NoMemory, Text};
+use slp_messages::{
+    ErrorCode, Kind, ServiceReply, ServiceRequest, ServiceRequestView, UrlEntry, code,
+};
 use std::alloc::Global;
-
-/// A service request whose texts are lent.
-#[derive(Clone, Copy)]
-pub struct ServiceRequestView<'a> {
-    pub responders: &'a str,
-    pub kind: &'a str,
-    pub scopes: &'a str,
-    pub predicate: &'a str,
-}
-
-impl ServiceRequestView<'_> {
-    /// The request with texts of its own.
-    pub fn copy(&self, alloc: Global) -> Result<ServiceRequest, NoMemory>
-        ensures { IfOk result (λ r. r ≡ request self.now) }
-    {
-        let responders = Text::wrap(String::from_str(alloc, self.responders)?);
-        let kind = Text::wrap(String::from_str(alloc, self.kind)?);
-        let scopes = Text::wrap(String::from_str(alloc, self.scopes)?);
-        let predicate = Text::wrap(String::from_str(alloc, self.predicate)?);
-        Ok(ServiceRequest {
-            responders,
-            kind,
-            scopes,
-            predicate,
-        })
-    }
-}
 
 /// Reads a request without a copy.
 #[tactic(auto, unfolding(crate::specs::Bodies::service_request_at))]
 pub fn service_request_view_of(bytes: &[u8]) -> Result<(ServiceRequestView<'_>, &[u8]), WireFault>
-    ensures { Gives (λ x. (request x.0, x.1.now)) result (service_request_at bytes.now) }
+    ensures { Gives (λ x. (request_in x.0, x.1.now)) result (service_request_at bytes.now) }
 {
     let (responders, rest) = str_of(bytes)?;
     let (kind, rest) = str_of(rest)?;

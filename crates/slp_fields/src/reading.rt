@@ -1,10 +1,11 @@
 //! Reading of single fields: each answers its value and the bytes after it.
+ghost use Rattle.slp_messages.specs.Views.{entry_in};
 ghost use Rattle.slp_fields.specs.Steps.{Gives};
 ghost use Rattle.slp_fields.specs.Reading.{byte_at, number_at, long_at, string_at, no_block_at, no_index_at, entry_at, entries_at, listing_at, authority_at};
 
 use crate::fault::WireFault;
 use byteorder::{BigEndian, ByteOrder};
-use slp_messages::{Authority, UrlEntry};
+use slp_messages::{Authority, EntryView, UrlEntry};
 use slp_text::{Row, Text};
 use std::alloc::Global;
 
@@ -89,16 +90,24 @@ pub fn behind_no_index(bytes: &[u8]) -> Result<&[u8], WireFault>
     Ok(rest)
 }
 
-/// A URL entry (RFC 2608, section 4.3) without authentication blocks.
+/// A URL entry (RFC 2608, section 4.3) without authentication blocks, without a copy.
 #[tactic(auto, unfolding(crate::specs::Reading::entry_at))]
-pub fn entry_of(alloc: Global, bytes: &[u8]) -> Result<(UrlEntry, &[u8]), WireFault>
-    ensures { Gives (λ x. (x.0, x.1.now)) result (entry_at bytes.now) }
+pub fn entry_view_of(bytes: &[u8]) -> Result<(EntryView<'_>, &[u8]), WireFault>
+    ensures { Gives (λ x. (entry_in x.0, x.1.now)) result (entry_at bytes.now) }
 {
     let (_, rest) = byte_of(bytes)?;
     let (lifetime, rest) = number_of(rest)?;
-    let (url, rest) = text_of(alloc, rest)?;
+    let (url, rest) = str_of(rest)?;
     let rest = behind_no_block(rest)?;
-    Ok((UrlEntry { lifetime, url }, rest))
+    Ok((EntryView { lifetime, url }, rest))
+}
+
+// The same, which is copied.
+fn entry_of(alloc: Global, bytes: &[u8]) -> Result<(UrlEntry, &[u8]), WireFault>
+    ensures { Gives (λ x. (x.0, x.1.now)) result (entry_at bytes.now) }
+{
+    let (view, rest) = entry_view_of(bytes)?;
+    Ok((view.copy(alloc)?, rest))
 }
 
 // The count is not trusted: memory is taken as the entries come.

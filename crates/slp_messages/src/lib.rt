@@ -8,6 +8,7 @@ mod header;
 mod kind;
 pub mod laws;
 mod message;
+mod views;
 
 pub use header::{Flags, Header, Tag};
 pub use kind::Kind;
@@ -15,4 +16,7 @@ pub use message::{
     AttributeReply, AttributeRequest, Authority, DirectoryAdvert, DirectoryAgent, ErrorCode,
     Message, Registration, ServiceAgent, ServiceReply, ServiceRequest, TypeReply, TypeRequest,
     UrlEntry, Withdrawal,
+};
+pub use views::{
+    ChangeView, EntryView, KeptHeader, RegistrationView, ServiceRequestView, WithdrawalView,
 };

@@ -1,7 +1,7 @@
 -- Sets of keys: ascending lists with the same members are the same.
 use Rattle.std.proofs.Common.{◌≡◌, ℕ, Bool, true, false, cond, List, [], ◌∷◌, refl, sym, ap, ap₂, subst, ◌∙◌, inl, inr, arith}
-use Rattle.std.specs.Prelude.{◌⊎◌, Contains, filter}
-use Rattle.std.specs.List.{All, AllByRecursion, dedup}
+use Rattle.std.specs.Prelude.{◌⊎◌, ◌||◌, Contains, filter}
+use Rattle.std.specs.List.{All, AllByRecursion, dedup, list_any}
 use Rattle.std.specs.List.Retain.{IsFiltered, DiffersFromLast}
 use Rattle.std.specs.List.Sorted.{IsPermutation, IsSorted, IsStrictlySortedBy}
 use Rattle.std.specs.Cmp.Lexicographic.{nat_list_eq_equiv}
@@ -16,6 +16,7 @@ use Rattle.std.proofs.lemmas.List.Sorted.{Contains-permutation, IsPermutation-sy
 use Rattle.std.proofs.lemmas.Map.Lookups.{exact_bytes}
 use Rattle.std.proofs.lemmas.Map.Made.{Contains-tail}
 use Rattle.std.proofs.lemmas.Map.Text.{is_eq-slice_cmp}
+use Rattle.slp_text.specs.Scopes.{common_of}
 use Rattle.slp_text.specs.Sets.{with_key, set_of}
 use Rattle.slp_text.specs.Words.{bytes_eq, bytes_cmp, IsAscending}
 
@@ -199,3 +200,62 @@ sorted_once ks sorted js moved up kept =
     is_set js ks (subst IsAscending (sym is) (ascends (dedup bytes_eq sorted) (IsStrictlySortedBy-dedup nat_list_cmp_total ties sorted up)))
     (λ w has. Contains-permutation sorted ks w (IsPermutation-sym ks sorted moved) (Contains-from_dedup bytes_eq sorted w (subst (λ xs. Contains xs w) is has)))
     (λ w has. subst (λ xs. Contains xs w) (sym is) (Contains-dedup nat_list_eq_equiv bytes_same sorted w (Contains-permutation ks sorted w moved has)))
+
+-- ---- what stands in both
+
+kept_member : (p : List ℕ → Bool) (xs : List (List ℕ)) (w : List ℕ) → Contains (filter p xs) w → Contains xs w × (p w ≡ true)
+kept_member p [] w h = absurd (no_member w h)
+kept_member p (x ∷ xs) w h =
+    elim (p x) as (λ b. p x ≡ b → Contains (cond b (x ∷ filter p xs) (filter p xs)) w → Contains (x ∷ xs) w × (p w ≡ true)) [
+      | true ↦ λ t has. elim (member_cases x w (filter p xs) has) [
+            | inl is ↦ (subst (Contains (x ∷ xs)) is (here x xs), ap p (sym is) ∙ t)
+            | inr later ↦ let m = kept_member p xs w later in (there x w xs m.0, m.1)
+          ]
+      | false ↦ λ f has. let m = kept_member p xs w has in (there x w xs m.0, m.1)
+    ] refl h
+
+member_kept : (p : List ℕ → Bool) (xs : List (List ℕ)) (w : List ℕ) → Contains xs w → p w ≡ true → Contains (filter p xs) w
+member_kept p [] w h t = absurd (no_member w h)
+member_kept p (x ∷ xs) w h t =
+    elim (p x) as (λ b. p x ≡ b → Contains (cond b (x ∷ filter p xs) (filter p xs)) w) [
+      | true ↦ λ passes. elim (member_cases x w xs h) [
+            | inl is ↦ subst (Contains (x ∷ filter p xs)) is (here x (filter p xs))
+            | inr later ↦ there x w (filter p xs) (member_kept p xs w later t)
+          ]
+      | false ↦ λ fails. elim (member_cases x w xs h) [
+            | inl is ↦ (let no : false ≡ true = sym fails ∙ (ap p is ∙ t) in cc)
+            | inr later ↦ member_kept p xs w later t
+          ]
+    ] refl
+
+bytes_self : (k : List ℕ) → bytes_eq k k ≡ true
+bytes_self k = ties k k ∙ ap is_eq (tied_itself nat_list_cmp_total k)
+
+has_member : (k : List ℕ) (others : List (List ℕ)) → list_any (λ o. bytes_eq o k) others ≡ true → Contains others k
+has_member k [] h = cc
+has_member k (o ∷ os) h =
+    elim (bytes_eq o k) as (λ b. bytes_eq o k ≡ b → (b || list_any (λ j. bytes_eq j k) os) ≡ true → Contains (o ∷ os) k) [
+      | true ↦ λ same any. subst (Contains (o ∷ os)) (bytes_same o k same) (here o os)
+      | false ↦ λ other any. there o k os (has_member k os any)
+    ] refl h
+
+member_has : (k : List ℕ) (others : List (List ℕ)) → Contains others k → list_any (λ o. bytes_eq o k) others ≡ true
+member_has k [] h = absurd (no_member k h)
+member_has k (o ∷ os) h =
+    elim (member_cases o k os h) [
+      | inl is ↦ ap (λ b. b || list_any (λ j. bytes_eq j k) os) (subst (λ j. bytes_eq o j ≡ true) is (bytes_self o))
+      | inr later ↦ elim (bytes_eq o k) as (λ b. (b || list_any (λ j. bytes_eq j k) os) ≡ true) [ true ↦ refl | false ↦ member_has k os later ]
+    ]
+
+within_common : (ks others : List (List ℕ)) (w : List ℕ) → Contains (common_of ks others) w → Contains (common_of others ks) w
+within_common ks others w has =
+    let m = kept_member (λ k. list_any (λ o. bytes_eq o k) others) ks w has in
+    member_kept (λ k. list_any (λ o. bytes_eq o k) ks) others w (has_member w others m.1) (member_has w ks m.0)
+
+-- it does not matter which of two sets is asked for what stands in the other
+pub common_turned : (ks others : List (List ℕ)) → IsAscending ks → IsAscending others → common_of ks others ≡ common_of others ks
+common_turned ks others a b =
+    same_ascending (common_of ks others) (common_of others ks)
+    (filter_ascending (λ k. list_any (λ o. bytes_eq o k) others) ks a)
+    (filter_ascending (λ k. list_any (λ o. bytes_eq o k) ks) others b)
+    (within_common ks others) (within_common others ks)

@@ -198,6 +198,17 @@ impl ScopeList {
         Ok(ScopeList { keys })
     }
 
+    /// Those of the scopes that stand in another list too. It takes time for the product of the lengths,
+    /// and no memory.
+    pub fn within(self, other: &ScopeList) -> ScopeList
+        ensures { result ≡ common_of other.now self }
+    {
+        let others = &other.keys;
+        let mut keys = self.keys;
+        keys.retain(|k| others.contains(k));
+        ScopeList { keys }
+    }
+
     /// Appends the scopes in key order, with escapes and a comma between each two. Where memory runs
     /// out nothing is appended.
     pub fn print_into(&self, out: &mut String) -> Result<(), NoMemory>

@@ -263,9 +263,9 @@ is_found bytes m fits e =
 
 -- ---- for what a reader answers
 
-pub answer_is_found : (bytes : List ℕ) (r : Result Message WireFault) → IsBytes bytes → Gives (λ (m : Message). m) r (reading bytes) → IfOk r (λ m. Spells (marked bytes) m)
-answer_is_found bytes (Ok m) fits e = is_found bytes m fits e
-answer_is_found bytes (Err d) fits e = tt
+pub answer_is_found : {A : Type 0} (said : A → Message) (bytes : List ℕ) (r : Result A WireFault) → IsBytes bytes → Gives said r (reading bytes) → IfOk r (λ a. Spells (marked bytes) (said a))
+answer_is_found said bytes (Ok a) fits e = is_found bytes (said a) fits e
+answer_is_found said bytes (Err d) fits e = tt
 
 pub marked_is_read : (bytes : List ℕ) (m : Message) → Spells (marked bytes) m → reading bytes ≡ Ok m
 marked_is_read bytes m s =

@@ -8,15 +8,14 @@ pub mod laws;
 mod reading;
 mod writing;
 
-pub use reading::{decode, read_service_request};
-pub use slp_bodies::ServiceRequestView;
+pub use reading::{decode, read_change, read_service_request};
 pub use slp_fields::{WireFault, append, entry_length, put_entry};
 pub use slp_headers::{
     HeaderView, error_reply, flag, opening, place, read_header, reply_function, two_bytes,
 };
 pub use slp_messages::{
-    AttributeReply, AttributeRequest, Authority, DirectoryAdvert, DirectoryAgent, ErrorCode, Flags,
-    Header, Message, Registration, ServiceAgent, ServiceReply, ServiceRequest, Tag, TypeReply,
-    TypeRequest, UrlEntry, Withdrawal, code, function,
+    AttributeReply, AttributeRequest, Authority, ChangeView, DirectoryAdvert, DirectoryAgent,
+    ErrorCode, Flags, Header, Message, Registration, ServiceAgent, ServiceReply, ServiceRequest,
+    ServiceRequestView, Tag, TypeReply, TypeRequest, UrlEntry, Withdrawal, code, function,
 };
 pub use writing::encode;

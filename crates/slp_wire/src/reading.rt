@@ -1,19 +1,21 @@
-ghost use Rattle.std.specs.Prelude.{◌≡◌, ◌<◌, ◌^◌, IfOk, IfErr, Some, Ok, Err};
+ghost use Rattle.std.specs.Prelude.{◌≡◌, ◌<◌, ◌^◌, ◌⊎◌, IfOk, IfErr, Some, Ok, Err};
 ghost use Rattle.slp_messages.specs.declared.message.Message.TheVariants as message;
 ghost use Rattle.slp_messages.specs.declared.message.Message.{Message as AnyMessage};
+ghost use Rattle.slp_messages.specs.Views.{header_in as kept_in, message_in, request_in};
 ghost use Rattle.slp_headers.specs.Headers.{flags_of, heading, heading_of};
 ghost use Rattle.slp_fields.specs.Steps.{Gives};
-ghost use Rattle.slp_bodies.specs.Views.{request};
 ghost use Rattle.slp_wire.specs.Bodies.{body_at};
 ghost use Rattle.slp_wire.specs.Reading.{is_known, kept_header, tail_of, ends_at, ended, reading_behind, reading, marked};
 ghost use Rattle.slp_wire.specs.Spelling.{Spells};
 
 use crate::body::body_of;
 use crate::extensions::skip_extensions;
-use slp_bodies::{ServiceRequestView, service_request_view_of};
+use slp_bodies::{registration_view_of, service_request_view_of, withdrawal_view_of};
 use slp_fields::WireFault;
 use slp_headers::{HeaderView, VERSION, flag, place, read_header};
-use slp_messages::{Flags, Header, Message, Tag, function};
+use slp_messages::{
+    ChangeView, Flags, Header, KeptHeader, Message, ServiceRequestView, Tag, function,
+};
 use std::alloc::Global;
 
 fn is_read(function: u8) -> bool
@@ -29,6 +31,17 @@ fn flags_in(word: u16) -> Flags
         overflow: word & flag::OVERFLOW != 0,
         fresh: word & flag::FRESH != 0,
         multicast: word & flag::MULTICAST != 0,
+    }
+}
+
+// What a message keeps of its header, lent.
+fn kept<'a>(view: &HeaderView<'a>) -> KeptHeader<'a>
+    ensures { kept_in result ≡ kept_header (heading view.now) }
+{
+    KeptHeader {
+        flags: flags_in(view.flags),
+        xid: view.xid,
+        language: view.language,
     }
 }
 
@@ -128,12 +141,31 @@ pub fn read_service_request<'a>(
 ) -> Result<ServiceRequestView<'a>, WireFault>
     requires header { heading_of bytes.now ≡ Some (heading view.now) }
     requires function { view.now.function ≡ 1 }
-    ensures { Gives (λ r. message.ServiceRequest (kept_header (heading view.now)) (request r)) result (reading bytes.now) }
+    ensures { Gives (λ r. message.ServiceRequest (kept_header (heading view.now)) (request_in r)) result (reading bytes.now) }
 {
     let body = body_behind(view, bytes)?;
     let (request, rest) = service_request_view_of(body)?;
     check_end(view.extension as usize, view.length as usize, rest)?;
     Ok(request)
+}
+
+/// The registration or the withdrawal in front of the bytes, whose header was read from them. Its texts
+/// are lent.
+#[tactic(auto, unfolding(crate::specs::Reading::reading, crate::specs::Reading::ended, crate::specs::Bodies::body_at))]
+pub fn read_change<'a>(view: &HeaderView<'a>, bytes: &'a [u8]) -> Result<ChangeView<'a>, WireFault>
+    requires header { heading_of bytes.now ≡ Some (heading view.now) }
+    requires function { (view.now.function ≡ 3) ⊎ (view.now.function ≡ 4) }
+    ensures { Gives message_in result (reading bytes.now) }
+{
+    let body = body_behind(view, bytes)?;
+    if view.function == function::REGISTRATION {
+        let (registration, rest) = registration_view_of(body)?;
+        check_end(view.extension as usize, view.length as usize, rest)?;
+        return Ok(ChangeView::Registration(kept(view), registration));
+    }
+    let (withdrawal, rest) = withdrawal_view_of(body)?;
+    check_end(view.extension as usize, view.length as usize, rest)?;
+    Ok(ChangeView::Withdrawal(kept(view), withdrawal))
 }
 
 #[tactic(auto, unfolding(crate::specs::Reading::reading))]

@@ -1,4 +1,4 @@
-use Rattle.std.proofs.Common.{◌≡◌, ℕ, Bool, true, false, cond, List, length, Some, Ok, Err, sym, ap, ◌∙◌}
+use Rattle.std.proofs.Common.{◌≡◌, ℕ, Bool, true, false, cond, List, length, Some, Ok, Err, sym, ◌∙◌}
 use Rattle.std.specs.Prelude.{nat_lt}
 use Rattle.std.specs.Result.{result_ok}
 use Rattle.std.proofs.lemmas.Option.{none-some, same_Some}
@@ -14,6 +14,6 @@ read-same false false text url h = absurd (none-some url h)
 
 pub returns-clause-url : goal.returns-clause-url
 returns-clause-url c =
-    let text = c.args.registration.now.entry.url in
-    let read : result_ok (url_of text) ≡ Some c.in-Some-2.url = ap (λ t. result_ok (url_of t)) (sym c.as_str-2.ensures) ∙ sym c.in_ok-url.ensures ∙ c.in-Some-2.is in
+    let text = c.args.registration.now.entry.url.now in
+    let read : result_ok (url_of text) ≡ Some c.in-Some-2.url = sym c.in_ok-url.ensures ∙ c.in-Some-2.is in
     (sym (read-same (nat_lt longest_url (length text)) (is_url text) text c.in-Some-2.url read), rw c.in-Some-3.is at c.in_ok-scopes.ensures.few)

@@ -7,4 +7,4 @@ use Rattle.directory_judge.proofs.naming.read_supported.Goals as goal
 pub returns-clause-few : goal.returns-clause-few
 returns-clause-few c =
     let fewer = length-filter-le (λ k. list_any (λ o. bytes_eq o k) c.in-Some.scopes) c.scopes.result.now in
-    omega (arith, fewer, ap length c.in_ok-common.ensures, ap length c.scopes.ensures.value, c.scopes.ensures.limits.few_scopes)
+    omega (arith, fewer, ap length c.within.ensures, ap length c.scopes.ensures.value, c.scopes.ensures.limits.few_scopes)

@@ -2,6 +2,7 @@ use Rattle.std.proofs.Common.{◌≡◌, ◌<◌, [], None, Some, length, sym, a
 use Rattle.std.specs.Prelude.{slice_get, unwrap_or}
 use Rattle.std.specs.Option.{option_map}
 use Rattle.std.proofs.lemmas.Result.{IfOk-weaker}
+use Rattle.slp_messages.specs.Views.{header_in, registration_in}
 use Rattle.access_rules.specs.declared.rule.Action.TheVariants.{Register}
 use Rattle.registry_core.specs.declared.entry.Entry.{Entry}
 use Rattle.directory_judge.specs.Judging.{by_rule, by_step, denial_of, denies, judged_taken, ruling_in, IsJudged}
@@ -13,8 +14,8 @@ use Rattle.directory_judge.proofs.grounds.Grounds.judge_taken.Goals as goal
 pub returns-in-None : goal.returns-in-None
 returns-in-None g c =
     let on = c.args.self.now in
-    let h = c.args.header.now in
-    let r = c.args.registration.now in
+    let h = header_in c.args.header.now in
+    let r = registration_in c.args.registration.now in
     let t = c.args.taken in
     let e = c.in_ok-entry.entry in
     let none : length e.scopes ≡ 0 = no-scopes e.scopes (ruled-none on.rules on.asker Register e.kind e.scopes (sym c.rule.ensures ∙ ap (option_map ruling_in) c.in-None.is)).1 in
@@ -25,8 +26,8 @@ returns-in-None g c =
 pub returns-then-ruling : goal.returns-then-ruling
 returns-then-ruling g c =
     let on = c.args.self.now in
-    let h = c.args.header.now in
-    let r = c.args.registration.now in
+    let h = header_in c.args.header.now in
+    let r = registration_in c.args.registration.now in
     let t = c.args.taken in
     let e = c.in_ok-entry.entry in
     let b = c.in_ok-because-in-Some.because in
