@@ -1,10 +1,11 @@
 -- How registrations and withdrawals are judged: the first step whose fault is there, else they are accepted (RFC 2608, sections 7, 9.3 and 10.6).
 use Rattle.std.specs.Prelude.{◌≡◌, ℕ, ◌≤◌, Bool, true, false, not, ◌==◌, ◌&&◌, ◌||◌, List, [], ◌∷◌, map, filter, find, length, codes, slice_get, Option, Some, None, is_none, nat_le, unwrap_or, Result, Ok, Err, if◌then◌else◌, refl}
 use Rattle.std.specs.Coded.{Coded, code_by as coded_by, coded×, coded_ℕ}
-use Rattle.std.specs.Option.{option_or, option_map, option_map_or}
+use Rattle.std.specs.Option.{option_copied, option_or, option_map, option_map_or}
 use Rattle.std.specs.List.{list_any}
 use Rattle.std.specs.Ordering.{match_ordering}
 use Rattle.std.specs.Result.{result_ok}
+use Rattle.std.specs.Arc.{arc_value}
 use Rattle.std.specs.FinMap as fin
 use Rattle.slp_text.specs.Key.{key_of}
 use Rattle.slp_text.specs.Scopes.{scopes_of, common_of}
@@ -34,6 +35,11 @@ use Rattle.directory_judge.specs.declared.naming.Named.TheVariants as found
 use Rattle.directory_judge.specs.declared.because.Because.{Because}
 use Rattle.directory_judge.specs.declared.because.Decider.{Decider}
 use Rattle.directory_judge.specs.declared.because.Decider.TheVariants as decider
+use Rattle.directory_judge.specs.declared.because.Reason.{Reason}
+use Rattle.directory_judge.specs.declared.change.Change.TheVariants as change
+use Rattle.directory_judge.specs.declared.change.Placed.{Placed}
+use Rattle.directory_judge.specs.declared.judged.Decided.{Decided}
+use Rattle.directory_judge.specs.declared.judged.Decided.TheVariants as decided
 use Rattle.directory_judge.specs.declared.judged.Judged.{Judged}
 use Rattle.directory_judge.specs.declared.ruling.Ruling.{Ruling}
 use Rattle.directory_judge.specs.declared.judged.Judged.TheVariants as judged
@@ -121,6 +127,17 @@ because_in r = record { decider = decider_of r.verdict; kind = Some r.kind.now; 
 
 abbrev pub ruling_in : Ruling → Result Because Because
 ruling_in r = if r.verdict.allow then Ok (because_in r) else Err (because_in r)
+
+-- what is lent says
+abbrev pub because_of : Reason → Because
+because_of r = record { decider = r.decider; kind = option_copied r.kind; scope = option_copied r.scope }
+
+-- who decided on the type of an entry, in the first of its scopes
+abbrev pub founding_of : Decider → Entry → Because
+founding_of d e = record { decider = d; kind = Some e.kind; scope = slice_get e.scopes 0 }
+
+abbrev pub founding : Decider → Placed → Because
+founding d placed = founding_of d (arc_value placed.entry)
 
 -- ---- what is not judged yet
 
@@ -317,6 +334,11 @@ judgement g (message.DirectoryAdvert h a) = Waits
 judgement g (message.TypeRequest h q) = Waits
 judgement g (message.TypeReply h r) = Waits
 judgement g (message.ServiceAdvert h a) = Waits
+
+-- what was decided, with what it was decided on
+abbrev pub judged_in : Decided → Judged
+judged_in (decided.Founded placed d) = judged.Accept (change.Put placed) (founding d placed)
+judged_in (decided.Judged j) = j
 
 -- what was answered is the judgement, with a change that holds what the event asks for
 abbrev pub IsJudged : Entries → Judged → Judgement → Type 0

@@ -1,9 +1,10 @@
-ghost use Rattle.std.specs.Prelude.{◌≡◌};
-ghost use Rattle.directory_judge.specs.Judging.{code_by};
+ghost use Rattle.std.specs.Prelude.{◌≡◌, IfOk};
+ghost use Rattle.directory_judge.specs.Judging.{because_of, code_by};
 
 use service_url::ServiceType;
 use slp_messages::code;
-use slp_text::Key;
+use slp_text::{Key, NoMemory};
+use std::alloc::Global;
 
 /// Who decided on a message: a rule by its place, the default, or the step of judging that found a
 /// fault. `Nobody` stands where nothing had to be decided.
@@ -53,4 +54,46 @@ pub struct Because {
     pub decider: Decider,
     pub kind: Option<ServiceType>,
     pub scope: Option<Key>,
+}
+
+/// The same, lent.
+#[derive(Clone, Copy)]
+pub struct Reason<'a> {
+    pub decider: Decider,
+    pub kind: Option<&'a ServiceType>,
+    pub scope: Option<&'a Key>,
+}
+
+impl Because {
+    /// The same, lent.
+    pub fn reason(&self) -> Reason<'_>
+        ensures { because_of result ≡ self.now }
+    {
+        Reason {
+            decider: self.decider,
+            kind: self.kind.as_ref(),
+            scope: self.scope.as_ref(),
+        }
+    }
+}
+
+impl Reason<'_> {
+    /// The same with copies of what was decided on.
+    pub fn copy(&self, alloc: Global) -> Result<Because, NoMemory>
+        ensures { IfOk result (λ b. b ≡ because_of self.now) }
+    {
+        let kind = match self.kind {
+            Some(kind) => Some(kind.copy(alloc)?),
+            None => None,
+        };
+        let scope = match self.scope {
+            Some(scope) => Some(scope.copy(alloc)?),
+            None => None,
+        };
+        Ok(Because {
+            decider: self.decider,
+            kind,
+            scope,
+        })
+    }
 }

@@ -1,5 +1,10 @@
-use crate::because::Because;
-use crate::change::Change;
+ghost use Rattle.std.specs.Prelude.{◌≡◌, IfOk};
+ghost use Rattle.directory_judge.specs.Judging.{because_of, founding, judged_in};
+
+use crate::because::{Because, Decider, Reason};
+use crate::change::{Change, Placed};
+use slp_text::NoMemory;
+use std::alloc::Global;
 
 /// What comes of a message that may change something.
 #[derive(Drop)]
@@ -11,4 +16,38 @@ pub enum Judged {
     Unjudged,
     /// An error code (RFC 2608, section 7).
     Deny(u16, Because),
+}
+
+/// The same, with no copy of what the entry of an accepted registration has.
+#[derive(Drop)]
+pub enum Decided {
+    /// A registration is accepted: who decided, on the type of its entry in the first of its scopes.
+    Founded(Placed, Decider),
+    Judged(Judged),
+}
+
+/// Who decided on the type of an entry that is founded, in the first of its scopes.
+pub fn founding_reason(placed: &Placed, decider: Decider) -> Reason<'_>
+    ensures { because_of result ≡ founding decider placed.now }
+{
+    Reason {
+        decider,
+        kind: Some(&placed.entry.kind),
+        scope: placed.entry.scopes.at(0),
+    }
+}
+
+impl Decided {
+    /// The same with copies of what was decided on.
+    pub fn judged(self, alloc: Global) -> Result<Judged, NoMemory>
+        ensures { IfOk result (λ j. j ≡ judged_in self) }
+    {
+        match self {
+            Decided::Founded(placed, decider) => {
+                let because = founding_reason(&placed, decider).copy(alloc)?;
+                Ok(Judged::Accept(Change::Put(placed), because))
+            }
+            Decided::Judged(judged) => Ok(judged),
+        }
+    }
 }

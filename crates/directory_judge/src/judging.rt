@@ -6,13 +6,13 @@ ghost use Rattle.slp_messages.specs.Views.{header_in, message_in, registration_i
 ghost use Rattle.registry_core.specs.Entries.{outlives, passing, pair_of};
 ghost use Rattle.directory_judge.specs.History.{Putting, Put};
 ghost use Rattle.directory_judge.specs.Making.{entry_of};
-ghost use Rattle.directory_judge.specs.Judging.{Accepts, denied_old, denies, no_room, judged_taken, judgement_of, judgement, IsChange, IsJudged};
+ghost use Rattle.directory_judge.specs.Judging.{Accepts, denied_old, denies, no_room, founding_of, judged_in, judged_taken, judgement_of, judgement, IsChange, IsJudged};
 ghost use Rattle.directory_judge.specs.declared.naming.Taken.{Taken};
 
 use crate::because::{Because, Decider};
-use crate::change::{Change, Placed};
+use crate::change::Placed;
 use crate::grounds::Grounds;
-use crate::judged::Judged;
+use crate::judged::{Decided, Judged};
 use crate::naming::{Named, Taken, is_agent, name, read_kind};
 use crate::ruling::{deny, deny_by};
 use crate::site::Site;
@@ -43,20 +43,25 @@ impl<R: Registry> Grounds<'_, R> {
         }
     }
 
-    // Judges an entry that is allowed.
-    fn judge_entry(&self, alloc: Global, entry: Entry, because: Because) -> Result<Judged, NoMemory>
+    // Judges an entry that is allowed by who decided on it.
+    fn judge_entry(
+        &self,
+        alloc: Global,
+        entry: Entry,
+        decider: Decider,
+    ) -> Result<Decided, NoMemory>
         requires scoped { 0 < length entry.scopes }
         requires few_scopes { length entry.scopes ≤ 16 }
         ensures { IfOk result (λ j. (p : Putting) → entry_of self.now.now p ≡ entry →
             let t : Taken = record { url = entry.url; kind = entry.kind; scopes = entry.scopes } in
-            IsJudged self.now.live j (unwrap_or (option_or (denied_old self.now (fin.get self.now.live (pair_of entry))) (no_room self.now (pair_of entry) t)) (Accepts (record { moment = self.now.now; act = Put p }) because))) }
+            IsJudged self.now.live (judged_in j) (unwrap_or (option_or (denied_old self.now (fin.get self.now.live (pair_of entry))) (no_room self.now (pair_of entry) t)) (Accepts (record { moment = self.now.now; act = Put p }) (founding_of decider entry)))) }
     {
         if let Some(objection) = self.objection(alloc, &entry)? {
-            return Ok(deny(objection));
+            return Ok(Decided::Judged(deny(objection)));
         }
         let entry = Arc::new(alloc, entry)?;
         let moment = self.moment;
-        Ok(Judged::Accept(Change::Put(Placed { moment, entry }), because))
+        Ok(Decided::Founded(Placed { moment, entry }, decider))
     }
 
     // The entry that a registration founds.
@@ -90,22 +95,19 @@ impl<R: Registry> Grounds<'_, R> {
         header: &KeptHeader<'_>,
         registration: &RegistrationView<'_>,
         taken: Taken,
-    ) -> Result<Judged, NoMemory>
+    ) -> Result<Decided, NoMemory>
         requires named { taken.url ≡ registration.now.entry.url.now }
         requires few_scopes { length taken.scopes ≤ 16 }
-        ensures { IfOk result (λ j. IsJudged self.now.live j (judged_taken self.now (header_in header.now) (registration_in registration.now) taken)) }
+        ensures { IfOk result (λ j. IsJudged self.now.live (judged_in j) (judged_taken self.now (header_in header.now) (registration_in registration.now) taken)) }
     {
         let entry = self.founded(alloc, header, registration, taken)?;
         match self.rule(Action::Register, &entry.kind, &entry.scopes) {
-            None => Ok(deny_by(Decider::Scope, Some(entry.kind))),
-            Some(ruling) => {
-                let because = ruling.because(alloc)?;
-                if ruling.verdict.allow {
-                    self.judge_entry(alloc, entry, because)
-                } else {
-                    Ok(deny(because))
-                }
+            None => Ok(Decided::Judged(deny_by(Decider::Scope, Some(entry.kind)))),
+            Some(ruling) if ruling.verdict.allow => {
+                let decider = ruling.decider();
+                self.judge_entry(alloc, entry, decider)
             }
+            Some(ruling) => Ok(Decided::Judged(deny(ruling.because(alloc)?))),
         }
     }
 
@@ -115,8 +117,8 @@ impl<R: Registry> Grounds<'_, R> {
         alloc: Global,
         header: &KeptHeader<'_>,
         registration: &RegistrationView<'_>,
-    ) -> Result<Judged, NoMemory>
-        ensures { IfOk result (λ j. IsJudged self.now.live j (judgement_of self.now (header_in header.now) (registration_in registration.now))) }
+    ) -> Result<Decided, NoMemory>
+        ensures { IfOk result (λ j. IsJudged self.now.live (judged_in j) (judgement_of self.now (header_in header.now) (registration_in registration.now))) }
     {
         let kind = read_kind(alloc, registration.kind)?;
         if !header.flags.fresh
@@ -124,10 +126,10 @@ impl<R: Registry> Grounds<'_, R> {
             || !is_blank(registration.attributes)
             || is_agent(kind.as_ref())
         {
-            return Ok(Judged::Unjudged);
+            return Ok(Decided::Judged(Judged::Unjudged));
         }
         match name(alloc, self.site, header, registration, kind)? {
-            Named::Denied(decider) => Ok(deny_by(decider, None)),
+            Named::Denied(decider) => Ok(Decided::Judged(deny_by(decider, None))),
             Named::Taken(taken) => self.judge_taken(alloc, header, registration, taken),
         }
     }
@@ -136,15 +138,16 @@ impl<R: Registry> Grounds<'_, R> {
 impl<R: Registry> Grounds<'_, R> {
     /// Judges a message that asks for a change (RFC 2608, sections 8.3 and 9.3): the first step whose
     /// fault is there, else the change is accepted. Nothing is changed.
-    pub fn judge(&self, alloc: Global, change: &ChangeView<'_>) -> Result<Judged, NoMemory>
-        ensures { IfOk result (λ j. IsJudged self.now.live j (judgement self.now (message_in change.now))) }
+    pub fn judge(&self, alloc: Global, change: &ChangeView<'_>) -> Result<Decided, NoMemory>
+        ensures { IfOk result (λ j. IsJudged self.now.live (judged_in j) (judgement self.now (message_in change.now))) }
     {
         match change {
             ChangeView::Registration(header, registration) => {
                 self.judge_registration(alloc, header, registration)
             }
             ChangeView::Withdrawal(header, withdrawal) => {
-                self.judge_withdrawal(alloc, header, withdrawal)
+                let judged = self.judge_withdrawal(alloc, header, withdrawal)?;
+                Ok(Decided::Judged(judged))
             }
         }
     }
@@ -174,7 +177,9 @@ pub fn judge_on<R: Registry>(
     };
     match message {
         Message::Registration(header, registration) => {
-            grounds.judge_registration(alloc, &header.view(), &registration.view())
+            let (header, registration) = (header.view(), registration.view());
+            let decided = grounds.judge_registration(alloc, &header, &registration)?;
+            decided.judged(alloc)
         }
         Message::Withdrawal(header, withdrawal) => {
             grounds.judge_withdrawal(alloc, &header.view(), &withdrawal.view())

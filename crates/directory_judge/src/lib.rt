@@ -11,10 +11,10 @@ mod ruling;
 mod site;
 mod withdrawing;
 
-pub use because::{Because, Decider};
+pub use because::{Because, Decider, Reason};
 pub use change::{Change, Placed, Withdrawn};
 pub use grounds::Grounds;
-pub use judged::Judged;
+pub use judged::{Decided, Judged, founding_reason};
 pub use judging::judge_on;
 pub use naming::{is_agent, read_kind, read_scopes};
 pub use site::Site;

@@ -1,5 +1,5 @@
 ghost use Rattle.std.specs.Prelude.{◌≡◌, IfOk};
-ghost use Rattle.directory_judge.specs.Judging.{because_in, by_step, code_by};
+ghost use Rattle.directory_judge.specs.Judging.{because_in, by_step, code_by, decider_of};
 
 use crate::because::{Because, Decider};
 use crate::judged::Judged;
@@ -17,16 +17,22 @@ pub struct Ruling<'a> {
 }
 
 impl Ruling<'_> {
+    /// Who decided.
+    pub fn decider(&self) -> Decider
+        ensures { result ≡ decider_of self.now.verdict }
+    {
+        match self.verdict.rule {
+            Some(place) => Decider::Rule(place),
+            None => Decider::Default,
+        }
+    }
+
     /// Who decided, and on what.
     pub fn because(&self, alloc: Global) -> Result<Because, NoMemory>
         ensures { IfOk result (λ b. b ≡ because_in self.now) }
     {
-        let decider = match self.verdict.rule {
-            Some(place) => Decider::Rule(place),
-            None => Decider::Default,
-        };
         Ok(Because {
-            decider,
+            decider: self.decider(),
             kind: Some(self.kind.copy(alloc)?),
             scope: Some(self.scope.copy(alloc)?),
         })

@@ -4,7 +4,7 @@ ghost use Rattle.std.specs.Arc.{arc_value};
 ghost use Rattle.std.specs.FinMap as fin;
 ghost use Rattle.slp_messages.specs.Views.{message_in};
 ghost use Rattle.directory_judge.specs.History.{History, Event};
-ghost use Rattle.directory_judge.specs.Judging.{IsChange, Judgement, supports};
+ghost use Rattle.directory_judge.specs.Judging.{IsChange, Judgement, judged_in, supports};
 ghost use Rattle.directory_judge.specs.Making.{content};
 ghost use Rattle.directory_answers.specs.Calls.{Opening};
 ghost use Rattle.directory_answers.specs.Asking.{AreServices};
@@ -19,7 +19,7 @@ ghost use Rattle.directory_state.specs.Folding.{IsJudgedAs};
 use crate::finding::{Found, Kept, Room, Search};
 use access_rules::{Addr, Rules};
 use directory_answers::{QueryFault, ServiceQuery};
-use directory_judge::{Change, Grounds, Judged, Placed, Site, judge_on};
+use directory_judge::{Change, Decided, Grounds, Judged, Placed, Site};
 use registry_core::Registry;
 use slp_messages::{ChangeView, Message, UrlEntry};
 use slp_text::NoMemory;
@@ -115,27 +115,29 @@ impl<R: Registry> Directory<R> {
         ensures { (o : Opening) (h : History) → Fold o h self.now → IsLegal o h
             → IfOk result (λ j. (v : Judgement) × IsVerdict o h moment asker message.now v × IsJudgedAs h j v) }
     {
-        judge_on(
-            alloc,
-            &self.registry,
-            &self.rules,
-            &self.site,
-            self.now(moment),
-            asker,
-            message,
-        )
+        let change = match message {
+            Message::Registration(header, registration) => {
+                ChangeView::Registration(header.view(), registration.view())
+            }
+            Message::Withdrawal(header, withdrawal) => {
+                ChangeView::Withdrawal(header.view(), withdrawal.view())
+            }
+            _ => unreachable!(),
+        };
+        let decided = self.judge_change(alloc, moment, asker, &change)?;
+        decided.judged(alloc)
     }
 
-    /// The same of a message whose texts are lent.
+    /// The same of a message whose texts are lent, and with no copy of what a founded entry has.
     pub fn judge_change(
         &self,
         alloc: Global,
         moment: u32,
         asker: Addr,
         change: &ChangeView<'_>,
-    ) -> Result<Judged, NoMemory>
+    ) -> Result<Decided, NoMemory>
         ensures { (o : Opening) (h : History) → Fold o h self.now → IsLegal o h
-            → IfOk result (λ j. (v : Judgement) × IsVerdict o h moment asker (message_in change.now) v × IsJudgedAs h j v) }
+            → IfOk result (λ j. (v : Judgement) × IsVerdict o h moment asker (message_in change.now) v × IsJudgedAs h (judged_in j) v) }
     {
         let grounds = Grounds {
             registry: &self.registry,

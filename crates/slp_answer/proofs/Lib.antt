@@ -1,4 +1,3 @@
-pub mod Characters
 pub mod Lines
 pub mod RefusalLines
 pub mod Sizes

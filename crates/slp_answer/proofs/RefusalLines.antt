@@ -1,7 +1,9 @@
 -- The line of a message that found no memory.
-use Rattle.std.proofs.Common.{◌≡◌, ℕ, ◌≤◌, List, [], ◌∷◌, ◌++◌, length, codes, Option, Some, None, refl, sym, ap, ◌∙◌, append_assoc, arith}
-use Rattle.std.specs.Fmt.{decimal, digits}
+use Rattle.std.proofs.Common.{◌≡◌, ℕ, suc, ◌<◌, ◌≤◌, ◌+◌, ◌^◌, ◌/◌, ◌%◌, List, [], ◌∷◌, ◌++◌, length, codes, Option, Some, None, ap, ◌∙◌, arith}
+use Rattle.std.specs.Fmt.{decimal}
 use Rattle.std.specs.Option.{option_map_or}
+use Rattle.std.proofs.lemmas.Fmt.{length-decimal-le}
+use Rattle.std.proofs.lemmas.List.{length-append}
 use Rattle.slp_headers.specs.Headers.{Heading, reply_function_of}
 use Rattle.access_rules.specs.declared.rule.Action.{Action}
 use Rattle.access_rules.specs.declared.rule.Action.TheVariants.{Register, Withdraw, See}
@@ -10,33 +12,47 @@ use Rattle.access_rules.specs.Addresses.{address_text}
 use Rattle.slp_answer.specs.Auditing.{action_text, audit_text, line_text}
 use Rattle.directory_judge.specs.Judging.{by_step}
 use Rattle.directory_answers.specs.Outcomes.{coded_as, refused, silence}
+use Rattle.slp_answer.specs.declared.audit.Audit.{Audit}
 use Rattle.slp_answer.specs.Telling.{action_of, line_by, line_of}
+use Rattle.slp_answer.proofs.Lines.{line_length}
 
-pub action_is_short : (a : Action) → length (action_text a) ≤ 8
+-- what it tells
+abbrev pub lacking : Action → ℕ → Audit
+lacking a asker = record { code = 10; because = by_step Memory None; action = a; asker = asker }
+
+action_is_short : (a : Action) → length (action_text a) ≤ 8
 action_is_short Register = omega arith
 action_is_short Withdraw = omega arith
 action_is_short See = omega arith
 
--- what is written, in the parts in which it is written
-abbrev pub told : Action → ℕ → List ℕ
-told a asker = codes "# deny code=10 by=memory action=" ++ action_text a ++ (codes " asker=" ++ address_text asker) ++ (codes " type=- scope=-" ++ 10 ∷ [])
+octet_is_short : (n : ℕ) → n < 256 → length (decimal n) ≤ 3
+octet_is_short n small = length-decimal-le 3 n (omega arith) (omega (arith, small)) (omega (arith, small))
 
-parts_are_one : (v d b m w a k r t n s o e : List ℕ)
-    → (v ++ d ++ b ++ m ++ w) ++ a ++ (k ++ r) ++ (t ++ n ++ s ++ o ++ e) ≡ v ++ d ++ b ++ m ++ w ++ a ++ k ++ r ++ t ++ n ++ (s ++ o ++ e)
-parts_are_one v d b m w a k r t n s o e = simp append_assoc refl
+address_is_short : (asker : ℕ) → asker < 2 ^ 32 → length (address_text asker) ≤ 15
+address_is_short asker small =
+    let a = octet_is_short (asker / 16777216) (omega (arith, small)) in
+    let b = octet_is_short (asker / 65536 % 256) (omega arith) in
+    let c = octet_is_short (asker / 256 % 256) (omega arith) in
+    let d = octet_is_short (asker % 256) (omega arith) in
+    let two = decimal (asker / 16777216) ++ 46 ∷ decimal (asker / 65536 % 256) in
+    let three = two ++ 46 ∷ decimal (asker / 256 % 256) in
+    let whole : length (address_text asker) ≡ length three + suc (length (decimal (asker % 256))) = length-append three (46 ∷ decimal (asker % 256)) in
+    let of_three : length three ≡ length two + suc (length (decimal (asker / 256 % 256))) = length-append two (46 ∷ decimal (asker / 256 % 256)) in
+    let of_two : length two ≡ length (decimal (asker / 16777216)) + suc (length (decimal (asker / 65536 % 256))) = length-append (decimal (asker / 16777216)) (46 ∷ decimal (asker / 65536 % 256)) in
+    omega (arith, a, b, c, d, whole, of_three, of_two)
 
-ten : decimal 10 ≡ 49 ∷ 48 ∷ []
-unfolding digits
-ten = refl
-
-line_is_told : (a : Action) (asker : ℕ) → told a asker ≡ audit_text [] (record { code = 10; because = record { decider = Memory; kind = None; scope = None }; action = a; asker = asker })
-unfolding audit_text line_text
-line_is_told a asker =
-    ap (λ (d : List ℕ). (codes "# deny code=" ++ d ++ codes " by=" ++ codes "memory" ++ codes " action=") ++ action_text a ++ (codes " asker=" ++ address_text asker) ++ (codes " type=- scope=-" ++ 10 ∷ [])) (sym ten)
-    ∙ parts_are_one (codes "# deny code=") (decimal 10) (codes " by=") (codes "memory") (codes " action=") (action_text a) (codes " asker=") (address_text asker) (codes " type=") (codes "-") (codes " scope=") (codes "-") (10 ∷ [])
+pub line_is_short : (a : Action) (asker : ℕ) → asker < 2 ^ 32 → length (line_text [] (lacking a asker)) < 128
+line_is_short a asker small =
+    let parts = line_length [] (lacking a asker) in
+    let beginning = length-append (decimal 10) (codes " by=") in
+    let word = length-append (action_text a) (codes " asker=") in
+    let ten = length-decimal-le 2 10 (omega arith) (omega arith) (omega arith) in
+    let short_word = action_is_short a in
+    let short_address = address_is_short asker small in
+    omega (arith, parts, beginning, word, ten, short_word, short_address)
 
 pub line_is_refused : (asker : ℕ) (h : Heading) (f : ℕ) (a : Action) (line : List ℕ) → Some f ≡ reply_function_of h.function
-    → a ≡ action_of h.function → line ≡ told a asker → line ≡ line_of [] asker (Some h) (refused (Some h))
+    → a ≡ action_of h.function → line ≡ audit_text [] (lacking a asker) → line ≡ line_of [] asker (Some h) (refused (Some h))
 line_is_refused asker h f a line known action written =
-    written ∙ ap (λ (x : Action). told x asker) action ∙ line_is_told (action_of h.function) asker
+    written ∙ ap (λ (x : Action). audit_text [] (lacking x asker)) action
     ∙ ap (λ (o : Option ℕ). line_by [] asker h (option_map_or (coded_as h 10 (by_step Memory None)) o silence)) known

@@ -198,6 +198,16 @@ module _ (o : Opening) (h : History) (m asker : ℕ) (head : Heading) (x : Messa
         (stands.0, ap change_in stands.1, stands.2, subst (λ (u : Judgement). IsLegal o (followed (change_in u) h)) stands.1 (legal_next o h m asker x verdict.0 legal sound verdict.1)),
       )
 
+  pub denied-told : (j : Judged) (code : ℕ) (because : Because)
+      → (v : Judgement) × IsVerdict o h m asker x v × IsJudgedAs h j v → j ≡ judged.Deny code because → Tells rs asker (Some head) (coded head code because) what reply line → IsTold None
+  denied-told j code because verdict denied tells =
+      let is = subst (λ (k : Judged). IsJudgedAs h k verdict.0) denied verdict.2 in (
+        verdict.0,
+        verdict.1,
+        subst (λ (u : Judgement). Tells rs asker (Some head) (acknowledged head u) what reply line) (sym is) tells,
+        ap change_in is,
+      )
+
   pub told-acknowledges : (bytes : List ℕ) (change : Option Change) → rs ≡ rules o.rules h → heading_of bytes ≡ Some head → reading bytes ≡ Ok x → IsChange x → IsTold change
       → Acknowledges o h m asker bytes what change reply line
   told-acknowledges bytes change ruled is read asks told = record {

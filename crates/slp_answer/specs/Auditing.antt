@@ -8,10 +8,12 @@ use Rattle.access_rules.specs.declared.rule.Action.{Action}
 use Rattle.access_rules.specs.declared.rule.Action.TheVariants.{Register, Withdraw, See}
 use Rattle.access_rules.specs.Addresses.{address_text}
 use Rattle.access_rules.specs.Deciding.{SiteRules}
+use Rattle.directory_judge.specs.Judging.{because_of}
 use Rattle.directory_judge.specs.declared.because.Decider.{Decider}
 use Rattle.directory_judge.specs.declared.because.Decider.TheVariants.{Rule, Default, Nobody, Memory, Version, Parse, Auth, Language, Registration, Attributes, Update, Template, Full}
 use Rattle.directory_judge.specs.declared.because.Decider.TheVariants as decider
 use Rattle.slp_answer.specs.declared.audit.Audit.{Audit}
+use Rattle.slp_answer.specs.declared.audit.AuditView.{AuditView}
 
 -- the name of the rule at a place
 abbrev pub name_at : SiteRules → ℕ → List ℕ
@@ -70,6 +72,10 @@ line_text name a =
     ++ codes " asker=" ++ address_text a.asker
     ++ codes " type=" ++ text_or_dash a.because.kind
     ++ ending_text a.because.scope
+
+-- what is lent says
+abbrev pub audit_of : AuditView → Audit
+audit_of v = record { code = v.code; because = because_of v.reason; action = v.action; asker = v.asker }
 
 -- the whole line
 unfoldable pub audit_text : SiteRules → Audit → List ℕ

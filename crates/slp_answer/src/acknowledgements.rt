@@ -15,7 +15,7 @@ use crate::answer::{Answer, Sent};
 use crate::coded::{Finding, Headed, answer_code, answer_fault};
 use access_rules::Addr;
 use directory_answers::{Call, asked_change};
-use directory_judge::{Change, Decider, Judged};
+use directory_judge::{Change, Decided, Decider, Judged, founding_reason};
 use directory_state::Directory;
 use registry_core::Registry;
 use slp_text::NoMemory;
@@ -40,11 +40,28 @@ fn acknowledge_change<R: Registry>(
 {
     let Headed { call, header } = *headed;
     let (rules, asker) = (directory.rules(), call.asker);
-    let judged = directory.judge_change(alloc, call.moment, asker, change)?;
-    match judged {
-        Judged::Accept(change, because) => {
-            let code = code::OK;
-            match answer_code(rules, asker, header, Finding { code, because }, answer) {
+    match directory.judge_change(alloc, call.moment, asker, change)? {
+        Decided::Founded(placed, decider) => {
+            let reason = founding_reason(&placed, decider);
+            let finding = Finding {
+                code: code::OK,
+                reason,
+            };
+            match answer_code(rules, asker, header, finding, answer) {
+                Ok(sent) => Ok((sent, Some(Change::Put(placed)))),
+                Err(fault) => {
+                    drop(placed);
+                    Err(fault)
+                }
+            }
+        }
+        Decided::Judged(Judged::Accept(change, because)) => {
+            let reason = because.reason();
+            let finding = Finding {
+                code: code::OK,
+                reason,
+            };
+            match answer_code(rules, asker, header, finding, answer) {
                 Ok(sent) => Ok((sent, Some(change))),
                 Err(fault) => {
                     drop(change);
@@ -52,14 +69,15 @@ fn acknowledge_change<R: Registry>(
                 }
             }
         }
-        Judged::Nothing => {
+        Decided::Judged(Judged::Nothing) => {
             let finding = Finding::by(Decider::Nobody, None);
             let sent = answer_code(rules, asker, header, finding, answer)?;
             Ok((sent, None))
         }
-        Judged::Unjudged => Ok((Sent::Silence, None)),
-        Judged::Deny(code, because) => {
-            let sent = answer_code(rules, asker, header, Finding { code, because }, answer)?;
+        Decided::Judged(Judged::Unjudged) => Ok((Sent::Silence, None)),
+        Decided::Judged(Judged::Deny(code, because)) => {
+            let reason = because.reason();
+            let sent = answer_code(rules, asker, header, Finding { code, reason }, answer)?;
             Ok((sent, None))
         }
     }

@@ -1,13 +1,17 @@
-ghost use Rattle.std.specs.Prelude.{◌≡◌, [], ◌++◌, Some, OnOk, OnErr, chars, codes, encode_utf8_all};
-ghost use Rattle.std.specs.Fmt.{WritesOnOk};
-ghost use Rattle.slp_answer.specs.Auditing.{action_text, decider_text, rule_named, text_or_dash, beginning_text, ending_text, line_text, audit_text};
+ghost use Rattle.std.specs.Prelude.{◌≡◌, ◌≤◌, ◌+◌, [], ◌++◌, ◌∷◌, OnOk, OnErr, chars, codes, length, encode_utf8, encode_utf8_all};
+ghost use Rattle.std.specs.Fmt.{decimal};
+ghost use Rattle.std.specs.Option.{option_copied};
+ghost use Rattle.access_rules.specs.Addresses.{address_text};
+ghost use Rattle.slp_answer.specs.Auditing.{action_text, audit_of, decider_text, rule_named, text_or_dash, beginning_text, ending_text, line_text, audit_text};
 ghost use Rattle.slp_text.specs.Escapes.{written_at, escaped};
 ghost use Rattle.slp_text.specs.declared.escapes.Place.TheVariants.{Scope};
 
+use crate::sink::Sink;
 use access_rules::{Action, Addr, Rules};
-use directory_judge::{Because, Decider};
-use slp_text::{Key, NoMemory, Place, is_plain, is_reserved};
-use std::{fmt, mem};
+use directory_judge::{Because, Decider, Reason};
+use itoa::Buffer;
+use service_url::ServiceType;
+use slp_text::{Key, NoMemory, Place, capital_digit, is_plain, is_reserved};
 
 /// What came of a message: its code, who decided and on what, what was asked for, and by whom.
 #[derive(Drop)]
@@ -18,15 +22,13 @@ pub struct Audit {
     pub asker: Addr,
 }
 
-/// The word for an action.
-pub(crate) fn action_word(action: Action) -> &'static str
-    ensures { result.now ≡ action_text action }
-{
-    match action {
-        Action::Register => "register",
-        Action::Withdraw => "withdraw",
-        Action::See => "see",
-    }
+/// The same, lent.
+#[derive(Clone, Copy)]
+pub(crate) struct AuditView<'a> {
+    pub code: u16,
+    pub reason: Reason<'a>,
+    pub action: Action,
+    pub asker: Addr,
 }
 
 // What stands between who decided and the asker.
@@ -41,10 +43,10 @@ fn action_part(action: Action) -> &'static str
 }
 
 // The type that was asked for, or a dash.
-fn kind_text(because: &Because) -> &str
-    ensures { result.now ≡ text_or_dash because.now.kind }
+fn kind_text<'a>(kind: Option<&'a ServiceType>) -> &'a str
+    ensures { result.now ≡ text_or_dash (option_copied kind.entry) }
 {
-    match &because.kind {
+    match kind {
         Some(kind) => kind.text(),
         None => "-",
     }
@@ -66,160 +68,181 @@ fn rule_name(rules: &Rules, decider: Decider) -> &str
     }
 }
 
-// How a line begins: the code, and whether it allows.
-#[derive(Clone, Copy)]
-struct Beginning(u16);
+// ---- each function below appends a part of a line
 
-impl fmt::Display for Beginning {
-    ghost output = { λ b. Some (beginning_text b.0) };
+fn put_number<S: Sink>(sink: &mut S, number: u16) -> Result<(), NoMemory>
+    ensures ok { OnOk result (S.written sink.new ≡ S.written sink.old ++ decimal number) }
+    ensures room { OnOk result (S.room sink.old ≤ S.room sink.new + length (decimal number)) }
+    ensures err { OnErr result (S.room sink.old ≤ length (decimal number)) }
+{
+    let mut digits = Buffer::new();
+    sink.put(digits.format(number))
+}
 
-    fn fmt<W: fmt::Write>(&self, f: &mut fmt::Formatter<W>) -> fmt::Result {
-        let code = self.0;
-        if code == 0 {
-            f.write_str("# allow code=0 by=")
-        } else {
-            write!(f, "# deny code={code} by=")
-        }
+fn put_dotted<S: Sink>(sink: &mut S, number: u16) -> Result<(), NoMemory>
+    ensures ok { OnOk result (S.written sink.new ≡ S.written sink.old ++ (decimal number ++ 46 ∷ [])) }
+    ensures room { OnOk result (S.room sink.old ≤ S.room sink.new + length (decimal number ++ 46 ∷ [])) }
+    ensures err { OnErr result (S.room sink.old ≤ length (decimal number ++ 46 ∷ [])) }
+{
+    put_number(sink, number)?;
+    sink.put(".")
+}
+
+fn put_address<S: Sink>(sink: &mut S, address: Addr) -> Result<(), NoMemory>
+    ensures ok { OnOk result (S.written sink.new ≡ S.written sink.old ++ address_text address) }
+    ensures room { OnOk result (S.room sink.old ≤ S.room sink.new + length (address_text address)) }
+    ensures err { OnErr result (S.room sink.old ≤ length (address_text address)) }
+{
+    let number = address.0;
+    put_dotted(sink, (number / 16_777_216) as u16)?;
+    put_dotted(sink, (number / 65_536 % 256) as u16)?;
+    put_dotted(sink, (number / 256 % 256) as u16)?;
+    put_number(sink, (number % 256) as u16)
+}
+
+// The code, and whether it allows.
+fn put_beginning<S: Sink>(sink: &mut S, code: u16) -> Result<(), NoMemory>
+    ensures ok { OnOk result (S.written sink.new ≡ S.written sink.old ++ beginning_text code) }
+    ensures room { OnOk result (S.room sink.old ≤ S.room sink.new + length (beginning_text code)) }
+    ensures err { OnErr result (S.room sink.old ≤ length (beginning_text code)) }
+{
+    if code == 0 {
+        return sink.put("# allow code=0 by=");
     }
+    sink.put("# deny code=")?;
+    put_number(sink, code)?;
+    sink.put(" by=")
 }
 
 // Who decided, with the name of the rule.
-#[derive(Clone, Copy)]
-struct By<'a> {
-    rule: &'a str,
-    decider: Decider,
+fn put_decider<S: Sink>(sink: &mut S, rule: &str, decider: Decider) -> Result<(), NoMemory>
+    ensures ok { OnOk result (S.written sink.new ≡ S.written sink.old ++ decider_text rule.now decider) }
+    ensures room { OnOk result (S.room sink.old ≤ S.room sink.new + length (decider_text rule.now decider)) }
+    ensures err { OnErr result (S.room sink.old ≤ length (decider_text rule.now decider)) }
+{
+    match decider {
+        Decider::Rule(_) => {
+            sink.put("rule:")?;
+            sink.put(rule)
+        }
+        Decider::Default => sink.put("default"),
+        Decider::Nobody => sink.put("none"),
+        Decider::Memory => sink.put("memory"),
+        Decider::Version => sink.put("version"),
+        Decider::Parse => sink.put("parse"),
+        Decider::Auth => sink.put("auth"),
+        Decider::Option => sink.put("option"),
+        Decider::Scope => sink.put("scope"),
+        Decider::Language => sink.put("language"),
+        Decider::Registration => sink.put("registration"),
+        Decider::Attributes => sink.put("attributes"),
+        Decider::Update => sink.put("update"),
+        Decider::Template => sink.put("template"),
+        Decider::Full => sink.put("full"),
+    }
 }
 
-impl fmt::Display for By<'_> {
-    ghost output = { λ b. Some (decider_text b.rule.now b.decider) };
-
-    fn fmt<W: fmt::Write>(&self, f: &mut fmt::Formatter<W>) -> fmt::Result {
-        let rule = self.rule;
-        match self.decider {
-            Decider::Rule(_) => write!(f, "rule:{rule}"),
-            Decider::Default => f.write_str("default"),
-            Decider::Nobody => f.write_str("none"),
-            Decider::Memory => f.write_str("memory"),
-            Decider::Version => f.write_str("version"),
-            Decider::Parse => f.write_str("parse"),
-            Decider::Auth => f.write_str("auth"),
-            Decider::Option => f.write_str("option"),
-            Decider::Scope => f.write_str("scope"),
-            Decider::Language => f.write_str("language"),
-            Decider::Registration => f.write_str("registration"),
-            Decider::Attributes => f.write_str("attributes"),
-            Decider::Update => f.write_str("update"),
-            Decider::Template => f.write_str("template"),
-            Decider::Full => f.write_str("full"),
-        }
-    }
+fn put_character<S: Sink>(sink: &mut S, c: char) -> Result<(), NoMemory>
+    ensures ok { OnOk result (S.written sink.new ≡ S.written sink.old ++ encode_utf8 c) }
+    ensures room { OnOk result (S.room sink.old ≤ S.room sink.new + length (encode_utf8 c)) }
+    ensures err { OnErr result (S.room sink.old ≤ length (encode_utf8 c)) }
+{
+    let mut buffer = [0; 4];
+    sink.put(c.encode_utf8(&mut buffer))
 }
 
 // A character of a scope, as it is written in lists of scopes.
-#[derive(Clone, Copy)]
-struct Written(char);
-
-impl fmt::Display for Written {
-    ghost output = { λ w. Some (encode_utf8_all (written_at Scope w.0)) };
-
-    fn fmt<W: fmt::Write>(&self, f: &mut fmt::Formatter<W>) -> fmt::Result {
-        if is_reserved(Place::Scope, self.0) {
-            let number = self.0 as u8;
-            write!(f, "\\{number:02X}")
-        } else {
-            f.write_char(self.0)
-        }
+fn put_written<S: Sink>(sink: &mut S, c: char) -> Result<(), NoMemory>
+    ensures ok { OnOk result (S.written sink.new ≡ S.written sink.old ++ encode_utf8_all (written_at Scope c)) }
+    ensures room { OnOk result (S.room sink.old ≤ S.room sink.new + length (encode_utf8_all (written_at Scope c))) }
+    ensures err { OnErr result (S.room sink.old ≤ length (encode_utf8_all (written_at Scope c))) }
+{
+    if !is_reserved(Place::Scope, c) {
+        return put_character(sink, c);
     }
+    let number = c as u32;
+    put_character(sink, '\\')?;
+    put_character(sink, capital_digit((number / 16) as u8))?;
+    put_character(sink, capital_digit((number % 16) as u8))
 }
 
-// Writes a scope with its escapes.
-fn write_escaped<W: fmt::Write>(scope: &str, f: &mut fmt::Formatter<W>) -> fmt::Result
-    ensures { WritesOnOk W.write_str_gives f.old result (encode_utf8_all (escaped Scope (chars scope.now))) f.new }
+// A scope with its escapes.
+fn put_escaped<S: Sink>(sink: &mut S, scope: &str) -> Result<(), NoMemory>
+    ensures ok { OnOk result (S.written sink.new ≡ S.written sink.old ++ encode_utf8_all (escaped Scope (chars scope.now))) }
+    ensures room { OnOk result (S.room sink.old ≤ S.room sink.new + length (encode_utf8_all (escaped Scope (chars scope.now)))) }
+    ensures err { OnErr result (S.room sink.old ≤ length (encode_utf8_all (escaped Scope (chars scope.now)))) }
 {
     for c in scope.chars() {
-        let written = Written(c);
-        write!(f, "{written}")?;
+        put_written(sink, c)?;
     }
     Ok(())
 }
 
-// Writes a scope, in one piece where it has no escapes.
-fn write_scope<W: fmt::Write>(scope: &str, f: &mut fmt::Formatter<W>) -> fmt::Result
-    ensures { WritesOnOk W.write_str_gives f.old result (encode_utf8_all (escaped Scope (chars scope.now))) f.new }
+// The same, in one piece where it is plain.
+fn put_scope<S: Sink>(sink: &mut S, scope: &str) -> Result<(), NoMemory>
+    ensures ok { OnOk result (S.written sink.new ≡ S.written sink.old ++ encode_utf8_all (escaped Scope (chars scope.now))) }
+    ensures room { OnOk result (S.room sink.old ≤ S.room sink.new + length (encode_utf8_all (escaped Scope (chars scope.now)))) }
+    ensures err { OnErr result (S.room sink.old ≤ length (encode_utf8_all (escaped Scope (chars scope.now)))) }
 {
     if is_plain(scope.as_bytes()) {
-        return f.write_str(scope);
+        return sink.put(scope);
     }
-    write_escaped(scope, f)
+    put_escaped(sink, scope)
 }
 
-// How a line ends: a scope with its escapes, or a dash.
-#[derive(Clone, Copy)]
-struct Ending<'a>(&'a Option<Key>);
-
-impl fmt::Display for Ending<'_> {
-    ghost output = { λ e. Some (ending_text e.0.now) };
-
-    fn fmt<W: fmt::Write>(&self, f: &mut fmt::Formatter<W>) -> fmt::Result {
-        match self.0 {
-            Some(scope) => {
-                f.write_str(" scope=")?;
-                write_scope(scope.as_str(), f)?;
-                f.write_str("\n")
-            }
-            None => f.write_str(" scope=-\n"),
-        }
-    }
+// A scope with its escapes, or a dash, and the end of the line.
+fn put_ending<S: Sink>(sink: &mut S, scope: Option<&Key>) -> Result<(), NoMemory>
+    ensures ok { OnOk result (S.written sink.new ≡ S.written sink.old ++ ending_text (option_copied scope.entry)) }
+    ensures room { OnOk result (S.room sink.old ≤ S.room sink.new + length (ending_text (option_copied scope.entry))) }
+    ensures err { OnErr result (S.room sink.old ≤ length (ending_text (option_copied scope.entry))) }
+{
+    let Some(scope) = scope else {
+        return sink.put(" scope=-\n");
+    };
+    sink.put(" scope=")?;
+    put_scope(sink, scope.as_str())?;
+    sink.put("\n")
 }
 
-// The line of an audit, with the name of the rule that decided.
-#[derive(Clone, Copy)]
-struct Line<'a> {
-    rule: &'a str,
-    audit: &'a Audit,
-}
-
-impl fmt::Display for Line<'_> {
-    ghost output = { λ l. Some (line_text l.rule.now l.audit.now) };
-
-    fn fmt<W: fmt::Write>(&self, f: &mut fmt::Formatter<W>) -> fmt::Result {
-        let Audit {
-            code,
-            because,
-            action,
-            asker,
-        } = self.audit;
-        let (beginning, action) = (Beginning(*code), action_part(*action));
-        let by = By {
-            rule: self.rule,
-            decider: because.decider,
-        };
-        let (kind, ending) = (kind_text(because), Ending(&because.scope));
-        write!(f, "{beginning}{by}{action}")?;
-        write!(f, "{asker} type={kind}{ending}")
-    }
+/// Appends the line that tells what came of a message, with the name of the rule that decided.
+pub(crate) fn write_line<S: Sink>(
+    sink: &mut S,
+    rule: &str,
+    audit: &AuditView<'_>,
+) -> Result<(), NoMemory>
+    ensures ok { OnOk result (S.written sink.new ≡ S.written sink.old ++ line_text rule.now (audit_of audit.now)) }
+    ensures err { OnErr result (S.room sink.old ≤ length (line_text rule.now (audit_of audit.now))) }
+{
+    let Reason {
+        decider,
+        kind,
+        scope,
+    } = audit.reason;
+    put_beginning(sink, audit.code)?;
+    put_decider(sink, rule, decider)?;
+    sink.put(action_part(audit.action))?;
+    put_address(sink, audit.asker)?;
+    sink.put(" type=")?;
+    sink.put(kind_text(kind))?;
+    put_ending(sink, scope)
 }
 
 /// Writes the line that tells what came of a message. A refusal leaves nothing.
-pub(crate) fn put_line(rules: &Rules, audit: &Audit, line: &mut Vec<u8>) -> Result<(), NoMemory>
+pub(crate) fn put_line(
+    rules: &Rules,
+    audit: &AuditView<'_>,
+    line: &mut Vec<u8>,
+) -> Result<(), NoMemory>
     requires { line.old.items ≡ [] }
-    ensures ok { OnOk result (line.new.items ≡ audit_text rules.now audit.now) }
+    ensures ok { OnOk result (line.new.items ≡ audit_text rules.now (audit_of audit.now)) }
     ensures err { OnErr result (line.new.items ≡ []) }
 {
-    let rule = rule_name(rules, audit.because.decider);
-    let none = Vec::new(*line.allocator());
-    let mut text = match String::from_utf8(mem::replace(line, none)) {
-        Ok(text) => text,
-        Err(_) => unreachable!(),
-    };
-    let told = Line { rule, audit };
-    let done = write!(text, "{told}");
-    *line = text.into_bytes();
-    match done {
+    let rule = rule_name(rules, audit.reason.decider);
+    match write_line(line, rule, audit) {
         Ok(()) => Ok(()),
-        Err(_) => {
+        Err(fault) => {
             line.clear();
-            Err(NoMemory)
+            Err(fault)
         }
     }
 }
@@ -229,8 +252,14 @@ pub fn audit_line(rules: &Rules, audit: &Audit, line: &mut Vec<u8>) -> Result<()
     ensures ok { OnOk result (line.new.items ≡ line.old.items ++ audit_text rules.now audit.now) }
     ensures err { OnErr result (line.new.items ≡ line.old.items) }
 {
+    let view = AuditView {
+        code: audit.code,
+        reason: audit.because.reason(),
+        action: audit.action,
+        asker: audit.asker,
+    };
     let mut whole = Vec::new(*line.allocator());
-    put_line(rules, audit, &mut whole)?;
+    put_line(rules, &view, &mut whole)?;
     line.extend_from_slice(&whole)?;
     Ok(())
 }

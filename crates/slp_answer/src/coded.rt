@@ -1,35 +1,37 @@
 ghost use Rattle.std.specs.Prelude.{◌≡◌, ◌==◌, ◌&&◌, ◌||◌, [], false, not, IfOk, Some, if◌then◌else◌};
 ghost use Rattle.slp_headers.specs.Headers.{heading, refusal_bytes};
-ghost use Rattle.directory_judge.specs.Judging.{by_step, code_by};
+ghost use Rattle.std.specs.Option.{option_copied};
+ghost use Rattle.directory_judge.specs.Judging.{because_of, by_step, code_by};
 ghost use Rattle.directory_answers.specs.Outcomes.{is_to_many, sent_of, coded, faulted};
 ghost use Rattle.slp_answer.specs.Telling.{Tells};
 ghost use Rattle.slp_answer.specs.declared.answer.Sent.TheVariants.{Silence as Nothing, Bytes as Code};
 
 use crate::answer::{Answer, Sent};
-use crate::audit::{Audit, put_line};
+use crate::audit::{AuditView, put_line};
 use crate::refusals::action_in;
 use access_rules::{Addr, Rules};
 use directory_answers::{Call, decider_of};
-use directory_judge::{Because, Decider};
+use directory_judge::{Decider, Reason};
 use service_url::ServiceType;
 use slp_text::NoMemory;
 use slp_wire::{HeaderView, WireFault, code, error_reply, flag, function, reply_function};
 
-/// A code, and who decided on what.
-#[derive(Drop)]
-pub struct Finding {
+/// A code, and who decided on what, lent.
+#[derive(Clone, Copy)]
+pub struct Finding<'a> {
     pub code: u16,
-    pub because: Because,
+    pub reason: Reason<'a>,
 }
 
-impl Finding {
+impl<'a> Finding<'a> {
     /// A denial by a step, of which a type may be known.
-    pub fn by(decider: Decider, kind: Option<ServiceType>) -> Finding
-        ensures { result ≡ record { code = code_by decider; because = by_step decider kind } }
+    pub fn by(decider: Decider, kind: Option<&'a ServiceType>) -> Finding<'a>
+        ensures code { result.code ≡ code_by decider }
+        ensures reason { because_of result.reason ≡ by_step decider (option_copied kind.entry) }
     {
         Finding {
             code: decider.code(),
-            because: Because {
+            reason: Reason {
                 decider,
                 kind,
                 scope: None,
@@ -84,21 +86,21 @@ pub fn answer_code(
     rules: &Rules,
     asker: Addr,
     header: &HeaderView<'_>,
-    finding: Finding,
+    finding: Finding<'_>,
     answer: &mut Answer,
 ) -> Result<Sent, NoMemory>
     requires no_reply { answer.old.bytes.items ≡ [] }
     requires no_line { answer.old.audit.items ≡ [] }
-    ensures { IfOk result (λ what. Tells rules.now asker (Some (heading header.now)) (coded (heading header.now) finding.code finding.because) what answer.new.bytes.items answer.new.audit.items) }
+    ensures { IfOk result (λ what. Tells rules.now asker (Some (heading header.now)) (coded (heading header.now) finding.entry.code (because_of finding.entry.reason)) what answer.new.bytes.items answer.new.audit.items) }
 {
-    let Finding { code, because } = finding;
+    let Finding { code, reason } = finding;
     let Some(function) = reply_function(header.function) else {
         return Ok(Sent::Silence);
     };
     let sent = put_code(header, function, code, answer)?;
-    let audit = Audit {
+    let audit = AuditView {
         code,
-        because,
+        reason,
         action: action_in(header.function),
         asker,
     };

@@ -8,6 +8,7 @@ mod coded;
 mod listing;
 mod refusals;
 mod replies;
+mod sink;
 mod steps;
 
 pub use acknowledgements::acknowledge;

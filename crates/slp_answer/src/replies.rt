@@ -16,7 +16,7 @@ ghost use Rattle.slp_answer.specs.Telling.{Tells, Replies};
 ghost use Rattle.slp_answer.specs.declared.answer.Sent.TheVariants.{Silence as Nothing, Bytes as Code};
 
 use crate::answer::{Answer, Sent};
-use crate::audit::{Audit, put_line};
+use crate::audit::{AuditView, put_line};
 use crate::coded::{Finding, Headed, answer_code, answer_fault, is_unsent};
 use crate::listing::{put_found, room_in};
 use crate::refusals::action_in;
@@ -56,7 +56,7 @@ fn write_found(
 fn send_found(
     rules: &Rules,
     headed: &Headed<'_>,
-    kind: ServiceType,
+    kind: &ServiceType,
     found: &Found<'_>,
     answer: &mut Answer,
 ) -> Result<Sent, NoMemory>
@@ -66,14 +66,14 @@ fn send_found(
     ensures { let head = heading headed.now.header.now in
         let whole = plain (listed_with head found.now.is_cut (items_in found.now)) in
         let is_empty = length (items_in found.now) == 0 && not found.now.is_cut in
-        IfOk result (λ what. Tells rules.now headed.now.call.now.asker (Some head) (outcome (sent_of head 0 is_empty whole) 0 (by_step decider.Nobody (Some kind))) what answer.new.bytes.items answer.new.audit.items) }
+        IfOk result (λ what. Tells rules.now headed.now.call.now.asker (Some head) (outcome (sent_of head 0 is_empty whole) 0 (by_step decider.Nobody (Some kind.now))) what answer.new.bytes.items answer.new.audit.items) }
 {
     let Headed { call, header } = *headed;
     let sent = write_found(header, found, answer)?;
-    let Finding { code, because } = Finding::by(Decider::Nobody, Some(kind));
-    let audit = Audit {
+    let Finding { code, reason } = Finding::by(Decider::Nobody, Some(kind));
+    let audit = AuditView {
         code,
-        because,
+        reason,
         action: action_in(header.function),
         asker: call.asker,
     };
@@ -87,7 +87,7 @@ fn answer_query<R: Registry>(
     alloc: Global,
     directory: &Directory<R>,
     headed: &Headed<'_>,
-    query: ServiceQuery,
+    query: &ServiceQuery,
     answer: &mut Answer,
 ) -> Result<Sent, NoMemory>
     requires datagram { 1400 ≤ headed.now.call.now.limit }
@@ -95,19 +95,13 @@ fn answer_query<R: Registry>(
     requires no_reply { answer.old.bytes.items ≡ [] }
     requires no_line { answer.old.audit.items ≡ [] }
     ensures { (o : Opening) (h : History) → Fold o h directory.now → IsLegal o h
-        → IfOk result (λ what. (r : Outcome) × IsAnswerTo o h (call_in headed.now.call.now) (sense_asked o.site (heading headed.now.header.now) (Asked query)) r None
+        → IfOk result (λ what. (r : Outcome) × IsAnswerTo o h (call_in headed.now.call.now) (sense_asked o.site (heading headed.now.header.now) (Asked query.now)) r None
         × Tells directory.now.rules headed.now.call.now.asker (Some (heading headed.now.header.now)) r what answer.new.bytes.items answer.new.audit.items) }
 {
     let Headed { call, header } = *headed;
     let room = room_in(header, call.limit);
-    let found = directory.find(alloc, call.moment, call.asker, &query, room);
-    let ServiceQuery {
-        kind,
-        scopes: _,
-        language: _,
-    } = query;
-    let (rules, asker) = (directory.rules(), call.asker);
-    match found {
+    let (rules, asker, kind) = (directory.rules(), call.asker, &query.kind);
+    match directory.find(alloc, call.moment, asker, query, room) {
         Ok(found) => send_found(rules, headed, kind, &found, answer),
         Err(QueryFault::Scope) => {
             let finding = Finding::by(Decider::Scope, Some(kind));
@@ -146,7 +140,7 @@ fn answer_request<R: Registry>(
         }
         Ok(Question::Asks(query)) => {
             let headed = Headed { call, header };
-            answer_query(alloc, directory, &headed, query, answer)
+            answer_query(alloc, directory, &headed, &query, answer)
         }
         Err(fault) => answer_fault(directory.rules(), call.asker, header, fault, answer),
     }

@@ -208,9 +208,9 @@ kept_member p [] w h = absurd (no_member w h)
 kept_member p (x ∷ xs) w h =
     elim (p x) as (λ b. p x ≡ b → Contains (cond b (x ∷ filter p xs) (filter p xs)) w → Contains (x ∷ xs) w × (p w ≡ true)) [
       | true ↦ λ t has. elim (member_cases x w (filter p xs) has) [
-            | inl is ↦ (subst (Contains (x ∷ xs)) is (here x xs), ap p (sym is) ∙ t)
-            | inr later ↦ let m = kept_member p xs w later in (there x w xs m.0, m.1)
-          ]
+        | inl is ↦ (subst (Contains (x ∷ xs)) is (here x xs), ap p (sym is) ∙ t)
+        | inr later ↦ let m = kept_member p xs w later in (there x w xs m.0, m.1)
+      ]
       | false ↦ λ f has. let m = kept_member p xs w has in (there x w xs m.0, m.1)
     ] refl h
 
@@ -219,13 +219,13 @@ member_kept p [] w h t = absurd (no_member w h)
 member_kept p (x ∷ xs) w h t =
     elim (p x) as (λ b. p x ≡ b → Contains (cond b (x ∷ filter p xs) (filter p xs)) w) [
       | true ↦ λ passes. elim (member_cases x w xs h) [
-            | inl is ↦ subst (Contains (x ∷ filter p xs)) is (here x (filter p xs))
-            | inr later ↦ there x w (filter p xs) (member_kept p xs w later t)
-          ]
+        | inl is ↦ subst (Contains (x ∷ filter p xs)) is (here x (filter p xs))
+        | inr later ↦ there x w (filter p xs) (member_kept p xs w later t)
+      ]
       | false ↦ λ fails. elim (member_cases x w xs h) [
-            | inl is ↦ (let no : false ≡ true = sym fails ∙ (ap p is ∙ t) in cc)
-            | inr later ↦ member_kept p xs w later t
-          ]
+        | inl is ↦ (let no : false ≡ true = sym fails ∙ (ap p is ∙ t) in cc)
+        | inr later ↦ member_kept p xs w later t
+      ]
     ] refl
 
 bytes_self : (k : List ℕ) → bytes_eq k k ≡ true

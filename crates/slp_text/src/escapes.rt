@@ -196,8 +196,8 @@ pub fn unescape_any(alloc: Global, text: &str) -> Result<String, TextFault>
     }
 }
 
-// A digit of an escape, in capitals.
-fn capital_digit(d: u8) -> char
+/// A digit of an escape, in capitals.
+pub fn capital_digit(d: u8) -> char
     requires { d < 16 }
     ensures { result ≡ capital_number d }
 {

@@ -14,7 +14,7 @@ mod tags;
 mod texts;
 
 pub use cutting::cut;
-pub use escapes::{Place, escape_into, is_reserved, unescape, unescape_any};
+pub use escapes::{Place, capital_digit, escape_into, is_reserved, unescape, unescape_any};
 pub use faults::{NoMemory, TextFault};
 pub use folding::{is_blank, key};
 pub use keys::Key;

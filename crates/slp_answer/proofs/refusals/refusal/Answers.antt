@@ -7,6 +7,6 @@ use Rattle.slp_answer.proofs.refusals.refusal.Goals as goal
 
 pub returns-clause-line : goal.returns-clause-line
 returns-clause-line c =
-    line_is_refused c.args.asker (heading c.in-Some.header) c.in-Some-reply_function.function c.action_in.result (take c.put_line-told.result c.put_line-told.new.line)
-    c.in-Some-reply_function.ensures c.action_in.ensures c.put_line-told.ensures.bytes
+    line_is_refused c.args.asker (heading c.in-Some.header) c.in-Some-reply_function.function c.action_in.result (take c.put_refusal.new.told.end c.put_refusal.new.told.bytes)
+    c.in-Some-reply_function.ensures c.action_in.ensures c.put_refusal.ensures
     ∙ sym (ap (λ (o : Option Heading). line_of [] c.args.asker o (refused o)) c.in-Some.ensures)

@@ -19,8 +19,8 @@ pub returns-in-Ok : goal.returns-in-Ok
 returns-in-Ok g c = λ o h fold legal.
     let found = c.in-Ok.found in
     let all = c.in-Ok.ensures.items o h fold legal in
-    let supported = ap (λ (p : Place). list_any (supports p) c.args.query.scopes) (sym fold.placed) ∙ found-supported found _ _ c.in-Ok.ensures.scope in
+    let supported = ap (λ (p : Place). list_any (supports p) c.args.query.now.scopes) (sym fold.placed) ∙ found-supported found _ _ c.in-Ok.ensures.scope in
     IfOk-weaker c.send_found.result _ _
-    (λ what tells. listed-answer o h (call_in c.args.headed.now.call.now) (heading c.args.headed.now.header.now) c.args.directory.now.rules c.args.query all.0 (items_in found) found.is_cut c.room_in-room.result
+    (λ what tells. listed-answer o h (call_in c.args.headed.now.call.now) (heading c.args.headed.now.header.now) c.args.directory.now.rules c.args.query.now all.0 (items_in found) found.is_cut c.room_in-room.result
     what c.send_found.new.answer.bytes.items c.send_found.new.answer.audit.items c.room_in-room.ensures.bytes c.room_in-room.ensures.each supported all.1 all.2 tells)
     (rw c.rules-rules.ensures at c.send_found.ensures)

@@ -29,7 +29,7 @@ returns-in-Ok-Unreadable g c = λ o h fold legal.
     IfOk-weaker c.answer_code.result _ _
     (λ what tells. asked-replies o h (call_in c.args.call.now) what _ _ head Unreadable c.args.directory.now.rules fold.ruled c.requires.header (subst (IsAsked head bytes) c.in-Ok-Unreadable.field-0-is told)
     (denied head decider.Parse, (refl, refl), tells))
-    (rw (c.rules.ensures, c.by-finding.ensures) at c.answer_code.ensures)
+    (rw (c.rules.ensures, c.by-finding.ensures.code, c.by-finding.ensures.reason) at c.answer_code.ensures)
 
 pub returns-in-Ok-Asks : goal.returns-in-Ok-Asks
 returns-in-Ok-Asks g c = λ o h fold legal.

@@ -1,11 +1,15 @@
-use Rattle.std.proofs.Common.{◌≡◌, ◌<◌, [], None, Some, length, sym, ap, subst, ◌∙◌}
+use Rattle.std.proofs.Common.{◌≡◌, ℕ, ◌<◌, List, [], ◌∷◌, None, Some, length, refl, sym, ap, subst, ◌∙◌, arith}
 use Rattle.std.specs.Prelude.{slice_get, unwrap_or}
 use Rattle.std.specs.Option.{option_map}
 use Rattle.std.proofs.lemmas.Result.{IfOk-weaker}
 use Rattle.slp_messages.specs.Views.{header_in, registration_in}
 use Rattle.access_rules.specs.declared.rule.Action.TheVariants.{Register}
 use Rattle.registry_core.specs.declared.entry.Entry.{Entry}
-use Rattle.directory_judge.specs.Judging.{by_rule, by_step, denial_of, denies, judged_taken, ruling_in, IsJudged}
+use Rattle.access_rules.specs.Deciding.{SiteRules}
+use Rattle.directory_judge.specs.Judging.{because_in, by_rule, by_step, decider_of, denial_of, denies, founding_of, judged_in, judged_taken, ruling_in, IsJudged}
+use Rattle.directory_judge.specs.declared.because.Because.{Because}
+use Rattle.directory_judge.specs.declared.because.Decider.{Decider}
+use Rattle.directory_judge.specs.declared.ruling.Ruling.{Ruling}
 use Rattle.directory_judge.specs.declared.because.Decider.TheVariants as decider
 use Rattle.directory_judge.proofs.Rulings.{no-scopes, ruled-allowed, ruled-first, ruled-none, ruled-some}
 use Rattle.directory_judge.proofs.Steps.{judged-unsupported, IsJudged-entry, IsJudgedBy}
@@ -23,20 +27,32 @@ returns-in-None g c =
     (judged-unsupported on h r t (sym (ap (λ (x : Entry). length x.scopes) c.in_ok-entry.ensures) ∙ none)
     ∙ ap (λ (x : Entry). denies (by_step decider.Scope (Some x.kind))) (sym c.in_ok-entry.ensures))
 
-pub returns-then-ruling : goal.returns-then-ruling
-returns-then-ruling g c =
+first_scope : (scopes : List (List ℕ)) → 0 < length scopes → slice_get scopes 0 ≡ Some (unwrap_or (slice_get scopes 0) [])
+first_scope [] h = absurd (omega (arith, h))
+first_scope (s ∷ ss) h = refl
+
+-- who allowed the first scope decided
+founding-first : (rules : SiteRules) (asker : ℕ) (e : Entry) (d : Decider) (r : Ruling) → 0 < length e.scopes → d ≡ decider_of r.verdict → because_in r ≡ by_rule rules asker Register e.kind (unwrap_or (slice_get e.scopes 0) [])
+    → founding_of d e ≡ by_rule rules asker Register e.kind (unwrap_or (slice_get e.scopes 0) [])
+founding-first rules asker e d r some by first =
+    let decides = by ∙ ap (λ (b : Because). b.decider) first in
+    λ i. record { decider = decides i; kind = Some e.kind; scope = first_scope e.scopes some i }
+
+pub returns-in-Some : goal.returns-in-Some
+returns-in-Some g c =
     let on = c.args.self.now in
     let h = header_in c.args.header.now in
     let r = registration_in c.args.registration.now in
     let t = c.args.taken in
     let e = c.in_ok-entry.entry in
-    let b = c.in_ok-because-in-Some.because in
+    let b = founding_of c.decider-decider.result e in
     let is = c.in_ok-entry.ensures in
-    let some : 0 < length t.scopes = subst (λ (x : Entry). 0 < length x.scopes) is (ruled-some on.rules on.asker Register e.kind e.scopes (ruling_in c.in-Some.ruling) (sym c.in-Some.ensures)) in
+    let there : 0 < length e.scopes = ruled-some on.rules on.asker Register e.kind e.scopes (ruling_in c.in-Some.ruling) (sym c.in-Some.ensures) in
+    let some : 0 < length t.scopes = subst (λ (x : Entry). 0 < length x.scopes) is there in
     let allowed : denial_of on.rules on.asker Register e.kind e.scopes ≡ None = ruled-allowed on.rules on.asker Register e.kind e.scopes c.in-Some.ruling (sym c.in-Some.ensures) c.if-ruling.true in
     let first : b ≡ by_rule on.rules on.asker Register e.kind (unwrap_or (slice_get e.scopes 0) []) =
-    c.in_ok-because-in-Some.ensures ∙ ruled-first on.rules on.asker Register e.kind e.scopes c.in-Some.ruling (sym c.in-Some.ensures) allowed in
-    IfOk-weaker c.judge_entry.result (IsJudgedBy on e b) _
-    (λ j. IsJudged-entry on h r t some e b j (sym (ap (λ (x : Entry). denial_of on.rules on.asker Register x.kind x.scopes) is) ∙ allowed) c.requires.named is
+    founding-first on.rules on.asker e c.decider-decider.result c.in-Some.ruling there c.decider-decider.ensures (ruled-first on.rules on.asker Register e.kind e.scopes c.in-Some.ruling (sym c.in-Some.ensures) allowed) in
+    IfOk-weaker c.judge_entry.result (λ j. IsJudgedBy on e b (judged_in j)) _
+    (λ j. IsJudged-entry on h r t some e b (judged_in j) (sym (ap (λ (x : Entry). denial_of on.rules on.asker Register x.kind x.scopes) is) ∙ allowed) c.requires.named is
     (first ∙ ap (λ (x : Entry). by_rule on.rules on.asker Register x.kind (unwrap_or (slice_get x.scopes 0) [])) is))
     c.judge_entry.ensures
