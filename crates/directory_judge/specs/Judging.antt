@@ -35,7 +35,9 @@ use Rattle.directory_judge.specs.declared.naming.Named.TheVariants as found
 use Rattle.directory_judge.specs.declared.because.Because.{Because}
 use Rattle.directory_judge.specs.declared.because.Decider.{Decider}
 use Rattle.directory_judge.specs.declared.because.Decider.TheVariants as decider
+use Rattle.directory_judge.specs.declared.because.Finding.{Finding}
 use Rattle.directory_judge.specs.declared.because.Reason.{Reason}
+use Rattle.directory_judge.specs.declared.change.Change.{Change}
 use Rattle.directory_judge.specs.declared.change.Change.TheVariants as change
 use Rattle.directory_judge.specs.declared.change.Placed.{Placed}
 use Rattle.directory_judge.specs.declared.judged.Decided.{Decided}
@@ -339,6 +341,23 @@ judgement g (message.ServiceAdvert h a) = Waits
 abbrev pub judged_in : Decided → Judged
 judged_in (decided.Founded placed d) = judged.Accept (change.Put placed) (founding d placed)
 judged_in (decided.Judged j) = j
+
+-- the code of it, and who decided on what, where there is a verdict
+abbrev pub told_in : Judged → Option (ℕ × Because)
+told_in (judged.Accept c because) = Some (OK, because)
+told_in judged.Nothing = Some (code_by decider.Nobody, by_step decider.Nobody None)
+told_in judged.Unjudged = None
+told_in (judged.Deny code because) = Some (code, because)
+
+abbrev pub found_in : Finding → ℕ × Because
+found_in f = (f.code, because_of f.reason)
+
+-- the change of it, if there is one
+abbrev pub made_in : Judged → Option Change
+made_in (judged.Accept c because) = Some c
+made_in judged.Nothing = None
+made_in judged.Unjudged = None
+made_in (judged.Deny code because) = None
 
 -- what was answered is the judgement, with a change that holds what the event asks for
 abbrev pub IsJudged : Entries → Judged → Judgement → Type 0

@@ -1,5 +1,6 @@
 ghost use Rattle.std.specs.Prelude.{◌≡◌, IfOk};
-ghost use Rattle.directory_judge.specs.Judging.{because_of, code_by};
+ghost use Rattle.std.specs.Option.{option_copied};
+ghost use Rattle.directory_judge.specs.Judging.{because_of, by_step, code_by};
 
 use service_url::ServiceType;
 use slp_messages::code;
@@ -95,5 +96,29 @@ impl Reason<'_> {
             kind,
             scope,
         })
+    }
+}
+
+/// A code, and who decided on what, lent.
+#[derive(Clone, Copy)]
+pub struct Finding<'a> {
+    pub code: u16,
+    pub reason: Reason<'a>,
+}
+
+impl<'a> Finding<'a> {
+    /// What a step decides, of which a type may be known.
+    pub fn by(decider: Decider, kind: Option<&'a ServiceType>) -> Finding<'a>
+        ensures code { result.code ≡ code_by decider }
+        ensures reason { because_of result.reason ≡ by_step decider (option_copied kind.entry) }
+    {
+        Finding {
+            code: decider.code(),
+            reason: Reason {
+                decider,
+                kind,
+                scope: None,
+            },
+        }
     }
 }

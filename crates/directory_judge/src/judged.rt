@@ -1,8 +1,10 @@
 ghost use Rattle.std.specs.Prelude.{◌≡◌, IfOk};
-ghost use Rattle.directory_judge.specs.Judging.{because_of, founding, judged_in};
+ghost use Rattle.std.specs.Option.{option_map};
+ghost use Rattle.directory_judge.specs.Judging.{because_of, found_in, founding, judged_in, made_in, told_in};
 
-use crate::because::{Because, Decider, Reason};
+use crate::because::{Because, Decider, Finding, Reason};
 use crate::change::{Change, Placed};
+use slp_messages::code;
 use slp_text::NoMemory;
 use std::alloc::Global;
 
@@ -26,8 +28,8 @@ pub enum Decided {
     Judged(Judged),
 }
 
-/// Who decided on the type of an entry that is founded, in the first of its scopes.
-pub fn founding_reason(placed: &Placed, decider: Decider) -> Reason<'_>
+// Who decided on the type of an entry that is founded, in the first of its scopes.
+fn founding_reason(placed: &Placed, decider: Decider) -> Reason<'_>
     ensures { because_of result ≡ founding decider placed.now }
 {
     Reason {
@@ -38,6 +40,39 @@ pub fn founding_reason(placed: &Placed, decider: Decider) -> Reason<'_>
 }
 
 impl Decided {
+    /// The code of what was decided, and who decided on what, where there is a verdict.
+    pub fn finding(&self) -> Option<Finding<'_>>
+        ensures { option_map found_in result ≡ told_in (judged_in self.now) }
+    {
+        match self {
+            Decided::Founded(placed, decider) => Some(Finding {
+                code: code::OK,
+                reason: founding_reason(placed, *decider),
+            }),
+            Decided::Judged(Judged::Accept(_, because)) => Some(Finding {
+                code: code::OK,
+                reason: because.reason(),
+            }),
+            Decided::Judged(Judged::Nothing) => Some(Finding::by(Decider::Nobody, None)),
+            Decided::Judged(Judged::Unjudged) => None,
+            Decided::Judged(Judged::Deny(code, because)) => Some(Finding {
+                code: *code,
+                reason: because.reason(),
+            }),
+        }
+    }
+
+    /// The change that is accepted, if one is.
+    pub fn change(self) -> Option<Change>
+        ensures { result ≡ made_in (judged_in self) }
+    {
+        match self {
+            Decided::Founded(placed, _) => Some(Change::Put(placed)),
+            Decided::Judged(Judged::Accept(change, _)) => Some(change),
+            Decided::Judged(_) => None,
+        }
+    }
+
     /// The same with copies of what was decided on.
     pub fn judged(self, alloc: Global) -> Result<Judged, NoMemory>
         ensures { IfOk result (λ j. j ≡ judged_in self) }

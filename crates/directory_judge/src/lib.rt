@@ -11,10 +11,10 @@ mod ruling;
 mod site;
 mod withdrawing;
 
-pub use because::{Because, Decider, Reason};
+pub use because::{Because, Decider, Finding, Reason};
 pub use change::{Change, Placed, Withdrawn};
 pub use grounds::Grounds;
-pub use judged::{Decided, Judged, founding_reason};
+pub use judged::{Decided, Judged};
 pub use judging::judge_on;
 pub use naming::{is_agent, read_kind, read_scopes};
 pub use site::Site;

@@ -20,7 +20,7 @@ use Rattle.slp_text.specs.Scopes.{scopes_of}
 use Rattle.slp_text.specs.Words.{bytes_eq, is_blank}
 use Rattle.service_url.specs.Types.{type_of}
 use Rattle.directory_judge.specs.History.{History, Event, now}
-use Rattle.directory_judge.specs.Judging.{Judgement, IsChange, by_step, is_agent, supports}
+use Rattle.directory_judge.specs.Judging.{Judgement, IsChange, by_step, is_agent, made_in, supports, told_in}
 use Rattle.directory_judge.specs.declared.because.Decider.TheVariants as decider
 use Rattle.directory_judge.specs.Meaning.{rules}
 use Rattle.directory_judge.specs.Sites.{Place}
@@ -46,7 +46,7 @@ use Rattle.directory_state.specs.State.{State}
 use Rattle.directory_state.specs.declared.finding.Room.{Room}
 use Rattle.directory_state.proofs.Histories.{legal_next}
 use Rattle.slp_answer.specs.Listing.{listed_with}
-use Rattle.slp_answer.specs.Telling.{Tells, Replies, Acknowledges, Steps}
+use Rattle.slp_answer.specs.Telling.{Tells, Replies, Acknowledges, Steps, told_of}
 use Rattle.slp_answer.proofs.Sizes.{positive, front-cut, front-empty}
 use Rattle.slp_answer.specs.declared.answer.Sent.{Sent}
 use Rattle.slp_answer.specs.declared.answer.Sent.TheVariants as sent
@@ -188,25 +188,29 @@ module _ (o : Opening) (h : History) (m asker : ℕ) (head : Heading) (x : Messa
   abbrev pub IsTold : Option Change → Type 0
   IsTold change = (v : Judgement) × IsVerdict o h m asker x v × Tells rs asker (Some head) (acknowledged head v) what reply line × HandsOut o h change (change_in v)
 
-  pub accepted-told : (j : Judged) (change : Change) (because : Because) → IsMessage x → IsLegal o h
-      → (v : Judgement) × IsVerdict o h m asker x v × IsJudgedAs h j v → j ≡ judged.Accept change because → Tells rs asker (Some head) (coded head 0 because) what reply line → IsTold (Some change)
-  accepted-told j change because sound legal verdict accepted tells =
-      let stands = subst (λ (k : Judged). IsJudgedAs h k verdict.0) accepted verdict.2 in (
-        verdict.0,
-        verdict.1,
-        subst (λ (u : Judgement). Tells rs asker (Some head) (acknowledged head u) what reply line) (sym stands.1) tells,
-        (stands.0, ap change_in stands.1, stands.2, subst (λ (u : Judgement). IsLegal o (followed (change_in u) h)) stands.1 (legal_next o h m asker x verdict.0 legal sound verdict.1)),
-      )
+  -- what is told of what was judged is what is told of the verdict
+  same-told : (j : Judged) (v : Judgement) → IsJudgedAs h j v → acknowledged head v ≡ told_of head (told_in j)
+  same-told (judged.Accept change because) v is = ap (acknowledged head) is.1
+  same-told judged.Nothing v is = ap (acknowledged head) is
+  same-told judged.Unjudged v is = ap (acknowledged head) is
+  same-told (judged.Deny code because) v is = ap (acknowledged head) is
 
-  pub denied-told : (j : Judged) (code : ℕ) (because : Because)
-      → (v : Judgement) × IsVerdict o h m asker x v × IsJudgedAs h j v → j ≡ judged.Deny code because → Tells rs asker (Some head) (coded head code because) what reply line → IsTold None
-  denied-told j code because verdict denied tells =
-      let is = subst (λ (k : Judged). IsJudgedAs h k verdict.0) denied verdict.2 in (
-        verdict.0,
-        verdict.1,
-        subst (λ (u : Judgement). Tells rs asker (Some head) (acknowledged head u) what reply line) (sym is) tells,
-        ap change_in is,
-      )
+  hands-out : (j : Judged) (v : Judgement) → IsMessage x → IsLegal o h → IsVerdict o h m asker x v → IsJudgedAs h j v → HandsOut o h (made_in j) (change_in v)
+  hands-out (judged.Accept change because) v sound legal verdict is =
+      (is.0, ap change_in is.1, is.2, subst (λ (u : Judgement). IsLegal o (followed (change_in u) h)) is.1 (legal_next o h m asker x v legal sound verdict))
+  hands-out judged.Nothing v sound legal verdict is = ap change_in is
+  hands-out judged.Unjudged v sound legal verdict is = ap change_in is
+  hands-out (judged.Deny code because) v sound legal verdict is = ap change_in is
+
+  -- it is told by its code and who decided on what, and its change is handed out
+  pub judged-told : (j : Judged) (found : Option (ℕ × Because)) (change : Option Change) → IsMessage x → IsLegal o h → (v : Judgement) × IsVerdict o h m asker x v × IsJudgedAs h j v
+      → found ≡ told_in j → change ≡ made_in j → Tells rs asker (Some head) (told_of head found) what reply line → IsTold change
+  judged-told j found change sound legal verdict finds makes tells = (
+    verdict.0,
+    verdict.1,
+    subst (λ (r : Outcome). Tells rs asker (Some head) r what reply line) (ap (told_of head) finds ∙ sym (same-told j verdict.0 verdict.2)) tells,
+    subst (λ (c : Option Change). HandsOut o h c (change_in verdict.0)) (sym makes) (hands-out j verdict.0 sound legal verdict.1 verdict.2),
+  )
 
   pub told-acknowledges : (bytes : List ℕ) (change : Option Change) → rs ≡ rules o.rules h → heading_of bytes ≡ Some head → reading bytes ≡ Ok x → IsChange x → IsTold change
       → Acknowledges o h m asker bytes what change reply line

@@ -12,7 +12,7 @@ use Rattle.directory_judge.specs.declared.because.Because.{Because}
 use Rattle.directory_judge.specs.declared.change.Change.{Change}
 use Rattle.directory_answers.specs.Answering.{IsAnswer}
 use Rattle.directory_answers.specs.Calls.{Opening, Call}
-use Rattle.directory_answers.specs.Outcomes.{Outcome, code_sent}
+use Rattle.directory_answers.specs.Outcomes.{Outcome, coded, code_sent, silence}
 use Rattle.directory_answers.specs.Verdicts.{IsLegal, followed}
 use Rattle.directory_state.specs.Folding.{Fold, HandsOut}
 use Rattle.directory_state.specs.State.{State}
@@ -37,6 +37,10 @@ line_by rs asker h r = option_map_or (λ v. audit_text rs (audit_in asker h v)) 
 
 abbrev pub line_of : SiteRules → ℕ → Option Heading → Outcome → List ℕ
 line_of rs asker heading r = option_map_or (λ h. line_by rs asker h r) heading []
+
+-- what is told of what was decided, where there is a verdict
+abbrev pub told_of : Heading → Option (ℕ × Because) → Outcome
+told_of h found = option_map_or (λ f. coded h f.0 f.1) found silence
 
 -- ---- what the code answers
 

@@ -3,24 +3,43 @@ ghost use Rattle.slp_headers.specs.Headers.{heading};
 ghost use Rattle.slp_messages.specs.Messages.{IsMessage};
 ghost use Rattle.slp_messages.specs.Views.{message_in};
 ghost use Rattle.directory_judge.specs.History.{History};
-ghost use Rattle.directory_judge.specs.Judging.{Judgement};
+ghost use Rattle.std.specs.Option.{option_map};
+ghost use Rattle.directory_judge.specs.Judging.{Judgement, found_in};
 ghost use Rattle.directory_answers.specs.Answering.{is_change_of};
 ghost use Rattle.directory_answers.specs.Calls.{Opening};
 ghost use Rattle.directory_answers.specs.Outcomes.{acknowledged};
 ghost use Rattle.directory_answers.specs.Verdicts.{IsLegal, IsVerdict, change_in};
 ghost use Rattle.directory_state.specs.Folding.{Fold, HandsOut};
-ghost use Rattle.slp_answer.specs.Telling.{Tells, Acknowledges};
+ghost use Rattle.slp_answer.specs.Telling.{Tells, Acknowledges, told_of};
 
 use crate::answer::{Answer, Sent};
-use crate::coded::{Finding, Headed, answer_code, answer_fault};
-use access_rules::Addr;
+use crate::coded::{Headed, answer_code, answer_fault};
+use access_rules::{Addr, Rules};
 use directory_answers::{Call, asked_change};
-use directory_judge::{Change, Decided, Decider, Judged, founding_reason};
+use directory_judge::{Change, Finding};
 use directory_state::Directory;
 use registry_core::Registry;
 use slp_text::NoMemory;
-use slp_wire::{ChangeView, code, read_header};
+use slp_wire::{ChangeView, read_header};
 use std::alloc::Global;
+
+// Answers with what was found, and tells of it; with nothing where there is no verdict.
+fn answer_finding(
+    rules: &Rules,
+    headed: &Headed<'_>,
+    finding: Option<Finding<'_>>,
+    answer: &mut Answer,
+) -> Result<Sent, NoMemory>
+    requires no_reply { answer.old.bytes.items ≡ [] }
+    requires no_line { answer.old.audit.items ≡ [] }
+    ensures { let head = heading headed.now.header.now in
+        IfOk result (λ what. Tells rules.now headed.now.call.now.asker (Some head) (told_of head (option_map found_in finding.entry)) what answer.new.bytes.items answer.new.audit.items) }
+{
+    match finding {
+        Some(finding) => answer_code(rules, headed.call.asker, headed.header, finding, answer),
+        None => Ok(Sent::Silence),
+    }
+}
 
 // Judges a message that asks for a change, and acknowledges what comes of it.
 fn acknowledge_change<R: Registry>(
@@ -38,47 +57,15 @@ fn acknowledge_change<R: Registry>(
         × Tells directory.now.rules headed.now.call.now.asker (Some (heading headed.now.header.now)) (acknowledged (heading headed.now.header.now) v) p.0 answer.new.bytes.items answer.new.audit.items
         × HandsOut o h p.1 (change_in v)) }
 {
-    let Headed { call, header } = *headed;
-    let (rules, asker) = (directory.rules(), call.asker);
-    match directory.judge_change(alloc, call.moment, asker, change)? {
-        Decided::Founded(placed, decider) => {
-            let reason = founding_reason(&placed, decider);
-            let finding = Finding {
-                code: code::OK,
-                reason,
-            };
-            match answer_code(rules, asker, header, finding, answer) {
-                Ok(sent) => Ok((sent, Some(Change::Put(placed)))),
-                Err(fault) => {
-                    drop(placed);
-                    Err(fault)
-                }
-            }
-        }
-        Decided::Judged(Judged::Accept(change, because)) => {
-            let reason = because.reason();
-            let finding = Finding {
-                code: code::OK,
-                reason,
-            };
-            match answer_code(rules, asker, header, finding, answer) {
-                Ok(sent) => Ok((sent, Some(change))),
-                Err(fault) => {
-                    drop(change);
-                    Err(fault)
-                }
-            }
-        }
-        Decided::Judged(Judged::Nothing) => {
-            let finding = Finding::by(Decider::Nobody, None);
-            let sent = answer_code(rules, asker, header, finding, answer)?;
-            Ok((sent, None))
-        }
-        Decided::Judged(Judged::Unjudged) => Ok((Sent::Silence, None)),
-        Decided::Judged(Judged::Deny(code, because)) => {
-            let reason = because.reason();
-            let sent = answer_code(rules, asker, header, Finding { code, reason }, answer)?;
-            Ok((sent, None))
+    let (rules, call) = (directory.rules(), headed.call);
+    let decided = directory.judge_change(alloc, call.moment, call.asker, change)?;
+    let told = answer_finding(rules, headed, decided.finding(), answer);
+    let change = decided.change();
+    match told {
+        Ok(sent) => Ok((sent, change)),
+        Err(fault) => {
+            drop(change);
+            Err(fault)
         }
     }
 }

@@ -11,34 +11,9 @@ use crate::audit::{AuditView, put_line};
 use crate::refusals::action_in;
 use access_rules::{Addr, Rules};
 use directory_answers::{Call, decider_of};
-use directory_judge::{Decider, Reason};
-use service_url::ServiceType;
+use directory_judge::Finding;
 use slp_text::NoMemory;
 use slp_wire::{HeaderView, WireFault, code, error_reply, flag, function, reply_function};
-
-/// A code, and who decided on what, lent.
-#[derive(Clone, Copy)]
-pub struct Finding<'a> {
-    pub code: u16,
-    pub reason: Reason<'a>,
-}
-
-impl<'a> Finding<'a> {
-    /// A denial by a step, of which a type may be known.
-    pub fn by(decider: Decider, kind: Option<&'a ServiceType>) -> Finding<'a>
-        ensures code { result.code ≡ code_by decider }
-        ensures reason { because_of result.reason ≡ by_step decider (option_copied kind.entry) }
-    {
-        Finding {
-            code: decider.code(),
-            reason: Reason {
-                decider,
-                kind,
-                scope: None,
-            },
-        }
-    }
-}
 
 /// A call whose header was read.
 #[derive(Clone, Copy)]

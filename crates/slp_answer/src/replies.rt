@@ -17,12 +17,12 @@ ghost use Rattle.slp_answer.specs.declared.answer.Sent.TheVariants.{Silence as N
 
 use crate::answer::{Answer, Sent};
 use crate::audit::{AuditView, put_line};
-use crate::coded::{Finding, Headed, answer_code, answer_fault, is_unsent};
+use crate::coded::{Headed, answer_code, answer_fault, is_unsent};
 use crate::listing::{put_found, room_in};
 use crate::refusals::action_in;
 use access_rules::{Addr, Rules};
 use directory_answers::{Call, QueryFault, Question, ServiceQuery, asked, understood};
-use directory_judge::Decider;
+use directory_judge::{Decider, Finding};
 use directory_state::{Directory, Found};
 use registry_core::Registry;
 use service_url::ServiceType;
