@@ -153,7 +153,8 @@ static SHARED: [(&str, &str); 2] = [("x,b,C", "b,c"), ("x", "")];
 fn is_shared(alloc: Global, scopes: &ScopeList, other: &str, want: &str) -> Result<bool, Fail> {
     let other = ScopeList::parse(alloc, other)?;
     let common = scopes.common(alloc, &other)?;
-    Ok(common == ScopeList::parse(alloc, want)? && common.is_empty() == want.is_empty())
+    let is_common = common == ScopeList::parse(alloc, want)?;
+    Ok(is_common && common.is_empty() == want.is_empty() && other.within(scopes) == common)
 }
 
 fn has(alloc: Global, scopes: &ScopeList, scope: &str) -> Result<bool, Fail> {
