@@ -153,6 +153,22 @@ impl<R: Registry> Grounds<'_, R> {
     }
 }
 
+/// A message that may change something, lent.
+pub fn lent(message: &Message) -> ChangeView<'_>
+    requires { IsChange message.now }
+    ensures { message_in result ≡ message.now }
+{
+    match message {
+        Message::Registration(header, registration) => {
+            ChangeView::Registration(header.view(), registration.view())
+        }
+        Message::Withdrawal(header, withdrawal) => {
+            ChangeView::Withdrawal(header.view(), withdrawal.view())
+        }
+        _ => unreachable!(),
+    }
+}
+
 /// Judges a message that may change something (RFC 2608, sections 8.3 and 9.3): the first step whose
 /// fault is there, else the change is accepted at the moment `now`, in seconds. Nothing is changed.
 pub fn judge_on<R: Registry>(
@@ -175,15 +191,6 @@ pub fn judge_on<R: Registry>(
         moment: now,
         asker,
     };
-    match message {
-        Message::Registration(header, registration) => {
-            let (header, registration) = (header.view(), registration.view());
-            let decided = grounds.judge_registration(alloc, &header, &registration)?;
-            decided.judged(alloc)
-        }
-        Message::Withdrawal(header, withdrawal) => {
-            grounds.judge_withdrawal(alloc, &header.view(), &withdrawal.view())
-        }
-        _ => unreachable!(),
-    }
+    let decided = grounds.judge(alloc, &lent(message))?;
+    decided.judged(alloc)
 }

@@ -15,6 +15,6 @@ pub use because::{Because, Decider, Finding, Reason};
 pub use change::{Change, Placed, Withdrawn};
 pub use grounds::Grounds;
 pub use judged::{Decided, Judged};
-pub use judging::judge_on;
+pub use judging::{judge_on, lent};
 pub use naming::{is_agent, read_kind, read_scopes};
 pub use site::Site;

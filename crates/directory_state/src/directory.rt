@@ -19,7 +19,7 @@ ghost use Rattle.directory_state.specs.Folding.{IsJudgedAs};
 use crate::finding::{Found, Kept, Room, Search};
 use access_rules::{Addr, Rules};
 use directory_answers::{QueryFault, ServiceQuery};
-use directory_judge::{Change, Decided, Grounds, Judged, Placed, Site};
+use directory_judge::{Change, Decided, Grounds, Judged, Placed, Site, lent};
 use registry_core::Registry;
 use slp_messages::{ChangeView, Message, UrlEntry};
 use slp_text::NoMemory;
@@ -115,16 +115,7 @@ impl<R: Registry> Directory<R> {
         ensures { (o : Opening) (h : History) → Fold o h self.now → IsLegal o h
             → IfOk result (λ j. (v : Judgement) × IsVerdict o h moment asker message.now v × IsJudgedAs h j v) }
     {
-        let change = match message {
-            Message::Registration(header, registration) => {
-                ChangeView::Registration(header.view(), registration.view())
-            }
-            Message::Withdrawal(header, withdrawal) => {
-                ChangeView::Withdrawal(header.view(), withdrawal.view())
-            }
-            _ => unreachable!(),
-        };
-        let decided = self.judge_change(alloc, moment, asker, &change)?;
+        let decided = self.judge_change(alloc, moment, asker, &lent(message))?;
         decided.judged(alloc)
     }
 
