@@ -1,4 +1,5 @@
 ghost use Rattle.std.specs.Prelude.{◌≡◌, [], true, IfOk, OnErr, Some, None};
+ghost use Rattle.std.specs.Option.{option_map};
 ghost use Rattle.slp_headers.specs.Headers.{heading};
 ghost use Rattle.slp_messages.specs.Messages.{IsMessage};
 ghost use Rattle.slp_messages.specs.Views.{message_in};

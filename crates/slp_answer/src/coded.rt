@@ -1,7 +1,6 @@
 ghost use Rattle.std.specs.Prelude.{◌≡◌, ◌==◌, ◌&&◌, ◌||◌, [], false, not, IfOk, Some, if◌then◌else◌};
 ghost use Rattle.slp_headers.specs.Headers.{heading, refusal_bytes};
-ghost use Rattle.std.specs.Option.{option_copied};
-ghost use Rattle.directory_judge.specs.Judging.{because_of, by_step, code_by};
+ghost use Rattle.directory_judge.specs.Judging.{because_of};
 ghost use Rattle.directory_answers.specs.Outcomes.{is_to_many, sent_of, coded, faulted};
 ghost use Rattle.slp_answer.specs.Telling.{Tells};
 ghost use Rattle.slp_answer.specs.declared.answer.Sent.TheVariants.{Silence as Nothing, Bytes as Code};
