@@ -57,6 +57,12 @@ module _ (g : Grounds) (h : Header) (r : Registration) (t : Taken) where
         ap (λ b. unwrap_or (option_or (cond b (Some (denies (by_step decider.Scope (Some t.kind)))) None) (option_or (denied_new g t) by_pair)) accepts) not_empty
         ∙ ap (λ d. unwrap_or (option_or (option_map denies d) by_pair) accepts) allowed
 
+    pub judged-denied : (b : Because) → denial_of g.rules g.asker Register t.kind t.scopes ≡ Some b → judged_taken g h r t ≡ denies b
+    unfolding by_pair accepts
+    judged-denied b is =
+        ap (λ b. unwrap_or (option_or (cond b (Some (denies (by_step decider.Scope (Some t.kind)))) None) (option_or (denied_new g t) by_pair)) accepts) not_empty
+        ∙ ap (λ d. unwrap_or (option_or (option_map denies d) by_pair) accepts) is
+
     -- what the steps come to that look at an entry's pair
     pub IsJudged-entry : (e : Entry) (b : Because) (j : Judged) → denial_of g.rules g.asker Register t.kind t.scopes ≡ None → t.url ≡ r.entry.url → e ≡ record { url = t.url; language = key_of h.language; kind = t.kind; scopes = t.scopes; deadline = g.now + r.entry.lifetime }
         → b ≡ allowance g t → IsJudgedBy g e b j → IsJudged g.live j (judged_taken g h r t)

@@ -78,7 +78,18 @@ impl Because {
     }
 }
 
-impl Reason<'_> {
+impl<'a> Reason<'a> {
+    /// A step of judging, by which a type may be known.
+    pub fn of_step(decider: Decider, kind: Option<&'a ServiceType>) -> Reason<'a>
+        ensures { because_of result ≡ by_step decider (option_copied kind.entry) }
+    {
+        Reason {
+            decider,
+            kind,
+            scope: None,
+        }
+    }
+
     /// The same with copies of what was decided on.
     pub fn copy(&self, alloc: Global) -> Result<Because, NoMemory>
         ensures { IfOk result (λ b. b ≡ because_of self.now) }
@@ -114,11 +125,7 @@ impl<'a> Finding<'a> {
     {
         Finding {
             code: decider.code(),
-            reason: Reason {
-                decider,
-                kind,
-                scope: None,
-            },
+            reason: Reason::of_step(decider, kind),
         }
     }
 }

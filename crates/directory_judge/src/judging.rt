@@ -6,10 +6,12 @@ ghost use Rattle.slp_messages.specs.Views.{header_in, message_in, registration_i
 ghost use Rattle.registry_core.specs.Entries.{outlives, passing, pair_of};
 ghost use Rattle.directory_judge.specs.History.{Putting, Put};
 ghost use Rattle.directory_judge.specs.Making.{entry_of};
-ghost use Rattle.directory_judge.specs.Judging.{Accepts, denied_old, denies, no_room, founding_of, judged_in, judged_taken, judgement_of, judgement, IsChange, IsJudged};
+ghost use Rattle.std.specs.Arc.{arc_value};
+ghost use Rattle.directory_judge.specs.declared.judged.Judged.TheVariants as judged;
+ghost use Rattle.directory_judge.specs.Judging.{Accepts, because_of, code_by, denied_old, denies, no_room, founding_of, judged_in, judged_taken, judgement_of, judgement, IsChange, IsJudged};
 ghost use Rattle.directory_judge.specs.declared.naming.Taken.{Taken};
 
-use crate::because::{Because, Decider};
+use crate::because::{Decider, Reason};
 use crate::change::Placed;
 use crate::grounds::Grounds;
 use crate::judged::{Decided, Judged};
@@ -19,26 +21,43 @@ use crate::site::Site;
 use access_rules::{Action, Addr, Rules};
 use registry_core::{Entry, Registry};
 use slp_messages::{ChangeView, KeptHeader, Message, RegistrationView};
-use slp_text::{NoMemory, TextFault, is_blank, key};
+use slp_text::{Key, NoMemory, TextFault, is_blank, key};
 use std::alloc::Global;
 use std::sync::Arc;
 
-impl<R: Registry> Grounds<'_, R> {
+// The language that a tag names.
+fn read_language(alloc: Global, tag: &str) -> Result<Key, NoMemory>
+    ensures { IfOk result (λ k. k ≡ key_of tag.now) }
+{
+    match key(alloc, tag) {
+        Ok(language) => Ok(language),
+        Err(TextFault::NoMemory) => Err(NoMemory),
+        Err(_) => unreachable!(),
+    }
+}
+
+// A denial, with copies of what was decided on.
+fn denied(alloc: Global, reason: Reason<'_>) -> Result<Decided, NoMemory>
+    ensures { IfOk result (λ j. judged_in j ≡ judged.Deny (code_by reason.entry.decider) (because_of reason.entry)) }
+{
+    let judged = deny(alloc, reason)?;
+    Ok(Decided::Judged(judged))
+}
+
+impl<'a, R: Registry> Grounds<'a, R> {
     // What speaks against an entry that is allowed: what is live of its pair must be allowed too, and
     // where nothing is live there must be room.
-    fn objection(&self, alloc: Global, entry: &Entry) -> Result<Option<Because>, NoMemory>
-        ensures { IfOk result (λ o. option_map denies o ≡ option_or (denied_old self.now (fin.get self.now.live (pair_of entry.now))) (no_room self.now (pair_of entry.now) (record { url = entry.now.url; kind = entry.now.kind; scopes = entry.now.scopes }))) }
+    fn objection<'b>(&self, entry: &'b Entry) -> Option<Reason<'b>>
+    where
+        'a: 'b,
+        ensures { option_map (λ r. denies (because_of r)) result ≡ option_or (denied_old self.now (fin.get self.now.live (pair_of entry.now))) (no_room self.now (pair_of entry.now) (record { url = entry.now.url; kind = entry.now.kind; scopes = entry.now.scopes })) }
     {
         match self.live_entry(&entry.url, &entry.language) {
-            None if self.is_full() => Ok(Some(Because {
-                decider: Decider::Full,
-                kind: Some(entry.kind.copy(alloc)?),
-                scope: None,
-            })),
-            None => Ok(None),
+            None if self.is_full() => Some(Reason::of_step(Decider::Full, Some(&entry.kind))),
+            None => None,
             Some(old) => match self.rule(Action::Register, &old.kind, &old.scopes) {
-                Some(ruling) if !ruling.verdict.allow => Ok(Some(ruling.because(alloc)?)),
-                _ => Ok(None),
+                Some(ruling) if !ruling.verdict.allow => Some(ruling.reason()),
+                _ => None,
             },
         }
     }
@@ -47,19 +66,19 @@ impl<R: Registry> Grounds<'_, R> {
     fn judge_entry(
         &self,
         alloc: Global,
-        entry: Entry,
+        entry: Arc<Entry>,
         decider: Decider,
     ) -> Result<Decided, NoMemory>
-        requires scoped { 0 < length entry.scopes }
-        requires few_scopes { length entry.scopes ≤ 16 }
-        ensures { IfOk result (λ j. (p : Putting) → entry_of self.now.now p ≡ entry →
-            let t : Taken = record { url = entry.url; kind = entry.kind; scopes = entry.scopes } in
-            IsJudged self.now.live (judged_in j) (unwrap_or (option_or (denied_old self.now (fin.get self.now.live (pair_of entry))) (no_room self.now (pair_of entry) t)) (Accepts (record { moment = self.now.now; act = Put p }) (founding_of decider entry)))) }
+        requires scoped { 0 < length (arc_value entry).scopes }
+        requires few_scopes { length (arc_value entry).scopes ≤ 16 }
+        ensures { let e = arc_value entry in
+            IfOk result (λ j. (p : Putting) → entry_of self.now.now p ≡ e →
+            let t : Taken = record { url = e.url; kind = e.kind; scopes = e.scopes } in
+            IsJudged self.now.live (judged_in j) (unwrap_or (option_or (denied_old self.now (fin.get self.now.live (pair_of e))) (no_room self.now (pair_of e) t)) (Accepts (record { moment = self.now.now; act = Put p }) (founding_of decider e)))) }
     {
-        if let Some(objection) = self.objection(alloc, &entry)? {
-            return Ok(Decided::Judged(deny(objection)));
+        if let Some(reason) = self.objection(&entry) {
+            return denied(alloc, reason);
         }
-        let entry = Arc::new(alloc, entry)?;
         let moment = self.moment;
         Ok(Decided::Founded(Placed { moment, entry }, decider))
     }
@@ -71,21 +90,19 @@ impl<R: Registry> Grounds<'_, R> {
         header: &KeptHeader<'_>,
         registration: &RegistrationView<'_>,
         taken: Taken,
-    ) -> Result<Entry, NoMemory>
-        ensures { IfOk result (λ e. e ≡ record { url = taken.url; language = key_of header.now.language.now; kind = taken.kind; scopes = taken.scopes; deadline = self.now.now + registration.now.entry.lifetime }) }
+    ) -> Result<Arc<Entry>, NoMemory>
+        ensures { IfOk result (λ e. arc_value e ≡ record { url = taken.url; language = key_of header.now.language.now; kind = taken.kind; scopes = taken.scopes; deadline = self.now.now + registration.now.entry.lifetime }) }
     {
         let Taken { url, kind, scopes } = taken;
-        match key(alloc, header.language) {
-            Ok(language) => Ok(Entry {
-                url,
-                language,
-                kind,
-                scopes,
-                deadline: u64::from(self.moment) + u64::from(registration.entry.lifetime),
-            }),
-            Err(TextFault::NoMemory) => Err(NoMemory),
-            Err(_) => unreachable!(),
-        }
+        let language = read_language(alloc, header.language)?;
+        let entry = Entry {
+            url,
+            language,
+            kind,
+            scopes,
+            deadline: u64::from(self.moment) + u64::from(registration.entry.lifetime),
+        };
+        Ok(Arc::new(alloc, entry)?)
     }
 
     // Judges what a registration names, of a language and a lifetime.
@@ -101,13 +118,14 @@ impl<R: Registry> Grounds<'_, R> {
         ensures { IfOk result (λ j. IsJudged self.now.live (judged_in j) (judged_taken self.now (header_in header.now) (registration_in registration.now) taken)) }
     {
         let entry = self.founded(alloc, header, registration, taken)?;
-        match self.rule(Action::Register, &entry.kind, &entry.scopes) {
-            None => Ok(Decided::Judged(deny_by(Decider::Scope, Some(entry.kind)))),
+        let lent: &Entry = &entry;
+        match self.rule(Action::Register, &lent.kind, &lent.scopes) {
+            None => denied(alloc, Reason::of_step(Decider::Scope, Some(&lent.kind))),
             Some(ruling) if ruling.verdict.allow => {
                 let decider = ruling.decider();
                 self.judge_entry(alloc, entry, decider)
             }
-            Some(ruling) => Ok(Decided::Judged(deny(ruling.because(alloc)?))),
+            Some(ruling) => denied(alloc, ruling.reason()),
         }
     }
 
@@ -129,7 +147,7 @@ impl<R: Registry> Grounds<'_, R> {
             return Ok(Decided::Judged(Judged::Unjudged));
         }
         match name(alloc, self.site, header, registration, kind)? {
-            Named::Denied(decider) => Ok(Decided::Judged(deny_by(decider, None))),
+            Named::Denied(decider) => Ok(Decided::Judged(deny_by(decider))),
             Named::Taken(taken) => self.judge_taken(alloc, header, registration, taken),
         }
     }

@@ -1,7 +1,7 @@
-ghost use Rattle.std.specs.Prelude.{◌≡◌, IfOk};
-ghost use Rattle.directory_judge.specs.Judging.{because_in, by_step, code_by, decider_of};
+ghost use Rattle.std.specs.Prelude.{◌≡◌, IfOk, None};
+ghost use Rattle.directory_judge.specs.Judging.{because_in, because_of, by_step, code_by, decider_of};
 
-use crate::because::{Because, Decider};
+use crate::because::{Because, Decider, Reason};
 use crate::judged::Judged;
 use access_rules::Verdict;
 use service_url::ServiceType;
@@ -16,7 +16,7 @@ pub struct Ruling<'a> {
     pub scope: &'a Key,
 }
 
-impl Ruling<'_> {
+impl<'a> Ruling<'a> {
     /// Who decided.
     pub fn decider(&self) -> Decider
         ensures { result ≡ decider_of self.now.verdict }
@@ -28,31 +28,33 @@ impl Ruling<'_> {
     }
 
     /// Who decided, and on what.
-    pub fn because(&self, alloc: Global) -> Result<Because, NoMemory>
-        ensures { IfOk result (λ b. b ≡ because_in self.now) }
+    pub fn reason(&self) -> Reason<'a>
+        ensures { because_of result ≡ because_in self.now }
     {
-        Ok(Because {
+        Reason {
             decider: self.decider(),
-            kind: Some(self.kind.copy(alloc)?),
-            scope: Some(self.scope.copy(alloc)?),
-        })
+            kind: Some(self.kind),
+            scope: Some(self.scope),
+        }
     }
 }
 
-/// A denial, by who decided on what.
-pub fn deny(because: Because) -> Judged
-    ensures { result ≡ Judged.Deny (code_by because.decider) because }
+/// A denial, with copies of what was decided on.
+pub fn deny(alloc: Global, reason: Reason<'_>) -> Result<Judged, NoMemory>
+    ensures { IfOk result (λ j. j ≡ Judged.Deny (code_by reason.entry.decider) (because_of reason.entry)) }
 {
-    Judged::Deny(because.decider.code(), because)
+    let because = reason.copy(alloc)?;
+    Ok(Judged::Deny(reason.decider.code(), because))
 }
 
-/// A denial by a step of judging, of which a type may be known.
-pub fn deny_by(decider: Decider, kind: Option<ServiceType>) -> Judged
-    ensures { result ≡ Judged.Deny (code_by decider) (by_step decider kind) }
+/// A denial by a step of judging that knows of no type.
+pub fn deny_by(decider: Decider) -> Judged
+    ensures { result ≡ Judged.Deny (code_by decider) (by_step decider None) }
 {
-    deny(Because {
+    let because = Because {
         decider,
-        kind,
+        kind: None,
         scope: None,
-    })
+    };
+    Judged::Deny(decider.code(), because)
 }

@@ -1,5 +1,6 @@
 ghost use Rattle.std.specs.Prelude.{◌≡◌, ◌<◌, length, filter, IfOk};
 ghost use Rattle.std.specs.List.{list_any};
+ghost use Rattle.std.specs.Arc.{arc_value};
 ghost use Rattle.std.specs.Option.{option_map};
 ghost use Rattle.std.specs.Result.{result_ok};
 ghost use Rattle.slp_text.specs.Scopes.{scopes_of};
@@ -30,14 +31,17 @@ fn read_withdrawn(
     alloc: Global,
     site: &Site,
     withdrawal: &WithdrawalView<'_>,
-) -> Result<Option<Withdrawn>, NoMemory>
-    ensures { IfOk result (λ w. w ≡ withdrawn_in site.now (result_ok (url_of withdrawal.now.entry.url.now)) (result_ok (scopes_of withdrawal.now.scopes.now))) }
+) -> Result<Option<Arc<Withdrawn>>, NoMemory>
+    ensures { IfOk result (λ w. option_map arc_value w ≡ withdrawn_in site.now (result_ok (url_of withdrawal.now.entry.url.now)) (result_ok (scopes_of withdrawal.now.scopes.now))) }
 {
     let Some(url) = read_url(alloc, withdrawal.entry.url)? else {
         return Ok(None);
     };
     match read_supported(alloc, site, withdrawal.scopes)? {
-        Some(scopes) => Ok(Some(Withdrawn { url, scopes })),
+        Some(scopes) => {
+            let withdrawn = Arc::new(alloc, Withdrawn { url, scopes })?;
+            Ok(Some(withdrawn))
+        }
         None => Ok(None),
     }
 }
@@ -136,22 +140,21 @@ impl<'a, R: Registry> Grounds<'a, R> {
     }
 
     // Judges a withdrawal by what is live of its URL.
-    fn judge_stored(&self, alloc: Global, withdrawn: Withdrawn) -> Result<Judged, NoMemory>
-        requires { 0 < length withdrawn.scopes }
-        ensures { IfOk result (λ j. IsJudged self.now.live j (judged_stored self.now withdrawn.url withdrawn.scopes)) }
+    fn judge_stored(&self, alloc: Global, withdrawn: Arc<Withdrawn>) -> Result<Judged, NoMemory>
+        requires { 0 < length (arc_value withdrawn).scopes }
+        ensures { IfOk result (λ j. IsJudged self.now.live j (judged_stored self.now (arc_value withdrawn).url (arc_value withdrawn).scopes)) }
     {
         let walk = self.walk(&withdrawn);
         if !walk.is_live {
             return Ok(Judged::Nothing);
         }
         let Some(first) = walk.first else {
-            return Ok(deny_by(Decider::Scope, None));
+            return Ok(deny_by(Decider::Scope));
         };
         if let Some(kept) = walk.kept {
-            return Ok(deny(kept.ruling.because(alloc)?));
+            return deny(alloc, kept.ruling.reason());
         }
-        let because = first.ruling.because(alloc)?;
-        let withdrawn = Arc::new(alloc, withdrawn)?;
+        let because = first.ruling.reason().copy(alloc)?;
         Ok(Judged::Accept(Change::Withdraw(self.moment, withdrawn), because))
     }
 
@@ -169,13 +172,13 @@ impl<'a, R: Registry> Grounds<'a, R> {
             return Ok(Judged::Unjudged);
         }
         if tags.is_none() {
-            return Ok(deny_by(Decider::Parse, None));
+            return Ok(deny_by(Decider::Parse));
         }
         let Some(withdrawn) = read_withdrawn(alloc, self.site, withdrawal)? else {
-            return Ok(deny_by(Decider::Parse, None));
+            return Ok(deny_by(Decider::Parse));
         };
         if withdrawn.scopes.is_empty() {
-            return Ok(deny_by(Decider::Scope, None));
+            return Ok(deny_by(Decider::Scope));
         }
         self.judge_stored(alloc, withdrawn)
     }

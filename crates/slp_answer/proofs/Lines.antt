@@ -5,39 +5,51 @@ use Rattle.std.specs.Fmt.{decimal, digits}
 use Rattle.std.proofs.lemmas.Bool.Decides.{nat_tests}
 use Rattle.std.proofs.lemmas.List.{length-append}
 use Rattle.access_rules.specs.Addresses.{address_text}
-use Rattle.slp_answer.specs.Auditing.{line_text, beginning_text, decider_text, action_text, text_or_dash, ending_text}
+use Rattle.slp_answer.specs.Auditing.{line_text, head_text, tail_text, beginning_text, decider_text, action_text, text_or_dash, ending_text}
 use Rattle.slp_answer.specs.declared.audit.Audit.{Audit}
-
-parts_are_one : (w b d a e f g p q t : List ℕ) → ((((((w ++ b) ++ d) ++ (a ++ (e ++ f))) ++ g) ++ p) ++ q) ++ t ≡ w ++ (b ++ d ++ a ++ e ++ f ++ g ++ p ++ q ++ t)
-parts_are_one w b d a e f g p q t = simp append_assoc refl
-
-lengths : (b d e g p q t : List ℕ) → length ((((((b ++ d) ++ e) ++ g) ++ p) ++ q) ++ t) ≡ length b + (length d + (length e + (length g + (length p + (length q + length t)))))
-lengths b d e g p q t =
-    let two = length-append b d in
-    let three = length-append (b ++ d) e in
-    let four = length-append ((b ++ d) ++ e) g in
-    let five = length-append (((b ++ d) ++ e) ++ g) p in
-    let six = length-append ((((b ++ d) ++ e) ++ g) ++ p) q in
-    let seven = length-append (((((b ++ d) ++ e) ++ g) ++ p) ++ q) t in
-    omega (arith, two, three, four, five, six, seven)
-
-pub line_is_written : (w name : List ℕ) (a : Audit) (e q : List ℕ) → e ≡ codes " action=" ++ action_text a.action ++ codes " asker=" → q ≡ text_or_dash a.because.kind
-    → ((((((w ++ beginning_text a.code) ++ decider_text name a.because.decider) ++ e) ++ address_text a.asker) ++ codes " type=") ++ q) ++ ending_text a.because.scope ≡ w ++ line_text name a
-unfolding line_text
-line_is_written w name a e q h1 h2 =
-    rw (h1, h2) (parts_are_one w (beginning_text a.code) (decider_text name a.because.decider) (codes " action=") (action_text a.action) (codes " asker=") (address_text a.asker)
-    (codes " type=") (text_or_dash a.because.kind) (ending_text a.because.scope))
 
 -- what stands between who decided and the asker
 abbrev pub action_piece : Audit → List ℕ
 action_piece a = codes " action=" ++ action_text a.action ++ codes " asker="
 
+head_of : (w b d a e f : List ℕ) → ((w ++ b) ++ d) ++ (a ++ (e ++ f)) ≡ w ++ (b ++ d ++ a ++ e ++ f)
+head_of w b d a e f = simp append_assoc refl
+
+tail_of : (w g p q t : List ℕ) → (((w ++ g) ++ p) ++ q) ++ t ≡ w ++ (g ++ p ++ q ++ t)
+tail_of w g p q t = simp append_assoc refl
+
+pub head_is_written : (w name : List ℕ) (a : Audit) → ((w ++ beginning_text a.code) ++ decider_text name a.because.decider) ++ action_piece a ≡ w ++ head_text name a
+head_is_written w name a = head_of w (beginning_text a.code) (decider_text name a.because.decider) (codes " action=") (action_text a.action) (codes " asker=")
+
+pub tail_is_written : (w : List ℕ) (a : Audit) → (((w ++ address_text a.asker) ++ codes " type=") ++ text_or_dash a.because.kind) ++ ending_text a.because.scope ≡ w ++ tail_text a
+tail_is_written w a = tail_of w (address_text a.asker) (codes " type=") (text_or_dash a.because.kind) (ending_text a.because.scope)
+
+pub line_is_written : (w name : List ℕ) (a : Audit) → (w ++ head_text name a) ++ tail_text a ≡ w ++ line_text name a
+unfolding line_text
+line_is_written w name a = append_assoc w (head_text name a) (tail_text a)
+
 -- a line is as long as its parts
-pub line_length : (name : List ℕ) (a : Audit)
-    → length (line_text name a) ≡ length (beginning_text a.code) + (length (decider_text name a.because.decider) + (length (action_piece a) + (length (address_text a.asker) + (length (codes " type=") + (length (text_or_dash a.because.kind) + length (ending_text a.because.scope))))))
-line_length name a =
-    ap length (sym (line_is_written [] name a (action_piece a) (text_or_dash a.because.kind) refl refl))
-    ∙ lengths (beginning_text a.code) (decider_text name a.because.decider) (action_piece a) (address_text a.asker) (codes " type=") (text_or_dash a.because.kind) (ending_text a.because.scope)
+pub head_length : (name : List ℕ) (a : Audit) → length (head_text name a) ≡ length (beginning_text a.code) + (length (decider_text name a.because.decider) + length (action_piece a))
+head_length name a =
+    let whole = ap length (head_is_written [] name a) in
+    let two = length-append (beginning_text a.code) (decider_text name a.because.decider) in
+    let three = length-append (beginning_text a.code ++ decider_text name a.because.decider) (action_piece a) in
+    omega (arith, whole, two, three)
+
+pub tail_length : (a : Audit) → length (tail_text a) ≡ length (address_text a.asker) + (length (codes " type=") + (length (text_or_dash a.because.kind) + length (ending_text a.because.scope)))
+tail_length a =
+    let g = address_text a.asker in
+    let p = codes " type=" in
+    let q = text_or_dash a.because.kind in
+    let whole = ap length (tail_is_written [] a) in
+    let two = length-append g p in
+    let three = length-append (g ++ p) q in
+    let four = length-append ((g ++ p) ++ q) (ending_text a.because.scope) in
+    omega (arith, whole, two, three, four)
+
+pub line_length : (name : List ℕ) (a : Audit) → length (line_text name a) ≡ length (head_text name a) + length (tail_text a)
+unfolding line_text
+line_length name a = length-append (head_text name a) (tail_text a)
 
 -- ---- how it begins
 

@@ -14,7 +14,7 @@ use Rattle.directory_judge.specs.Judging.{by_step}
 use Rattle.directory_answers.specs.Outcomes.{coded_as, refused, silence}
 use Rattle.slp_answer.specs.declared.audit.Audit.{Audit}
 use Rattle.slp_answer.specs.Telling.{action_of, line_by, line_of}
-use Rattle.slp_answer.proofs.Lines.{line_length}
+use Rattle.slp_answer.proofs.Lines.{head_length, line_length, tail_length}
 
 -- what it tells
 abbrev pub lacking : Action → ℕ → Audit
@@ -43,13 +43,15 @@ address_is_short asker small =
 
 pub line_is_short : (a : Action) (asker : ℕ) → asker < 2 ^ 32 → length (line_text [] (lacking a asker)) < 128
 line_is_short a asker small =
-    let parts = line_length [] (lacking a asker) in
+    let whole = line_length [] (lacking a asker) in
+    let head = head_length [] (lacking a asker) in
+    let tail = tail_length (lacking a asker) in
     let beginning = length-append (decimal 10) (codes " by=") in
     let word = length-append (action_text a) (codes " asker=") in
     let ten = length-decimal-le 2 10 (omega arith) (omega arith) (omega arith) in
     let short_word = action_is_short a in
     let short_address = address_is_short asker small in
-    omega (arith, parts, beginning, word, ten, short_word, short_address)
+    omega (arith, whole, head, tail, beginning, word, ten, short_word, short_address)
 
 pub line_is_refused : (asker : ℕ) (h : Heading) (f : ℕ) (a : Action) (line : List ℕ) → Some f ≡ reply_function_of h.function
     → a ≡ action_of h.function → line ≡ audit_text [] (lacking a asker) → line ≡ line_of [] asker (Some h) (refused (Some h))

@@ -64,14 +64,17 @@ beginning_text code = (if code == 0 then codes "# allow code=" else codes "# den
 abbrev pub ending_text : Option (List ℕ) → List ℕ
 ending_text scope = codes " scope=" ++ scope_or_dash scope ++ 10 ∷ []
 
+-- what it says first, where a rule that decided has this name: the code, who decided, and what was asked for
+abbrev pub head_text : List ℕ → Audit → List ℕ
+head_text name a = beginning_text a.code ++ decider_text name a.because.decider ++ codes " action=" ++ action_text a.action ++ codes " asker="
+
+-- and then: by whom, and on what
+abbrev pub tail_text : Audit → List ℕ
+tail_text a = address_text a.asker ++ codes " type=" ++ text_or_dash a.because.kind ++ ending_text a.because.scope
+
 -- the whole line, where a rule that decided has this name
 unfoldable pub line_text : List ℕ → Audit → List ℕ
-line_text name a =
-    beginning_text a.code ++ decider_text name a.because.decider
-    ++ codes " action=" ++ action_text a.action
-    ++ codes " asker=" ++ address_text a.asker
-    ++ codes " type=" ++ text_or_dash a.because.kind
-    ++ ending_text a.because.scope
+line_text name a = head_text name a ++ tail_text a
 
 -- what is lent says
 abbrev pub audit_of : AuditView → Audit

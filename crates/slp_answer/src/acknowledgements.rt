@@ -4,7 +4,6 @@ ghost use Rattle.slp_headers.specs.Headers.{heading};
 ghost use Rattle.slp_messages.specs.Messages.{IsMessage};
 ghost use Rattle.slp_messages.specs.Views.{message_in};
 ghost use Rattle.directory_judge.specs.History.{History};
-ghost use Rattle.std.specs.Option.{option_map};
 ghost use Rattle.directory_judge.specs.Judging.{Judgement, found_in};
 ghost use Rattle.directory_answers.specs.Answering.{is_change_of};
 ghost use Rattle.directory_answers.specs.Calls.{Opening};

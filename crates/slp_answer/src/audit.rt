@@ -2,7 +2,7 @@ ghost use Rattle.std.specs.Prelude.{◌≡◌, ◌≤◌, ◌+◌, [], ◌++◌,
 ghost use Rattle.std.specs.Fmt.{decimal};
 ghost use Rattle.std.specs.Option.{option_copied};
 ghost use Rattle.access_rules.specs.Addresses.{address_text};
-ghost use Rattle.slp_answer.specs.Auditing.{action_text, audit_of, decider_text, rule_named, text_or_dash, beginning_text, ending_text, line_text, audit_text};
+ghost use Rattle.slp_answer.specs.Auditing.{action_text, audit_of, decider_text, rule_named, text_or_dash, beginning_text, ending_text, head_text, tail_text, line_text, audit_text};
 ghost use Rattle.slp_text.specs.Escapes.{written_at, escaped};
 ghost use Rattle.slp_text.specs.declared.escapes.Place.TheVariants.{Scope};
 
@@ -114,32 +114,37 @@ fn put_beginning<S: Sink>(sink: &mut S, code: u16) -> Result<(), NoMemory>
     sink.put(" by=")
 }
 
-// Who decided, with the name of the rule.
+// Who decided: a word, and the name of the rule.
+fn decider_words<'a>(rule: &'a str, decider: Decider) -> (&'static str, &'a str)
+    ensures { result.0.now ++ result.1.now ≡ decider_text rule.now decider }
+{
+    match decider {
+        Decider::Rule(_) => ("rule:", rule),
+        Decider::Default => ("default", ""),
+        Decider::Nobody => ("none", ""),
+        Decider::Memory => ("memory", ""),
+        Decider::Version => ("version", ""),
+        Decider::Parse => ("parse", ""),
+        Decider::Auth => ("auth", ""),
+        Decider::Option => ("option", ""),
+        Decider::Scope => ("scope", ""),
+        Decider::Language => ("language", ""),
+        Decider::Registration => ("registration", ""),
+        Decider::Attributes => ("attributes", ""),
+        Decider::Update => ("update", ""),
+        Decider::Template => ("template", ""),
+        Decider::Full => ("full", ""),
+    }
+}
+
 fn put_decider<S: Sink>(sink: &mut S, rule: &str, decider: Decider) -> Result<(), NoMemory>
     ensures ok { OnOk result (S.written sink.new ≡ S.written sink.old ++ decider_text rule.now decider) }
     ensures room { OnOk result (S.room sink.old ≤ S.room sink.new + length (decider_text rule.now decider)) }
     ensures err { OnErr result (S.room sink.old ≤ length (decider_text rule.now decider)) }
 {
-    match decider {
-        Decider::Rule(_) => {
-            sink.put("rule:")?;
-            sink.put(rule)
-        }
-        Decider::Default => sink.put("default"),
-        Decider::Nobody => sink.put("none"),
-        Decider::Memory => sink.put("memory"),
-        Decider::Version => sink.put("version"),
-        Decider::Parse => sink.put("parse"),
-        Decider::Auth => sink.put("auth"),
-        Decider::Option => sink.put("option"),
-        Decider::Scope => sink.put("scope"),
-        Decider::Language => sink.put("language"),
-        Decider::Registration => sink.put("registration"),
-        Decider::Attributes => sink.put("attributes"),
-        Decider::Update => sink.put("update"),
-        Decider::Template => sink.put("template"),
-        Decider::Full => sink.put("full"),
-    }
+    let (word, name) = decider_words(rule, decider);
+    sink.put(word)?;
+    sink.put(name)
 }
 
 fn put_character<S: Sink>(sink: &mut S, c: char) -> Result<(), NoMemory>
@@ -204,6 +209,28 @@ fn put_ending<S: Sink>(sink: &mut S, scope: Option<&Key>) -> Result<(), NoMemory
     sink.put("\n")
 }
 
+// The code, who decided and what was asked for.
+fn put_head<S: Sink>(sink: &mut S, rule: &str, audit: &AuditView<'_>) -> Result<(), NoMemory>
+    ensures ok { OnOk result (S.written sink.new ≡ S.written sink.old ++ head_text rule.now (audit_of audit.now)) }
+    ensures room { OnOk result (S.room sink.old ≤ S.room sink.new + length (head_text rule.now (audit_of audit.now))) }
+    ensures err { OnErr result (S.room sink.old ≤ length (head_text rule.now (audit_of audit.now))) }
+{
+    put_beginning(sink, audit.code)?;
+    put_decider(sink, rule, audit.reason.decider)?;
+    sink.put(action_part(audit.action))
+}
+
+// By whom, and on what.
+fn put_tail<S: Sink>(sink: &mut S, audit: &AuditView<'_>) -> Result<(), NoMemory>
+    ensures ok { OnOk result (S.written sink.new ≡ S.written sink.old ++ tail_text (audit_of audit.now)) }
+    ensures err { OnErr result (S.room sink.old ≤ length (tail_text (audit_of audit.now))) }
+{
+    put_address(sink, audit.asker)?;
+    sink.put(" type=")?;
+    sink.put(kind_text(audit.reason.kind))?;
+    put_ending(sink, audit.reason.scope)
+}
+
 /// Appends the line that tells what came of a message, with the name of the rule that decided.
 pub(crate) fn write_line<S: Sink>(
     sink: &mut S,
@@ -213,18 +240,8 @@ pub(crate) fn write_line<S: Sink>(
     ensures ok { OnOk result (S.written sink.new ≡ S.written sink.old ++ line_text rule.now (audit_of audit.now)) }
     ensures err { OnErr result (S.room sink.old ≤ length (line_text rule.now (audit_of audit.now))) }
 {
-    let Reason {
-        decider,
-        kind,
-        scope,
-    } = audit.reason;
-    put_beginning(sink, audit.code)?;
-    put_decider(sink, rule, decider)?;
-    sink.put(action_part(audit.action))?;
-    put_address(sink, audit.asker)?;
-    sink.put(" type=")?;
-    sink.put(kind_text(kind))?;
-    put_ending(sink, scope)
+    put_head(sink, rule, audit)?;
+    put_tail(sink, audit)
 }
 
 /// Writes the line that tells what came of a message. A refusal leaves nothing.

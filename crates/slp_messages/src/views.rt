@@ -1,4 +1,4 @@
-//! Messages whose texts are lent, as they are judged and answered: nothing of them is copied.
+//! Messages whose texts are lent: they are judged and answered without a copy.
 ghost use Rattle.std.specs.Prelude.{◌≡◌, IfOk};
 ghost use Rattle.slp_messages.specs.Views.{entry_in, header_in, registration_in, request_in, withdrawal_in};
 

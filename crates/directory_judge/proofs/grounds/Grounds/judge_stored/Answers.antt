@@ -1,13 +1,13 @@
-use Rattle.std.proofs.Common.{◌≡◌, Some, None, true, sym, ap, ap₂, subst, ◌∙◌}
+use Rattle.std.proofs.Common.{◌≡◌, Some, None, true, sym, ap, subst, ◌∙◌}
 use Rattle.std.specs.Prelude.{filter, IfSome}
 use Rattle.std.specs.List.{list_any}
+use Rattle.std.specs.Arc.{arc_value}
 use Rattle.std.specs.Option.{option_map}
 use Rattle.registry_core.specs.Entries.{is_of_url}
 use Rattle.access_rules.specs.declared.rule.Action.TheVariants.{Withdraw}
 use Rattle.directory_judge.specs.Making.{Withdraws}
 use Rattle.directory_judge.specs.Judging.{Grounds, Accepts, entries_in, first_of, concerned, is_kept, release, withdrawing}
 use Rattle.directory_judge.specs.Walking.{entry_in, IsRuled}
-use Rattle.directory_judge.specs.declared.change.Withdrawn.{Withdrawn}
 use Rattle.directory_judge.proofs.Concerned.{none-passes}
 use Rattle.directory_judge.proofs.Rulings.{not-kept, ruled-first}
 use Rattle.directory_judge.proofs.Steps.{judged-some}
@@ -16,17 +16,18 @@ use Rattle.directory_judge.proofs.grounds.Grounds.judge_stored.Goals as goal
 pub returns : goal.returns
 returns g c =
     let on = c.args.self.now in
-    let url = c.args.withdrawn.url in
-    let scopes = c.args.withdrawn.scopes in
+    let url = (arc_value c.args.withdrawn).url in
+    let scopes = (arc_value c.args.withdrawn).scopes in
     let f = c.in-Some.first.entry.now in
-    let some : list_any (is_of_url url) (entries_in on.live) ≡ true = sym c.walk-walk.ensures.is_live ∙ c.if-not-walk.false in
-    let first_is : first_of (concerned on url scopes) ≡ Some f = sym c.walk-walk.ensures.first ∙ ap (option_map entry_in) c.in-Some.is in
-    let kept_is : first_of (filter (is_kept on.rules on.asker) (concerned on url scopes)) ≡ None = sym c.walk-walk.ensures.kept ∙ ap (option_map entry_in) c.in_default-kept.is in
+    let same : c.deref.result.now ≡ arc_value c.args.withdrawn = c.deref.ensures in
+    let some : list_any (is_of_url url) (entries_in on.live) ≡ true = sym (rw same at c.walk-walk.ensures.is_live) ∙ c.if-not-walk.false in
+    let first_is : first_of (concerned on url scopes) ≡ Some f = sym (rw same at c.walk-walk.ensures.first) ∙ ap (option_map entry_in) c.in-Some.is in
+    let kept_is : first_of (filter (is_kept on.rules on.asker) (concerned on url scopes)) ≡ None = sym (rw same at c.walk-walk.ensures.kept) ∙ ap (option_map entry_in) c.in_default-kept.is in
     let ruled : IsRuled on c.in-Some.first = subst (λ o. IfSome o (IsRuled on)) c.in-Some.is c.walk-walk.ensures.ruled.first in
-    let because : c.in_ok-because-2.because ≡ release on f =
-    c.in_ok-because-2.ensures ∙ ruled-first on.rules on.asker Withdraw f.kind f.scopes c.in-Some.first.ruling ruled
+    let because : c.in_ok-because.because ≡ release on f =
+    c.in_ok-because.ensures ∙ c.reason-2.ensures ∙ ruled-first on.rules on.asker Withdraw f.kind f.scopes c.in-Some.first.ruling ruled
     (not-kept on.rules on.asker f (none-passes (is_kept on.rules on.asker) (concerned on url scopes) f first_is kept_is)) in (
       withdrawing on url scopes,
       judged-some on url scopes (Some f) None some first_is kept_is ∙ ap (Accepts (withdrawing on url scopes)) (sym because),
-      ap₂ (λ moment (w : Withdrawn). Withdraws moment (record { url = w.url; scopes = w.scopes })) (ap (λ (v : Grounds). v.now) c.self.view_is) c.in_ok-withdrawn.ensures.ok,
+      ap (λ (v : Grounds). Withdraws v.now (record { url = url; scopes = scopes })) c.self.view_is,
     )

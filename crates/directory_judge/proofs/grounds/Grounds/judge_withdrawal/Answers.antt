@@ -1,5 +1,7 @@
 use Rattle.std.proofs.Common.{◌≡◌, ◌≢◌, true, false, [], sym, ap, subst, ◌∙◌}
 use Rattle.std.specs.Prelude.{not, Some}
+use Rattle.std.specs.Arc.{arc_value}
+use Rattle.std.specs.Option.{option_map}
 use Rattle.std.specs.Result.{result_ok}
 use Rattle.std.proofs.lemmas.Result.{IfOk-weaker}
 use Rattle.slp_messages.specs.Views.{header_in, withdrawal_in}
@@ -9,6 +11,7 @@ use Rattle.slp_text.specs.Tags.{tags_of}
 use Rattle.directory_judge.specs.Judging.{Grounds, judged_stored, IsJudged}
 use Rattle.directory_judge.proofs.Steps.{no_tag, tags-read, judged-asked}
 use Rattle.directory_judge.specs.Withdrawing.{withdrawn_in}
+use Rattle.directory_judge.specs.declared.change.Withdrawn.{Withdrawn}
 use Rattle.directory_judge.proofs.grounds.Grounds.judge_withdrawal.Goals as goal
 
 pub returns : goal.returns
@@ -17,12 +20,13 @@ returns g c =
     let w = withdrawal_in c.args.withdrawal.now in
     let tags = result_ok (tags_of w.tags) in
     let read = c.in_ok-tags.ensures in
-    let asked = c.in-Some.withdrawn in
-    let some : asked.scopes ≢ [] = λ none. let k : true ≡ false = sym (c.is_empty.ensures.1 none) ∙ c.if-is_empty.false in cc in
+    let asked = arc_value c.in-Some.withdrawn in
+    let same : c.deref.result.now ≡ asked = c.deref.ensures in
+    let some : asked.scopes ≢ [] = λ none. let k : true ≡ false = sym (c.is_empty.ensures.1 (ap (λ (x : Withdrawn). x.scopes) same ∙ none)) ∙ c.if-is_empty.false in cc in
     let url = result_ok (url_of w.entry.url) in
     let scopes = result_ok (scopes_of w.scopes) in
     let is : withdrawn_in on.site url scopes ≡ Some asked =
-    ap (λ (v : Grounds). withdrawn_in v.site url scopes) (sym c.self.view_is) ∙ sym c.in_ok-withdrawn.ensures ∙ c.in-Some.is in
+    ap (λ (v : Grounds). withdrawn_in v.site url scopes) (sym c.self.view_is) ∙ sym c.in_ok-withdrawn.ensures ∙ ap (option_map arc_value) c.in-Some.is in
     IfOk-weaker c.judge_stored.result (λ j. IsJudged on.live j (judged_stored on asked.url asked.scopes)) _
     (λ j. subst (IsJudged on.live j) (sym (judged-asked on (header_in c.args.header.now) w asked c.if-header.false (no_tag tags c.in_ok-tags.tags read (sym c.unwrap_or.ensures ∙ c.if-unwrap_or.false)) (tags-read tags c.in_ok-tags.tags read (c.is_none.ensures ∙ ap not c.if-is_none.false)) is some)))
     c.judge_stored.ensures
