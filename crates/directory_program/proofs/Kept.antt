@@ -8,7 +8,7 @@ use Rattle.std.proofs.lemmas.Grind.{flat_map-append}
 use borrow.Author.Tests.{lt-ltb}
 use Rattle.site_config.specs.Configuring.{config_of, longest_text}
 use Rattle.site_config.specs.declared.fault.ConfigFault.TheVariants.{Range}
-use Rattle.directory_program.specs.Lines.{Line, ended}
+use Rattle.slp_script.specs.Lines.{Line, ended}
 use Rattle.directory_program.specs.Running.{text_of}
 use Rattle.directory_program.specs.Standing.{kept_text, lengthened}
 

@@ -1,5 +1,3 @@
-pub mod OneByOne
-pub mod Unique
 pub mod Known
 pub mod Digits
 pub mod Kept

@@ -1,8 +1,8 @@
 -- What a piece of the script does to a run.
 use Rattle.std.proofs.Common.{◌≡◌, ℕ, ◌+◌, ◌<◌, ◌≤◌, List, [], ◌∷◌, ◌++◌, length, Option, subst, append_assoc}
 use Rattle.std.specs.Io.KnownBytes.{Appends}
-use Rattle.directory_program.specs.Lines.{HasNoLf}
-use Rattle.directory_program.specs.Commands.{longest_line}
+use Rattle.slp_script.specs.Lines.{HasNoLf}
+use Rattle.slp_script.specs.Commands.{longest_line}
 use Rattle.directory_program.specs.Running.{RunsUpTo, RunsPart}
 use Rattle.directory_program.specs.Standing.{TurnsTo}
 use Rattle.directory_program.specs.Feeding.{Stood, Failed, Went}

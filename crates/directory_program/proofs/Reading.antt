@@ -6,13 +6,13 @@ use Rattle.std.specs.List.{flat_map}
 use Rattle.std.proofs.lemmas.List.{append-nil}
 use Rattle.directory_state.proofs.Folding.{AreLive-nil}
 use Rattle.directory_program.specs.Holding.{Holds}
-use Rattle.directory_program.specs.Lines.{Line, ended}
+use Rattle.slp_script.specs.Lines.{Line, ended}
 use Rattle.directory_program.specs.Opening.{opening_session}
 use Rattle.directory_program.specs.Running.{RunsUpTo, RunsWhole, IsUnfinished, beginning}
 use Rattle.directory_program.specs.Standing.{IsOpen}
 use Rattle.directory_program.specs.Feeding.{Stood, Failed, Ends}
 use Rattle.directory_program.specs.Gives.{FaultGives, Gives, KnownFault, KnownGives}
-use Rattle.directory_program.specs.declared.place.Block.{Block}
+use Rattle.directory_program.specs.declared.place.OpenBlock.{OpenBlock}
 use Rattle.directory_program.specs.declared.place.Place.{Place}
 use Rattle.directory_program.specs.declared.fault.RunFault.{RunFault}
 use Rattle.directory_program.specs.declared.fault.RunFault.TheVariants.{Read, Write, Line as AtLine, NoMemory}
@@ -46,7 +46,7 @@ Stood-begin p n b s = record {
     world = beginning;
     prints = (refl, refl);
     holds = rw s Holds-opening;
-    is_open = subst (λ (v : Option Block). IsOpen [] 0 v) (sym b) refl;
+    is_open = subst (λ (v : Option OpenBlock). IsOpen [] 0 v) (sym b) refl;
     number = n;
   };
 }
@@ -88,9 +88,9 @@ Gives-failed r n w v u read out Write c a h = tt
 Gives-failed r n w v u read out NoMemory c a h = (read, out ++ h.0, c, Appends-append w v u out h.0 a h.1, h.2)
 Gives-failed r n w v u read out (AtLine k) c a h = (read, out ++ h.0, c, Appends-append w v u out h.0 a h.1, inl h.2)
 
-unfinished : (b : Option Block) (ls : List Line) (k : ℕ) → IsOpen ls k b → IsUnfinished ls
+unfinished : (b : Option OpenBlock) (ls : List Line) (k : ℕ) → IsOpen ls k b → IsUnfinished ls
 unfinished None ls k h = inl h
-unfinished (Some b) ls k h = inr (h.0, h.1, h.2)
+unfinished (Some b) ls k h = inr (b.block, h.0, h.1, h.2)
 
 Stood-whole : (read out line : List ℕ) (p : Place) → Stood read out line p → RunsWhole read out
 Stood-whole read out line p s = (

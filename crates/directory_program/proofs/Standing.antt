@@ -1,5 +1,5 @@
 -- What one more line does to where a run stands.
-use Rattle.std.proofs.Common.{◌≡◌, ◌≢◌, ℕ, ◌+◌, ◌≤◌, List, [], ◌∷◌, ◌++◌, length, Option, Some, None, Result, Err, refl, sym, ap, subst, ◌∙◌, inl, inr, arith, append_assoc, length-append}
+use Rattle.std.proofs.Common.{◌≡◌, ℕ, ◌+◌, ◌≤◌, List, [], ◌∷◌, ◌++◌, length, Option, Some, None, Result, Err, refl, sym, ap, subst, ◌∙◌, inl, inr, arith, append_assoc, length-append}
 use Rattle.std.specs.Prelude.{IsUtf8, string_bytes, ⊤}
 use Rattle.std.specs.Io.KnownBytes.{Keeps}
 use Rattle.std.specs.Option.{option_map, option_map_or}
@@ -8,17 +8,20 @@ use Rattle.site_config.specs.Configuring.{config_of}
 use Rattle.site_config.specs.declared.config.Config.{Config}
 use Rattle.site_config.specs.declared.fault.ConfigFault.{ConfigFault}
 use Rattle.site_config.specs.declared.fault.ConfigFault.TheVariants.{Range}
-use Rattle.directory_program.specs.Commands.{Command, Single, Configure, Reads, order_of, config_line, dot, longest_line, opened, IsBodyLine, AtLine, AtBody, AtEnd, StopsAt}
+use Rattle.slp_script.specs.Commands.{Command, Single, Text, Reads, order_of, block_of, word_of, dot, longest_line, opened, IsBodyLine, AtLine, AtBody, AtEnd, StopsAt}
 use Rattle.directory_program.specs.Holding.{Holds}
-use Rattle.directory_program.specs.Lines.{Line}
-use Rattle.directory_program.specs.Running.{World, Does, Prints, IsOutput, Configures, beginning, text_of}
-use Rattle.directory_program.specs.Standing.{IsOpen, Stands, Turns, TurnsTo, TurnFailsBy, Begins, Lengthens, lengthened}
+use Rattle.slp_script.specs.Lines.{Line}
+use Rattle.directory_program.specs.Running.{World, Does, Prints, IsOutput, Configures, beginning}
+use Rattle.directory_program.specs.Standing.{IsOpen, Stands, Turns, TurnsTo, TurnFailsBy, Begins, Ends, Lengthens, kept_text, lengthened}
 use Rattle.directory_program.specs.declared.fault.RunFault.{RunFault}
 use Rattle.directory_program.specs.declared.fault.RunFault.TheVariants.{Read, Write, Line as LineFault, NoMemory}
-use Rattle.directory_program.specs.declared.place.Block.{Block}
+use Rattle.directory_program.specs.declared.place.OpenBlock.{OpenBlock}
 use Rattle.directory_program.specs.declared.place.Place.{Place}
 use Rattle.directory_program.proofs.Kept.{lengthened-kept, kept-config}
-use Rattle.directory_program.proofs.OneByOne.{Reads-snoc, All-append}
+use Rattle.slp_script.specs.declared.command.Block.{Block}
+use Rattle.slp_script.specs.declared.command.Block.TheVariants.{Config as Configuration}
+use Rattle.slp_script.proofs.Words.{word-of_block}
+use Rattle.slp_script.proofs.OneByOne.{Reads-snoc, All-append}
 
 pub Prints-snoc : (w : World) (cs : List Command) (out : List ℕ) (mid : World) (c : Command) (now : List ℕ) (v : World) → Prints w cs out mid → Does mid c now v → Prints w (cs ++ c ∷ []) (out ++ now) v
 Prints-snoc w [] out mid c now v h d =
@@ -29,16 +32,21 @@ Prints-snoc w (b ∷ cs) out mid c now v h d =
 Prints-same : (cs : List Command) (out now : List ℕ) (w : World) → Prints beginning cs out w → now ≡ [] → Prints beginning cs (out ++ now) w
 Prints-same cs out now w h none = rw (none, append-nil out) h
 
-IsOpen-begins : (b : Option Block) (l : Line) (k number : ℕ) → l ≡ config_line → number ≡ k + 1 → Begins number b → IsOpen (l ∷ []) k b
-IsOpen-begins None l k number is n h = absurd h
-IsOpen-begins (Some b) l k number is n h = ([], ap (λ (v : Line). v ∷ []) is, tt, h.0 ∙ n, h.1)
+-- the end of a block does what the whole block does
+Does-block : (block : Block) (body : List Line) (w : World) (kept : Option (List ℕ)) (now : List ℕ) (v : World) → kept ≡ kept_text body → Ends block w kept now v → Does w (Text block body) now v
+Does-block Configuration body w kept now v is did =
+    subst (λ (r : Result Config ConfigFault). Configures w.late w r now v) (ap (λ (o : Option (List ℕ)). option_map_or config_of o (Err Range)) is ∙ kept-config body) did
 
-IsOpen-more : (b : Block) (c : Option Block) (ls : List Line) (l : Line) (k : ℕ) → IsOpen ls k (Some b) → IsBodyLine l → Lengthens b l c → IsOpen (ls ++ l ∷ []) k c
+IsOpen-begins : (b : Option OpenBlock) (block : Block) (l : Line) (k number : ℕ) → l ≡ word_of block → number ≡ k + 1 → Begins block number b → IsOpen (l ∷ []) k b
+IsOpen-begins None block l k number is n h = absurd h
+IsOpen-begins (Some b) block l k number is n h = ([], ap (λ (v : Line). v ∷ []) (is ∙ ap word_of (sym h.0)), tt, h.1 ∙ n, h.2)
+
+IsOpen-more : (b : OpenBlock) (c : Option OpenBlock) (ls : List Line) (l : Line) (k : ℕ) → IsOpen ls k (Some b) → IsBodyLine l → Lengthens b l c → IsOpen (ls ++ l ∷ []) k c
 IsOpen-more b None ls l k h is e = absurd e
 IsOpen-more b (Some c) ls l k h is e =
-    (h.0 ++ l ∷ [], rw h.1 refl, All-append IsBodyLine h.0 (l ∷ []) h.2 (is, tt), e.0 ∙ h.3, e.1 ∙ (ap (λ (o : Option (List ℕ)). lengthened o l) h.4 ∙ lengthened-kept h.0 l))
+    (h.0 ++ l ∷ [], rw (h.1, e.0) refl, All-append IsBodyLine h.0 (l ∷ []) h.2 (is, tt), e.1 ∙ h.3, e.2 ∙ (ap (λ (o : Option (List ℕ)). lengthened o l) h.4 ∙ lengthened-kept h.0 l))
 
-Stands-by : (b : Option Block) (ls : List Line) (out : List ℕ) (p : Place) (l now : List ℕ) (q : Place) (before unended : List Line) (cs : List Command) (world : World) → ls ≡ before ++ unended → Reads before cs → Prints beginning cs out world → Holds world p.session → IsOpen unended (length before) b → p.number ≡ length ls → q.number ≡ p.number + 1 → Turns b p l now q → Stands (ls ++ l ∷ []) (out ++ now) q
+Stands-by : (b : Option OpenBlock) (ls : List Line) (out : List ℕ) (p : Place) (l now : List ℕ) (q : Place) (before unended : List Line) (cs : List Command) (world : World) → ls ≡ before ++ unended → Reads before cs → Prints beginning cs out world → Holds world p.session → IsOpen unended (length before) b → p.number ≡ length ls → q.number ≡ p.number + 1 → Turns b p l now q → Stands (ls ++ l ∷ []) (out ++ now) q
 Stands-by None ls out p l now q before unended cs world all reads prints holds is_open number more (inl t) =
     let did = t.2 world holds in
     record {
@@ -50,7 +58,7 @@ Stands-by None ls out p l now q before unended cs world all reads prints holds i
       world = did.0;
       prints = Prints-snoc beginning cs out world (Single t.0) now did.0 prints did.1;
       holds = did.2;
-      is_open = subst (λ (v : Option Block). IsOpen [] (length (before ++ l ∷ [])) v) (sym t.3) refl;
+      is_open = subst (λ (v : Option OpenBlock). IsOpen [] (length (before ++ l ∷ [])) v) (sym t.3) refl;
       number = omega (arith, length-append ls (l ∷ []));
     }
 Stands-by None ls out p l now q before unended cs world all reads prints holds is_open number more (inr t) =
@@ -62,25 +70,24 @@ Stands-by None ls out p l now q before unended cs world all reads prints holds i
       all = rw (all, is_open, append-nil before) refl;
       reads = reads;
       world = world;
-      prints = Prints-same cs out now world prints t.1;
-      holds = rw t.2 holds;
-      is_open = IsOpen-begins q.block l (length before) (p.number + 1) t.0 (omega arith) t.3;
+      prints = Prints-same cs out now world prints t.2;
+      holds = rw t.3 holds;
+      is_open = IsOpen-begins q.block t.0 l (length before) (p.number + 1) (word-of_block l t.0 t.1) (omega arith) t.4;
       number = omega (arith, length-append ls (l ∷ []));
     }
 Stands-by (Some b) ls out p l now q before unended cs world all reads prints holds is_open number more (inl t) =
     let body = is_open.0 in
     let did = t.1 world holds in
-    let read : option_map_or config_of (option_map string_bytes b.text) (Err Range) ≡ config_of (text_of body) = ap (λ (o : Option (List ℕ)). option_map_or config_of o (Err Range)) is_open.4 ∙ kept-config body in
     record {
-      before = before ++ (opened body ++ dot ∷ []);
+      before = before ++ (opened b.block body ++ dot ∷ []);
       unended = [];
-      commands = cs ++ Configure body ∷ [];
+      commands = cs ++ Text b.block body ∷ [];
       all = rw (all, is_open.1, t.0, append-nil, append_assoc) refl;
-      reads = Reads-snoc before cs (opened body ++ dot ∷ []) (Configure body) reads (refl, is_open.2);
+      reads = Reads-snoc before cs (opened b.block body ++ dot ∷ []) (Text b.block body) reads (refl, is_open.2);
       world = did.0;
-      prints = Prints-snoc beginning cs out world (Configure body) now did.0 prints (subst (λ (r : Result Config ConfigFault). Configures world.late world r now did.0) read did.1);
+      prints = Prints-snoc beginning cs out world (Text b.block body) now did.0 prints (Does-block b.block body world (option_map string_bytes b.text) now did.0 is_open.4 did.1);
       holds = did.2;
-      is_open = subst (λ (v : Option Block). IsOpen [] (length (before ++ (opened body ++ dot ∷ []))) v) (sym t.2) refl;
+      is_open = subst (λ (v : Option OpenBlock). IsOpen [] (length (before ++ (opened b.block body ++ dot ∷ []))) v) (sym t.2) refl;
       number = omega (arith, length-append ls (l ∷ []));
     }
 Stands-by (Some b) ls out p l now q before unended cs world all reads prints holds is_open number more (inr t) =
@@ -102,18 +109,18 @@ Stands-turn ls out p l now q s t =
     Stands-by p.block ls out p l now q s.before s.unended s.commands s.world s.all s.reads s.prints s.holds s.is_open s.number t.number t.turns
 
 -- a line at fault, by the block that is open
-abbrev pub IsAtFault : Option Block → Line → Type 0
-IsAtFault None l = (order_of l ≡ None) × (l ≢ config_line)
+abbrev pub IsAtFault : Option OpenBlock → Line → Type 0
+IsAtFault None l = (order_of l ≡ None) × (block_of l ≡ None)
 IsAtFault (Some b) l = ¬ ((length l ≤ longest_line) × IsUtf8 l)
 
 -- what a line that was not carried out leaves of what was written, by the fault
-abbrev pub FailsAs : Option Block → ℕ → Line → Option (List ℕ) → Option (List ℕ) → RunFault → Type 0
+abbrev pub FailsAs : Option OpenBlock → ℕ → Line → Option (List ℕ) → Option (List ℕ) → RunFault → Type 0
 FailsAs b number l old new (LineFault n) = (n ≡ number) × IsAtFault b l × Keeps old new
 FailsAs b number l old new NoMemory = Keeps old new
 FailsAs b number l old new Write = ⊤
 FailsAs b number l old new Read = ⊥
 
-pub fails_as : (b : Option Block) (p : Place) (l : Line) (old new : Option (List ℕ)) (e : RunFault) → TurnFailsBy b p l old new e → FailsAs b (p.number + 1) l old new e
+pub fails_as : (b : Option OpenBlock) (p : Place) (l : Line) (old new : Option (List ℕ)) (e : RunFault) → TurnFailsBy b p l old new e → FailsAs b (p.number + 1) l old new e
 fails_as None p l old new (LineFault n) f = (f.0, (f.1, f.2), f.3)
 fails_as None p l old new NoMemory f = f
 fails_as None p l old new Write f = tt
@@ -123,7 +130,7 @@ fails_as (Some b) p l old new NoMemory f = f
 fails_as (Some b) p l old new Write f = tt
 fails_as (Some b) p l old new Read f = f
 
-Stops-by : (b : Option Block) (ls : List Line) (p : Place) (l : List ℕ) (before unended : List Line) (cs : List Command) (more : List Line) → ls ≡ before ++ unended → Reads before cs → IsOpen unended (length before) b → p.number ≡ length ls → IsAtFault b l → StopsAt (ls ++ l ∷ more) cs (p.number + 1)
+Stops-by : (b : Option OpenBlock) (ls : List Line) (p : Place) (l : List ℕ) (before unended : List Line) (cs : List Command) (more : List Line) → ls ≡ before ++ unended → Reads before cs → IsOpen unended (length before) b → p.number ≡ length ls → IsAtFault b l → StopsAt (ls ++ l ∷ more) cs (p.number + 1)
 Stops-by None ls p l before unended cs more all reads is_open number fault =
     let same : length before ≡ length ls = rw (all, is_open, append-nil before) refl in
     record {
@@ -140,11 +147,11 @@ Stops-by (Some b) ls p l before unended cs more all reads is_open number fault =
     let size : length ls ≡ length before + (length body + 1) = rw (all, length-append, is_open.1) (omega arith) in
     record {
       before = before;
-      stuck = opened body ++ l ∷ more;
+      stuck = opened b.block body ++ l ∷ more;
       all = rw (all, is_open.1, append_assoc) refl;
       reads = reads;
       place = length body + 2;
-      is_stuck = AtBody body l more refl is_open.2 fault refl;
+      is_stuck = AtBody b.block body l more refl is_open.2 fault refl;
       number = omega arith;
     }
 
@@ -153,30 +160,30 @@ pub Stands-fault : (ls : List Line) (out : List ℕ) (p : Place) (l : List ℕ) 
 Stands-fault ls out p l more s f =
     (s.commands, Stops-by p.block ls p l s.before s.unended s.commands more s.all s.reads s.is_open s.number f, (s.world, s.prints))
 
-ends_within : (o : Option Block) (b : Block) (ls before unended : List Line) (cs : List Command) → o ≡ Some b → ls ≡ before ++ unended → Reads before cs → IsOpen unended (length before) o → StopsAt ls cs b.begun
+ends_within : (o : Option OpenBlock) (b : OpenBlock) (ls before unended : List Line) (cs : List Command) → o ≡ Some b → ls ≡ before ++ unended → Reads before cs → IsOpen unended (length before) o → StopsAt ls cs b.begun
 ends_within None b ls before unended cs e all reads is_open = absurd cc
 ends_within (Some c) b ls before unended cs e all reads is_open =
     let same : b ≡ c = cc in
     record {
       before = before;
-      stuck = opened is_open.0;
+      stuck = opened c.block is_open.0;
       all = rw (all, is_open.1) refl;
       reads = reads;
       place = 1;
-      is_stuck = AtEnd is_open.0 refl is_open.2 refl;
-      number = ap (λ (x : Block). x.begun) same ∙ is_open.3;
+      is_stuck = AtEnd c.block is_open.0 refl is_open.2 refl;
+      number = ap (λ (x : OpenBlock). x.begun) same ∙ is_open.3;
     }
 
 -- the lines end within a block
-pub Stands-open : (ls : List Line) (out : List ℕ) (p : Place) (b : Block) → Stands ls out p → p.block ≡ Some b → (cs : List Command) × StopsAt ls cs b.begun × IsOutput cs out
+pub Stands-open : (ls : List Line) (out : List ℕ) (p : Place) (b : OpenBlock) → Stands ls out p → p.block ≡ Some b → (cs : List Command) × StopsAt ls cs b.begun × IsOutput cs out
 Stands-open ls out p b s e =
     (s.commands, ends_within p.block b ls s.before s.unended s.commands e s.all s.reads s.is_open, (s.world, s.prints))
 
-ends_outside : (o : Option Block) (ls before unended : List Line) (cs : List Command) → o ≡ None → ls ≡ before ++ unended → Reads before cs → IsOpen unended (length before) o → Reads ls cs
+ends_outside : (o : Option OpenBlock) (ls before unended : List Line) (cs : List Command) → o ≡ None → ls ≡ before ++ unended → Reads before cs → IsOpen unended (length before) o → Reads ls cs
 ends_outside None ls before unended cs e all reads is_open = rw (all, is_open, append-nil before) reads
 ends_outside (Some b) ls before unended cs e all reads is_open = absurd cc
 
--- the lines end behind a command
+-- the lines end after a command
 pub Stands-closed : (ls : List Line) (out : List ℕ) (p : Place) → Stands ls out p → p.block ≡ None → (cs : List Command) × Reads ls cs × IsOutput cs out
 Stands-closed ls out p s e =
     (s.commands, ends_outside p.block ls s.before s.unended s.commands e s.all s.reads s.is_open, (s.world, s.prints))

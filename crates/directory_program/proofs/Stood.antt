@@ -5,13 +5,14 @@ use Rattle.std.proofs.lemmas.List.{append-nil}
 use Rattle.std.proofs.lemmas.Bool.{ne_eqb}
 use Rattle.std.proofs.lemmas.Grind.{flat_map-append}
 use borrow.Author.Tests.{lt-ltb}
-use Rattle.directory_program.specs.Lines.{Line, onto, lines_of, ended, HasNoLf}
-use Rattle.directory_program.specs.Commands.{order_of, longest_line}
-use Rattle.directory_program.proofs.OneByOne.{lines_of-last, lines_of-ended, lines_of-append, All-append}
+use Rattle.slp_script.specs.Lines.{Line, onto, lines_of, ended, HasNoLf}
+use Rattle.slp_script.specs.Commands.{order_of, longest_line}
+use Rattle.slp_script.proofs.Words.{too_long-block}
+use Rattle.slp_script.proofs.OneByOne.{lines_of-last, lines_of-ended, lines_of-append, All-append}
 use Rattle.directory_program.specs.Running.{Run, RunsUpTo, RunsPart}
 use Rattle.directory_program.specs.Standing.{TurnsTo}
 use Rattle.directory_program.specs.Feeding.{Stood}
-use Rattle.directory_program.specs.declared.place.Block.{Block}
+use Rattle.directory_program.specs.declared.place.OpenBlock.{OpenBlock}
 use Rattle.directory_program.specs.declared.place.Place.{Place}
 use Rattle.directory_program.proofs.Standing.{IsAtFault, Stands-turn, Stands-fault, Stands-open, Stands-closed}
 
@@ -78,8 +79,8 @@ too_long-order : (l : List ℕ) → longest_line < length l → order_of l ≡ N
 unfolding order_of
 too_long-order l h = rw (lt-ltb _ _ h) refl
 
-too_long-fault : (block : Option Block) (l : List ℕ) → longest_line < length l → IsAtFault block l
-too_long-fault None l h = (too_long-order l h, λ e. absurd (omega (arith, ap length e)))
+too_long-fault : (block : Option OpenBlock) (l : List ℕ) → longest_line < length l → IsAtFault block l
+too_long-fault None l h = (too_long-order l h, too_long-block l h)
 too_long-fault (Some b) l h = λ k. absurd (omega (arith, k.0))
 
 lines_of-within : (a more : List ℕ) → HasNoLf a → 0 < length a → (tail : List ℕ) × (rest : List Line) × (lines_of (a ++ more) ≡ (a ++ tail) ∷ rest)
@@ -111,7 +112,7 @@ Stood-closed read out p s e =
     (r.0, rw (ends-empty read out p s) r.1, r.2)
 
 -- all is read, and the run stands within a block
-pub Stood-open : (read out : List ℕ) (p : Place) (b : Block) → Stood read out [] p → p.block ≡ Some b → RunsUpTo read b.begun out
+pub Stood-open : (read out : List ℕ) (p : Place) (b : OpenBlock) → Stood read out [] p → p.block ≡ Some b → RunsUpTo read b.begun out
 Stood-open read out p b s e =
     let r = Stands-open s.lines out p b s.stands e in
     (r.0, rw (ends-empty read out p s) r.1, r.2)
@@ -122,7 +123,7 @@ Stood-closed_last read out line p now q s some t e =
     let r = Stands-closed (s.lines ++ line ∷ []) (out ++ now) q (Stands-turn s.lines out p line now q s.stands t) e in
     (r.0, rw (ends-last read out line p s some) r.1, r.2)
 
-pub Stood-open_last : (read out line : List ℕ) (p : Place) (now : List ℕ) (q : Place) (b : Block) → Stood read out line p → 0 < length line → TurnsTo p line now q → q.block ≡ Some b → RunsUpTo read b.begun (out ++ now)
+pub Stood-open_last : (read out line : List ℕ) (p : Place) (now : List ℕ) (q : Place) (b : OpenBlock) → Stood read out line p → 0 < length line → TurnsTo p line now q → q.block ≡ Some b → RunsUpTo read b.begun (out ++ now)
 Stood-open_last read out line p now q b s some t e =
     let r = Stands-open (s.lines ++ line ∷ []) (out ++ now) q b (Stands-turn s.lines out p line now q s.stands t) e in
     (r.0, rw (ends-last read out line p s some) r.1, r.2)

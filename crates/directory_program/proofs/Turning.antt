@@ -3,11 +3,12 @@ use Rattle.std.proofs.Common.{◌≡◌, ℕ, ◌+◌, true, List, [], Option, S
 use Rattle.std.specs.Prelude.{MatchResult}
 use Rattle.directory_answers.specs.Verdicts.{followed}
 use Rattle.slp_answer.specs.declared.answer.Sent.{Sent}
-use Rattle.directory_program.specs.Commands.{Single, Blank, At, From, Udp, Open, Tcp}
+use Rattle.slp_script.specs.Commands.{Single}
+use Rattle.slp_script.specs.declared.command.Order.TheVariants.{Blank, At, From, Udp, Open, Tcp}
 use Rattle.directory_program.specs.Holding.{Holds, Takes, TakesPiece, Acts, Meets}
 use Rattle.directory_program.specs.Running.{World, lacking, shown, new_stream, longest_reply, begun}
 use Rattle.directory_program.specs.Standing.{Turns, TurnsTo, TurnsOutside, TurnsInside}
-use Rattle.directory_program.specs.declared.place.Block.{Block}
+use Rattle.directory_program.specs.declared.place.OpenBlock.{OpenBlock}
 use Rattle.directory_program.specs.declared.place.Place.{Place}
 use Rattle.directory_program.specs.declared.session.Session.{Session}
 
@@ -47,11 +48,11 @@ Meets-refused limit s bytes t same = λ w h.
 
 pub TurnsTo-outside : (p : Place) (l now : List ℕ) (q : Place) → p.block ≡ None → q.number ≡ p.number + 1 → TurnsOutside p.session l (p.number + 1) now q.session q.block → TurnsTo p l now q
 TurnsTo-outside p l now q off number turns =
-    record { number = number; turns = subst (λ (b : Option Block). Turns b p l now q) (sym off) turns }
+    record { number = number; turns = subst (λ (b : Option OpenBlock). Turns b p l now q) (sym off) turns }
 
-pub TurnsTo-inside : (p : Place) (l now : List ℕ) (q : Place) (b : Block) → p.block ≡ Some b → q.number ≡ p.number + 1 → TurnsInside p.session l b now q.session q.block → TurnsTo p l now q
+pub TurnsTo-inside : (p : Place) (l now : List ℕ) (q : Place) (b : OpenBlock) → p.block ≡ Some b → q.number ≡ p.number + 1 → TurnsInside p.session l b now q.session q.block → TurnsTo p l now q
 TurnsTo-inside p l now q b within number turns =
-    record { number = number; turns = subst (λ (o : Option Block). Turns o p l now q) (sym within) turns }
+    record { number = number; turns = subst (λ (o : Option OpenBlock). Turns o p l now q) (sym within) turns }
 
 -- more is known where it ended well
 pub MatchResult-more : {A E : Type 0} (r : Result A E) (P Q : A → Type 0) (R : E → Type 0) → ((x : A) → P x → Q x) → MatchResult r P R → MatchResult r Q R

@@ -2,8 +2,8 @@
 use Rattle.std.specs.Prelude.{◌≡◌, ℕ, ◌≤◌, List, ◌++◌, length, Option, Result, MatchResult, ⊤}
 use Rattle.std.specs.List.{AllByRecursion, flat_map}
 use Rattle.std.specs.Io.KnownBytes.{Appends}
-use Rattle.directory_program.specs.Commands.{longest_line}
-use Rattle.directory_program.specs.Lines.{Line, ended, HasNoLf}
+use Rattle.slp_script.specs.Commands.{longest_line}
+use Rattle.slp_script.specs.Lines.{Line, ended, HasNoLf}
 use Rattle.directory_program.specs.Running.{Run, RunsUpTo, RunsPart}
 use Rattle.directory_program.specs.Standing.{Stands}
 use Rattle.directory_program.specs.declared.place.Place.{Place}

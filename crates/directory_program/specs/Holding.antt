@@ -13,7 +13,7 @@ use Rattle.slp_answer.specs.Telling.{Tells}
 use Rattle.slp_answer.specs.declared.answer.Sent.{Sent}
 use Rattle.slp_stream.specs.Cutting.{front_of, IsCut}
 use Rattle.slp_stream.specs.Framing.{Frames}
-use Rattle.directory_program.specs.Commands.{Command}
+use Rattle.slp_script.specs.Commands.{Command}
 use Rattle.directory_program.specs.Running.{World, opening_of, call_of, Answers, AnswersAll, Pieces, Does, closed, fault_number, place_of, end_told, end_refused, longest_on_stream}
 use Rattle.site_config.specs.declared.config.Config.{Config}
 use Rattle.site_config.specs.declared.fault.ConfigFault.{ConfigFault}

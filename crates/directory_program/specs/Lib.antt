@@ -1,11 +1,8 @@
-pub mod Commands
 pub mod Feeding
 pub mod Gives
 pub mod Holding
-pub mod Lines
 pub mod Opening
 pub mod Reporting
 pub mod Running
-pub mod Saying
 pub mod Sites
 pub mod Standing

@@ -16,8 +16,11 @@ use Rattle.slp_stream.specs.Cutting.{Front, Wanting, Whole, Bad, front_of, IsCut
 use Rattle.slp_stream.specs.Framing.{Frames}
 use Rattle.slp_stream.specs.declared.fault.FrameFault.{FrameFault}
 use Rattle.slp_stream.specs.declared.fault.FrameFault.TheVariants.{TooLong, TooShort, NoMemory}
-use Rattle.directory_program.specs.Commands.{Blank, At, From, Udp, Open, Tcp, Tidy, Command, Single, Configure, Reads, StopsAt, opened, IsBody}
-use Rattle.directory_program.specs.Lines.{Line, lines_of, ended, HasNoLf}
+use Rattle.slp_script.specs.Commands.{Command, Single, Text, Reads, StopsAt, opened, IsBody}
+use Rattle.slp_script.specs.declared.command.Block.{Block}
+use Rattle.slp_script.specs.declared.command.Block.TheVariants.{Config as Configuration}
+use Rattle.slp_script.specs.declared.command.Order.TheVariants as order
+use Rattle.slp_script.specs.Lines.{Line, lines_of, ended, HasNoLf}
 use Rattle.directory_program.specs.Sites.{opening_place}
 use Rattle.site_config.specs.Configuring.{config_of}
 use Rattle.site_config.specs.declared.config.Config.{Config}
@@ -147,14 +150,14 @@ Configures false w (Err e) out v = (out ≡ codes "! config " ++ decimal (fault_
 
 -- what a command may write, and what it leaves
 abbrev pub Does : World → Command → List ℕ → World → Type 0
-Does w (Single Blank) out v = (out ≡ []) × (v ≡ w)
-Does w (Single (At m)) out v = (out ≡ []) × (v ≡ record w { moment = m })
-Does w (Single (From a)) out v = (out ≡ []) × (v ≡ record w { asker = a })
-Does w (Single (Udp bytes)) out v = Answers longest_reply (begun w) bytes out v
-Does w (Single Open) out v = (out ≡ []) × (v ≡ record w { stream = new_stream })
-Does w (Single (Tcp bytes)) out v = MatchOption w.stream.refused (Pieces (begun w) bytes out v) (λ _. (out ≡ closed) × (v ≡ begun w))
-Does w (Single Tidy) out v = (out ≡ codes "# sweep" ++ 10 ∷ []) × (v ≡ swept w)
-Does w (Configure body) out v = Configures w.late w (config_of (text_of body)) out v
+Does w (Single order.Blank) out v = (out ≡ []) × (v ≡ w)
+Does w (Single (order.At m)) out v = (out ≡ []) × (v ≡ record w { moment = m })
+Does w (Single (order.From a)) out v = (out ≡ []) × (v ≡ record w { asker = a })
+Does w (Single (order.Udp bytes)) out v = Answers longest_reply (begun w) bytes out v
+Does w (Single order.Open) out v = (out ≡ []) × (v ≡ record w { stream = new_stream })
+Does w (Single (order.Tcp bytes)) out v = MatchOption w.stream.refused (Pieces (begun w) bytes out v) (λ _. (out ≡ closed) × (v ≡ begun w))
+Does w (Single order.Sweep) out v = (out ≡ codes "# sweep" ++ 10 ∷ []) × (v ≡ swept w)
+Does w (Text Configuration body) out v = Configures w.late w (config_of (text_of body)) out v
 
 -- what these commands may write one after the other, and what they leave
 abbrev pub Prints : World → List Command → List ℕ → World → Type 0
@@ -179,7 +182,7 @@ RunsPart read out = (cs : List Command) × (before rest : List Line) × (lines_o
 
 -- a block that is begun, or nothing
 abbrev pub IsUnfinished : List Line → Type 0
-IsUnfinished ls = (ls ≡ []) ⊎ ((body : List Line) × (ls ≡ opened body) × IsBody body)
+IsUnfinished ls = (ls ≡ []) ⊎ ((block : Block) × (body : List Line) × (ls ≡ opened block body) × IsBody body)
 
 -- these are all commands of what was read, up to a block and a line that are begun, and this is an output of theirs
 abbrev pub RunsWhole : List ℕ → List ℕ → Type 0

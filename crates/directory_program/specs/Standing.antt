@@ -1,14 +1,17 @@
 -- Where a run stands between two lines.
-use Rattle.std.specs.Prelude.{◌≡◌, ◌≢◌, ◌⊎◌, ℕ, ◌+◌, ◌≤◌, nat_le, List, [], ◌++◌, length, Option, Some, None, Err, IsUtf8, string_bytes, if◌then◌else◌, ⊤}
+use Rattle.std.specs.Prelude.{◌≡◌, ◌⊎◌, ℕ, ◌+◌, ◌≤◌, nat_le, List, [], ◌++◌, length, Option, Some, None, Err, IsUtf8, string_bytes, if◌then◌else◌, ⊤}
 use Rattle.std.specs.Option.{option_map, option_map_or}
 use Rattle.site_config.specs.Configuring.{config_of, longest_text}
 use Rattle.site_config.specs.declared.fault.ConfigFault.TheVariants.{Range}
 use Rattle.std.specs.Io.KnownBytes.{Keeps}
-use Rattle.directory_program.specs.Commands.{Command, Order, Single, Reads, order_of, opened, IsBody, IsBodyLine, config_line, dot, longest_line}
+use Rattle.slp_script.specs.Commands.{Command, Single, Reads, order_of, block_of, opened, IsBody, IsBodyLine, dot, longest_line}
+use Rattle.slp_script.specs.declared.command.Block.{Block}
+use Rattle.slp_script.specs.declared.command.Block.TheVariants.{Config as Configuration}
+use Rattle.slp_script.specs.declared.command.Order.{Order}
 use Rattle.directory_program.specs.Holding.{Holds, Acts}
-use Rattle.directory_program.specs.Lines.{Line, ended}
+use Rattle.slp_script.specs.Lines.{Line, ended}
 use Rattle.directory_program.specs.Running.{World, Prints, Configures, beginning, text_of}
-use Rattle.directory_program.specs.declared.place.Block.{Block}
+use Rattle.directory_program.specs.declared.place.OpenBlock.{OpenBlock}
 use Rattle.directory_program.specs.declared.place.Place.{Place}
 use Rattle.directory_program.specs.declared.session.Session.{Session}
 use Rattle.directory_program.specs.declared.fault.RunFault.{RunFault}
@@ -19,9 +22,9 @@ abbrev pub kept_text : List Line → Option (List ℕ)
 kept_text body = if nat_le (length (text_of body)) longest_text then Some (text_of body) else None
 
 -- these are the lines of the block that is open, behind k lines
-abbrev pub IsOpen : List Line → ℕ → Option Block → Type 0
+abbrev pub IsOpen : List Line → ℕ → Option OpenBlock → Type 0
 IsOpen ls k None = ls ≡ []
-IsOpen ls k (Some b) = (body : List Line) × (ls ≡ opened body) × IsBody body × (b.begun ≡ k + 1) × (option_map string_bytes b.text ≡ kept_text body)
+IsOpen ls k (Some b) = (body : List Line) × (ls ≡ opened b.block body) × IsBody body × (b.begun ≡ k + 1) × (option_map string_bytes b.text ≡ kept_text body)
 
 -- the lines brought the run here, and this was written
 pub record Stands (ls : List Line) (out : List ℕ) (p : Place) : Type 0 where
@@ -41,34 +44,38 @@ abbrev pub lengthened : Option (List ℕ) → Line → Option (List ℕ)
 lengthened None l = None
 lengthened (Some text) l = if nat_le (length (text ++ ended l)) longest_text then Some (text ++ ended l) else None
 
--- what the end of a block may write and make of a session, where this is kept of its text: one that is too long is out of its range
-abbrev pub Closes : Session → Option (List ℕ) → List ℕ → Session → Type 0
-Closes s kept now t = (w : World) → Holds w s → (v : World) × Configures w.late w (option_map_or config_of kept (Err Range)) now v × Holds v t
+-- what the end of a block may write, and what it leaves, where this is kept of its text: a configuration that is too long is out of its range
+abbrev pub Ends : Block → World → Option (List ℕ) → List ℕ → World → Type 0
+Ends Configuration w kept now v = Configures w.late w (option_map_or config_of kept (Err Range)) now v
+
+-- the same of a session
+abbrev pub Closes : Session → Block → Option (List ℕ) → List ℕ → Session → Type 0
+Closes s block kept now t = (w : World) → Holds w s → (v : World) × Ends block w kept now v × Holds v t
 
 -- a block that is just begun
-abbrev pub Begins : ℕ → Option Block → Type 0
-Begins number None = ⊥
-Begins number (Some b) = (b.begun ≡ number) × (option_map string_bytes b.text ≡ Some [])
+abbrev pub Begins : Block → ℕ → Option OpenBlock → Type 0
+Begins block number None = ⊥
+Begins block number (Some b) = (b.block ≡ block) × (b.begun ≡ number) × (option_map string_bytes b.text ≡ Some [])
 
 -- a block with one line more
-abbrev pub Lengthens : Block → Line → Option Block → Type 0
+abbrev pub Lengthens : OpenBlock → Line → Option OpenBlock → Type 0
 Lengthens b l None = ⊥
-Lengthens b l (Some c) = (c.begun ≡ b.begun) × (option_map string_bytes c.text ≡ lengthened (option_map string_bytes b.text) l)
+Lengthens b l (Some c) = (c.block ≡ b.block) × (c.begun ≡ b.begun) × (option_map string_bytes c.text ≡ lengthened (option_map string_bytes b.text) l)
 
 -- what a line of this number outside a block may write and make of a session, and the block that it begins
-abbrev pub TurnsOutside : Session → Line → ℕ → List ℕ → Session → Option Block → Type 0
-TurnsOutside s l number now t block =
-    ((order : Order) × (order_of l ≡ Some order) × Acts s (Single order) now t × (block ≡ None))
-    ⊎ ((l ≡ config_line) × (now ≡ []) × (t ≡ s) × Begins number block)
+abbrev pub TurnsOutside : Session → Line → ℕ → List ℕ → Session → Option OpenBlock → Type 0
+TurnsOutside s l number now t left =
+    ((order : Order) × (order_of l ≡ Some order) × Acts s (Single order) now t × (left ≡ None))
+    ⊎ ((block : Block) × (block_of l ≡ Some block) × (now ≡ []) × (t ≡ s) × Begins block number left)
 
--- what a line inside a block may write and make of a session, and what of the block is open behind it
-abbrev pub TurnsInside : Session → Line → Block → List ℕ → Session → Option Block → Type 0
-TurnsInside s l b now t block =
-    ((l ≡ dot) × Closes s (option_map string_bytes b.text) now t × (block ≡ None))
-    ⊎ (IsBodyLine l × (now ≡ []) × (t ≡ s) × Lengthens b l block)
+-- what a line inside a block may write and make of a session, and what of the block is open after it
+abbrev pub TurnsInside : Session → Line → OpenBlock → List ℕ → Session → Option OpenBlock → Type 0
+TurnsInside s l b now t left =
+    ((l ≡ dot) × Closes s b.block (option_map string_bytes b.text) now t × (left ≡ None))
+    ⊎ (IsBodyLine l × (now ≡ []) × (t ≡ s) × Lengthens b l left)
 
 -- what a line may write and leave, by the block that is open
-abbrev pub Turns : Option Block → Place → Line → List ℕ → Place → Type 0
+abbrev pub Turns : Option OpenBlock → Place → Line → List ℕ → Place → Type 0
 Turns None p l now q = TurnsOutside p.session l (p.number + 1) now q.session q.block
 Turns (Some b) p l now q = TurnsInside p.session l b now q.session q.block
 
@@ -79,7 +86,7 @@ pub record TurnsTo (p : Place) (l : Line) (now : List ℕ) (q : Place) : Type 0 
 
 -- what a line outside a block that was not carried out leaves of what was written
 abbrev pub OutsideFails : Line → ℕ → Option (List ℕ) → Option (List ℕ) → RunFault → Type 0
-OutsideFails l number old new (AtLine n) = (n ≡ number) × (order_of l ≡ None) × (l ≢ config_line) × Keeps old new
+OutsideFails l number old new (AtLine n) = (n ≡ number) × (order_of l ≡ None) × (block_of l ≡ None) × Keeps old new
 OutsideFails l number old new NoMemory = Keeps old new
 OutsideFails l number old new Write = ⊤
 OutsideFails l number old new Read = ⊥
@@ -92,7 +99,7 @@ InsideFails l number old new Write = ⊤
 InsideFails l number old new Read = ⊥
 
 -- the same, by the block that is open
-abbrev pub TurnFailsBy : Option Block → Place → Line → Option (List ℕ) → Option (List ℕ) → RunFault → Type 0
+abbrev pub TurnFailsBy : Option OpenBlock → Place → Line → Option (List ℕ) → Option (List ℕ) → RunFault → Type 0
 TurnFailsBy None p l old new e = OutsideFails l (p.number + 1) old new e
 TurnFailsBy (Some b) p l old new e = InsideFails l (p.number + 1) old new e
 

@@ -1,12 +1,12 @@
 ghost use Rattle.std.specs.Prelude.{◌≡◌, ◌≤◌, ◌<◌, ◌+◌, ◌^◌, ◌++◌, ◌⊎◌, ℕ, List, length, vec_len, MatchOption, OnOk, IfErr};
-ghost use Rattle.directory_program.specs.Commands.{longest_line};
+ghost use Rattle.slp_script.specs.Commands.{longest_line};
 ghost use Rattle.directory_program.specs.Feeding.{Stood, Fed, Ends};
 ghost use Rattle.directory_program.specs.declared.fault.RunFault.TheVariants.{Line as AtLine, NoMemory as Lacking};
 
 use crate::fault::RunFault;
 use crate::place::Place;
-use crate::script::LONGEST_LINE;
 use slp_answer::Answer;
+use slp_script::LONGEST_LINE;
 use slp_text::cut;
 use std::alloc::Global;
 use std::io::Write;

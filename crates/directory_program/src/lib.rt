@@ -3,19 +3,16 @@
 
 mod fault;
 mod feeding;
-pub mod laws;
 mod meeting;
 mod place;
 mod printing;
 mod program;
 mod running;
-mod script;
 mod session;
 mod streaming;
 
 pub use fault::RunFault;
-pub use place::{Block, Place};
+pub use place::{OpenBlock, Place};
 pub use program::replay_run;
 pub use running::{READS, Replay};
-pub use script::{LONGEST_DATAGRAM, LONGEST_LINE, Said, read_line};
 pub use session::Session;

@@ -1,28 +1,30 @@
 ghost use Rattle.std.specs.Prelude.{◌≡◌, ◌≤◌, ◌<◌, ◌+◌, ◌^◌, ◌⊎◌, ℕ, List, OnOk, IfOk, MatchResult, string_bytes, length};
 ghost use Rattle.std.specs.Io.KnownBytes.{Appends, Keeps};
 ghost use Rattle.std.specs.Option.{option_map, option_copied};
-ghost use Rattle.directory_program.specs.Commands.{longest_line};
-ghost use Rattle.directory_program.specs.Commands.{Single, Udp as Datagram, Tcp as Piece, Tidy as Sweeping};
+ghost use Rattle.slp_script.specs.Commands.{longest_line, Single};
+ghost use Rattle.slp_script.specs.declared.command.Block.TheVariants.{Config as Configuration};
+ghost use Rattle.slp_script.specs.declared.command.Order.TheVariants.{Udp as Datagram, Tcp as Piece, Sweep as Sweeping};
 ghost use Rattle.directory_program.specs.Holding.{Acts, fault_told, config_told};
 ghost use Rattle.directory_program.specs.Standing.{Closes, lengthened, TurnsOutside, TurnsInside, OutsideFails, InsideFails, TurnsTo, TurnFails};
 ghost use Rattle.directory_program.specs.declared.fault.RunFault.TheVariants.{Write as Unwritten, NoMemory as Lacking};
 
 use crate::fault::RunFault;
 use crate::meeting::meet;
-use crate::script::{Said, read_line};
 use crate::session::{LONGEST_ON_STREAM, LONGEST_REPLY, Session};
 use crate::streaming::take_piece;
 use access_rules::Addr;
 use site_config::{ConfigFault, LONGEST_CONFIG};
 use slp_answer::Answer;
+use slp_script::{Block, Order, Reading, read_line};
 use slp_stream::Framer;
-use slp_text::NoMemory;
+use slp_text::{NoMemory, Row};
 use std::alloc::Global;
 use std::io::{self, Write};
 
 /// The block that is open.
 #[derive(Drop)]
-pub struct Block {
+pub struct OpenBlock {
+    pub block: Block,
     /// The line that began it.
     pub begun: u64,
     /// Its lines so far, each with its LF; nothing where they are longer than a configuration may be.
@@ -34,7 +36,7 @@ pub struct Block {
 pub struct Place {
     /// The lines so far.
     pub number: u64,
-    pub block: Option<Block>,
+    pub block: Option<OpenBlock>,
     pub session: Session,
 }
 
@@ -75,15 +77,15 @@ fn print_told<W: Write>(told: Result<(), ConfigFault>, writer: &mut W) -> io::Re
     }
 }
 
-// Ends a block of which this text is kept.
-fn close<W: Write>(
+// Ends a configuration of which this text is kept.
+fn close_config<W: Write>(
     session: &mut Session,
     alloc: Global,
     text: Option<&str>,
     writer: &mut W,
 ) -> Result<(), RunFault>
     ensures { MatchResult result
-        (λ _. (now : List ℕ) × Appends (W.contents writer.old) (W.contents writer.new) now × Closes session.old (option_copied text.entry) now session.new)
+        (λ _. (now : List ℕ) × Appends (W.contents writer.old) (W.contents writer.new) now × Closes session.old Configuration (option_copied text.entry) now session.new)
         (λ e. (e ≡ Unwritten) ⊎ ((e ≡ Lacking) × Keeps (W.contents writer.old) (W.contents writer.new))) }
 {
     let written = if session.late {
@@ -97,16 +99,33 @@ fn close<W: Write>(
     }
 }
 
+// Ends a block of which this text is kept.
+fn close<W: Write>(
+    session: &mut Session,
+    alloc: Global,
+    block: Block,
+    text: Option<&str>,
+    writer: &mut W,
+) -> Result<(), RunFault>
+    ensures { MatchResult result
+        (λ _. (now : List ℕ) × Appends (W.contents writer.old) (W.contents writer.new) now × Closes session.old block (option_copied text.entry) now session.new)
+        (λ e. (e ≡ Unwritten) ⊎ ((e ≡ Lacking) × Keeps (W.contents writer.old) (W.contents writer.new))) }
+{
+    match block {
+        Block::Config => close_config(session, alloc, text, writer),
+    }
+}
+
 // Answers a datagram, after which it is too late for another site.
 fn take_datagram<W: Write>(
     session: &mut Session,
     alloc: Global,
-    bytes: Vec<u8>,
+    bytes: Row<u8>,
     answer: &mut Answer,
     writer: &mut W,
 ) -> Result<(), RunFault>
     ensures { MatchResult result
-        (λ _. (now : List ℕ) × Appends (W.contents writer.old) (W.contents writer.new) now × Acts session.old (Single (Datagram bytes.items)) now session.new)
+        (λ _. (now : List ℕ) × Appends (W.contents writer.old) (W.contents writer.new) now × Acts session.old (Single (Datagram bytes)) now session.new)
         (λ e. e ≡ Unwritten) }
 {
     session.late = true;
@@ -124,12 +143,12 @@ fn take_datagram<W: Write>(
 fn take_stream<W: Write>(
     session: &mut Session,
     alloc: Global,
-    bytes: Vec<u8>,
+    bytes: Row<u8>,
     answer: &mut Answer,
     writer: &mut W,
 ) -> Result<(), RunFault>
     ensures { MatchResult result
-        (λ _. (now : List ℕ) × Appends (W.contents writer.old) (W.contents writer.new) now × Acts session.old (Single (Piece bytes.items)) now session.new)
+        (λ _. (now : List ℕ) × Appends (W.contents writer.old) (W.contents writer.new) now × Acts session.old (Single (Piece bytes)) now session.new)
         (λ e. (e ≡ Unwritten) ⊎ ((e ≡ Lacking) × Keeps (W.contents writer.old) (W.contents writer.new))) }
 {
     session.late = true;
@@ -149,6 +168,30 @@ fn sweep<W: Write>(session: &mut Session, writer: &mut W) -> Result<(), RunFault
     }
 }
 
+// Carries out a command of one line.
+fn carry_out<W: Write>(
+    session: &mut Session,
+    alloc: Global,
+    order: Order,
+    answer: &mut Answer,
+    writer: &mut W,
+) -> Result<(), RunFault>
+    ensures { MatchResult result
+        (λ _. (now : List ℕ) × Appends (W.contents writer.old) (W.contents writer.new) now × Acts session.old (Single order) now session.new)
+        (λ e. (e ≡ Unwritten) ⊎ ((e ≡ Lacking) × Keeps (W.contents writer.old) (W.contents writer.new))) }
+{
+    match order {
+        Order::Blank => {}
+        Order::At(moment) => session.moment = moment,
+        Order::From(asker) => session.asker = Addr(asker),
+        Order::Udp(bytes) => take_datagram(session, alloc, bytes, answer, writer)?,
+        Order::Open => session.stream = Framer::new(alloc, LONGEST_ON_STREAM),
+        Order::Tcp(bytes) => take_stream(session, alloc, bytes, answer, writer)?,
+        Order::Sweep => sweep(session, writer)?,
+    }
+    Ok(())
+}
+
 // Carries out a line outside a block: the block that it begins, if it begins one, at this number.
 fn turn_outside<W: Write>(
     session: &mut Session,
@@ -157,30 +200,27 @@ fn turn_outside<W: Write>(
     number: u64,
     answer: &mut Answer,
     writer: &mut W,
-) -> Result<Option<Block>, RunFault>
+) -> Result<Option<OpenBlock>, RunFault>
     requires short { length line.now ≤ longest_line }
     ensures { MatchResult result
-        (λ block. (now : List ℕ) × Appends (W.contents writer.old) (W.contents writer.new) now × TurnsOutside session.old line.now number now session.new block)
+        (λ left. (now : List ℕ) × Appends (W.contents writer.old) (W.contents writer.new) now × TurnsOutside session.old line.now number now session.new left)
         (OutsideFails line.now number (W.contents writer.old) (W.contents writer.new)) }
 {
     match read_line(alloc, line)? {
-        Said::Blank => {}
-        Said::At(moment) => session.moment = moment,
-        Said::From(asker) => session.asker = Addr(asker),
-        Said::Udp(bytes) => take_datagram(session, alloc, bytes, answer, writer)?,
-        Said::Open => session.stream = Framer::new(alloc, LONGEST_ON_STREAM),
-        Said::Tcp(bytes) => take_stream(session, alloc, bytes, answer, writer)?,
-        Said::Tidy => sweep(session, writer)?,
-        Said::Opens => {
+        Reading::Order(order) => {
+            carry_out(session, alloc, order, answer, writer)?;
+            Ok(None)
+        }
+        Reading::Begins(block) => {
             let text = Some(String::new(alloc));
-            return Ok(Some(Block {
+            Ok(Some(OpenBlock {
+                block,
                 begun: number,
                 text,
-            }));
+            }))
         }
-        Said::Wrong => return Err(RunFault::Line(number)),
+        Reading::Fault => Err(RunFault::Line(number)),
     }
-    Ok(None)
 }
 
 // Takes a line of a block, or its end: what of the block is still open.
@@ -189,23 +229,23 @@ fn turn_inside<W: Write>(
     alloc: Global,
     line: &[u8],
     number: u64,
-    block: Block,
+    block: OpenBlock,
     writer: &mut W,
-) -> Result<Option<Block>, RunFault>
+) -> Result<Option<OpenBlock>, RunFault>
     requires short { length line.now ≤ longest_line }
     ensures { MatchResult result
         (λ left. (now : List ℕ) × Appends (W.contents writer.old) (W.contents writer.new) now × TurnsInside session.old line.now block now session.new left)
         (InsideFails line.now number (W.contents writer.old) (W.contents writer.new)) }
 {
-    let Block { begun, text } = block;
+    let OpenBlock { block, begun, text } = block;
     if line == b".".as_slice() {
-        close(session, alloc, text.as_deref(), writer)?;
+        close(session, alloc, block, text.as_deref(), writer)?;
         return Ok(None);
     }
     match str::from_utf8(line) {
         Ok(line) => {
             let text = lengthen_text(text, line)?;
-            Ok(Some(Block { begun, text }))
+            Ok(Some(OpenBlock { block, begun, text }))
         }
         Err(_) => Err(RunFault::Line(number)),
     }

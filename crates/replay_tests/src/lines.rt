@@ -1,5 +1,5 @@
 use crate::scripts::assert_holds;
-use directory_program::{LONGEST_DATAGRAM, LONGEST_LINE, Said, read_line};
+use slp_script::{Block, LONGEST_DATAGRAM, LONGEST_LINE, Order, Reading, read_line};
 use std::alloc::Global;
 use std::test::Fail;
 
@@ -64,25 +64,31 @@ static OTHER_LINES: [&str; 39] = [
     "at 5é",
 ];
 
-// What a line says: its word, its number and its bytes.
-fn parts(said: &Said) -> (&'static str, u32, &[u8]) {
-    match said {
-        Said::Blank => ("", 0, b""),
-        Said::At(moment) => ("at", *moment, b""),
-        Said::From(address) => ("from", *address, b""),
-        Said::Udp(bytes) => ("udp", 0, bytes.as_slice()),
-        Said::Open => ("open", 0, b""),
-        Said::Tcp(bytes) => ("tcp", 0, bytes.as_slice()),
-        Said::Tidy => ("sweep", 0, b""),
-        Said::Opens => ("config", 0, b""),
-        Said::Wrong => ("wrong", 0, b""),
+// What an order says: its word, its number and its bytes.
+fn order_parts(order: &Order) -> (&'static str, u32, &[u8]) {
+    match order {
+        Order::Blank => ("", 0, b""),
+        Order::At(moment) => ("at", *moment, b""),
+        Order::From(address) => ("from", *address, b""),
+        Order::Udp(bytes) => ("udp", 0, bytes.as_slice()),
+        Order::Open => ("open", 0, b""),
+        Order::Tcp(bytes) => ("tcp", 0, bytes.as_slice()),
+        Order::Sweep => ("sweep", 0, b""),
+    }
+}
+
+fn parts(reading: &Reading) -> (&'static str, u32, &[u8]) {
+    match reading {
+        Reading::Order(order) => order_parts(order),
+        Reading::Begins(Block::Config) => ("config", 0, b""),
+        Reading::Fault => ("wrong", 0, b""),
     }
 }
 
 fn says(alloc: Global, line: &str, word: &str, number: u32, bytes: &[u8]) -> Result<bool, Fail> {
-    let said = read_line(alloc, line.as_bytes())?;
-    let same = parts(&said) == (word, number, bytes);
-    drop(said);
+    let reading = read_line(alloc, line.as_bytes())?;
+    let same = parts(&reading) == (word, number, bytes);
+    drop(reading);
     Ok(same)
 }
 
@@ -107,14 +113,14 @@ static LONG_LINES: [(&str, usize, &str, usize); 5] = [
 ];
 
 fn says_as_many(alloc: Global, line: &str, word: &str, count: usize) -> Result<bool, Fail> {
-    let said = read_line(alloc, line.as_bytes())?;
-    let (told, number, bytes) = parts(&said);
+    let reading = read_line(alloc, line.as_bytes())?;
+    let (told, number, bytes) = parts(&reading);
     let same = told == word && number == 0 && bytes.len() == count;
-    drop(said);
+    drop(reading);
     Ok(same)
 }
 
-fn zeros_behind(alloc: Global, front: &str, zeros: usize) -> Result<String, Fail> {
+fn zeros_after(alloc: Global, front: &str, zeros: usize) -> Result<String, Fail> {
     let mut line = String::from_str(alloc, front)?;
     for _ in 0..zeros {
         line.push('0')?;
@@ -125,7 +131,7 @@ fn zeros_behind(alloc: Global, front: &str, zeros: usize) -> Result<String, Fail
 #[test]
 fn lines_and_datagrams_have_limits(rt: HostRuntime) -> Result<(), Fail> {
     for (front, zeros, word, count) in &LONG_LINES {
-        let line = zeros_behind(rt.alloc(), front, *zeros)?;
+        let line = zeros_after(rt.alloc(), front, *zeros)?;
         assert_holds(
             &rt,
             says_as_many(rt.alloc(), line.as_str(), word, *count)?,

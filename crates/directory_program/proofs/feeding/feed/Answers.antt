@@ -2,8 +2,8 @@ use Rattle.std.proofs.Common.{arith, ◌≡◌, ◌<◌, ◌+◌, ◌++◌, ◌�
 use Rattle.std.specs.Prelude.{◌⊎◌}
 use Rattle.std.proofs.lemmas.List.{append-nil}
 use Rattle.std.proofs.lemmas.Result.{err_from_is_err_and}
-use Rattle.directory_program.specs.Lines.{HasNoLf}
-use Rattle.directory_program.specs.Commands.{longest_line}
+use Rattle.slp_script.specs.Lines.{HasNoLf}
+use Rattle.slp_script.specs.Commands.{longest_line}
 use Rattle.directory_program.specs.declared.fault.RunFault.{RunFault}
 use Rattle.directory_program.specs.declared.fault.RunFault.TheVariants.{Line as AtLine, NoMemory}
 use Rattle.directory_program.specs.declared.place.Place.{Place}

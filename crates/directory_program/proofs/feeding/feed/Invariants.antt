@@ -1,5 +1,5 @@
 use Rattle.std.proofs.Common.{◌≡◌, ◌+◌, ◌≤◌, List, ℕ, ◌++◌, length, vec_len}
-use Rattle.directory_program.specs.Commands.{longest_line}
+use Rattle.slp_script.specs.Commands.{longest_line}
 use Rattle.directory_program.specs.Feeding.{Stood, Went}
 use Rattle.directory_program.proofs.feeding.feed.Given as goal
 

@@ -2,7 +2,7 @@ use Rattle.std.proofs.Common.{arith, ◌≡◌, ◌<◌, ◌+◌, ◌++◌, ◌�
 use Rattle.std.proofs.lemmas.Result.{err_from_is_err_and}
 use Rattle.directory_program.specs.declared.fault.RunFault.{RunFault}
 use Rattle.directory_program.specs.declared.fault.RunFault.TheVariants.{Read, Write, Line as AtLine, NoMemory}
-use Rattle.directory_program.specs.declared.place.Block.{Block}
+use Rattle.directory_program.specs.declared.place.OpenBlock.{OpenBlock}
 use Rattle.directory_program.specs.declared.place.Place.{Place}
 use Rattle.std.specs.Prelude.{MatchOption, ◌==◌}
 use Rattle.std.proofs.Common.{Bool, true, false}
@@ -39,11 +39,11 @@ returns-in_err-turn g c = λ read out s.
     let p = err_from_is_err_and c.from_residual.result c.from_residual.ensures.1 in
     rw (p.1, p.2) (last_fails _ _ read out c.args.line.now c.args.place.now _ s (is_some c.args.line.now _ c.is_empty.ensures c.if-is_empty.false) (fails_as _ c.args.place.now _ _ _ _ c.in_err-turn.ensures))
 
-end_here : (w : Option (List ℕ)) (read out : List ℕ) (p : Place) (block : Option Block) (r : Result (Unit {0}) RunFault) → p.block ≡ block → Stood read out [] p → MatchOption block (r ≡ Ok tt) (λ b. r ≡ Err (AtLine b.begun)) → Ends w w read out r
+end_here : (w : Option (List ℕ)) (read out : List ℕ) (p : Place) (block : Option OpenBlock) (r : Result (Unit {0}) RunFault) → p.block ≡ block → Stood read out [] p → MatchOption block (r ≡ Ok tt) (λ b. r ≡ Err (AtLine b.begun)) → Ends w w read out r
 end_here w read out p None r b s e = rw e ([], Appends-none w, rw (append-nil out) (Stood-closed read out p s b))
 end_here w read out p (Some x) r b s e = rw e ([], Appends-none w, rw (append-nil out) (Stood-open read out p x s b))
 
-end_last : (w v : Option (List ℕ)) (read out line : List ℕ) (p : Place) (now : List ℕ) (q : Place) (block : Option Block) (r : Result (Unit {0}) RunFault) → q.block ≡ block → Stood read out line p → 0 < length line → Appends w v now → TurnsTo p line now q → MatchOption block (r ≡ Ok tt) (λ b. r ≡ Err (AtLine b.begun)) → Ends w v read out r
+end_last : (w v : Option (List ℕ)) (read out line : List ℕ) (p : Place) (now : List ℕ) (q : Place) (block : Option OpenBlock) (r : Result (Unit {0}) RunFault) → q.block ≡ block → Stood read out line p → 0 < length line → Appends w v now → TurnsTo p line now q → MatchOption block (r ≡ Ok tt) (λ b. r ≡ Err (AtLine b.begun)) → Ends w v read out r
 end_last w v read out line p now q None r b s some a t e = rw e (now, a, Stood-closed_last read out line p now q s some t b)
 end_last w v read out line p now q (Some x) r b s some a t e = rw e (now, a, Stood-open_last read out line p now q x s some t b)
 

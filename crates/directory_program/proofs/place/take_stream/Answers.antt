@@ -4,5 +4,5 @@ use Rattle.directory_program.proofs.place.take_stream.Goals as goal
 pub returns : goal.returns
 returns g c =
     MatchResult-more c.take_piece.result _ _ _
-    (λ _ done. (done.0, done.1, Acts-tcp c.args.session.now c.take_piece.new.session c.args.bytes.items done.0 (rw (← c.as_slice.ensures.value) done.2)))
+    (λ _ done. (done.0, done.1, Acts-tcp c.args.session.now c.take_piece.new.session c.args.bytes done.0 (rw (← c.as_slice.ensures) done.2)))
     c.take_piece.ensures

@@ -1,6 +1,6 @@
 use Rattle.std.proofs.Common.{◌*◌, ◌≤◌, List, ℕ, vec_len}
 use Rattle.std.specs.Io.KnownBytes.{Appends, Consumes}
-use Rattle.directory_program.specs.Commands.{longest_line}
+use Rattle.slp_script.specs.Commands.{longest_line}
 use Rattle.directory_program.specs.Feeding.{Stood}
 use Rattle.directory_program.proofs.running.run_through.Given as goal
 

@@ -1,12 +1,23 @@
 -- The lines of a script are read in one way.
-use Rattle.std.proofs.Common.{◌≡◌, ℕ, ◌+◌, ◌≤◌, List, [], ◌∷◌, ◌++◌, length, Some, None, refl, sym, ap, ◌∙◌, arith, append_assoc, length-append}
+use Rattle.std.proofs.Common.{◌≡◌, ℕ, ◌+◌, ◌≤◌, List, [], ◌∷◌, ◌++◌, length, Some, None, refl, sym, ap, ap₂, ◌∙◌, arith, append_assoc, length-append}
 use Rattle.std.specs.Prelude.{IsUtf8}
-use Rattle.directory_program.specs.Lines.{Line}
-use Rattle.directory_program.specs.Commands.{Order, Command, Single, Configure, Spells, Reads, order_of, config_line, dot, longest_line, IsBody, IsStuck, AtLine, AtBody, AtEnd, StopsAt}
+use Rattle.std.proofs.lemmas.Option.{none-some, same_Some}
+use Rattle.slp_script.specs.Lines.{Line}
+use Rattle.slp_script.specs.declared.command.Block.{Block}
+use Rattle.slp_script.specs.declared.command.Block.TheVariants.{Config}
+use Rattle.slp_script.specs.declared.command.Order.{Order}
+use Rattle.slp_script.specs.Commands.{Command, Single, Text, Spells, Reads, order_of, block_of, word_of, dot, longest_line, IsBody, IsStuck, AtLine, AtBody, AtEnd, StopsAt}
 
-config-order : order_of config_line ≡ None
+-- the word of a block is no order, and begins that block
+word-order : (block : Block) → order_of (word_of block) ≡ None
 unfolding order_of
-config-order = refl
+word-order Config = refl
+
+word-block : (block : Block) → block_of (word_of block) ≡ Some block
+word-block Config = refl
+
+one_word : (a b : Block) → word_of a ≡ word_of b → a ≡ b
+one_word a b e = same_Some a b (sym (word-block a) ∙ ap block_of e ∙ word-block b)
 
 -- the first block of one list of lines
 body-unique : (a b rest more : List Line) → IsBody a → IsBody b → a ++ dot ∷ rest ≡ b ++ dot ∷ more → (a ≡ b) × (rest ≡ more)
@@ -36,8 +47,11 @@ body-end [] (y ∷ b) rest k e = k.0.no_dot cc
 body-end (x ∷ a) [] rest k e = cc
 body-end (x ∷ a) (y ∷ b) rest k e = body-end a b rest k.1 cc
 
-single-config : (l : Line) (o : Order) → order_of l ≡ Some o → l ≡ config_line → ⊥
-single-config l o is e = let h : order_of config_line ≡ Some o = rw (← e) is in let n = config-order in cc
+single-word : (block : Block) (l : Line) (o : Order) → order_of l ≡ Some o → l ≡ word_of block → ⊥
+single-word block l o is e = absurd (none-some o (sym (sym is ∙ ap order_of e ∙ word-order block)))
+
+no-word : (block : Block) (l : Line) → block_of l ≡ None → l ≡ word_of block → ⊥
+no-word block l none e = absurd (none-some block (sym (sym (word-block block) ∙ ap block_of (sym e) ∙ none)))
 
 -- the first command of one list of lines
 Spells-unique : (front rest : List Line) (c : Command) (ahead more : List Line) (d : Command) → Spells front c → Spells ahead d → front ++ rest ≡ ahead ++ more → (c ≡ d) × (rest ≡ more)
@@ -46,21 +60,22 @@ Spells-unique front rest (Single o) ahead more (Single p) s t e =
     let same : s.0 ≡ t.0 = cc in
     let one : Some o ≡ Some p = sym s.2 ∙ (ap order_of same ∙ t.2) in
     (cc, cc)
-Spells-unique front rest (Single o) ahead more (Configure b) s t e =
-    let h : s.0 ∷ rest ≡ config_line ∷ ((b ++ dot ∷ []) ++ more) = rw (s.1, t.0) at e in
-    absurd (single-config s.0 o s.2 cc)
-Spells-unique front rest (Configure a) ahead more (Single p) s t e =
-    let h : config_line ∷ ((a ++ dot ∷ []) ++ rest) ≡ t.0 ∷ more = rw (s.0, t.1) at e in
-    absurd (single-config t.0 p t.2 cc)
-Spells-unique front rest (Configure a) ahead more (Configure b) s t e =
-    let h : config_line ∷ ((a ++ dot ∷ []) ++ rest) ≡ config_line ∷ ((b ++ dot ∷ []) ++ more) = rw (s.0, t.0) at e in
+Spells-unique front rest (Single o) ahead more (Text k b) s t e =
+    let h : s.0 ∷ rest ≡ word_of k ∷ ((b ++ dot ∷ []) ++ more) = rw (s.1, t.0) at e in
+    absurd (single-word k s.0 o s.2 cc)
+Spells-unique front rest (Text j a) ahead more (Single p) s t e =
+    let h : word_of j ∷ ((a ++ dot ∷ []) ++ rest) ≡ t.0 ∷ more = rw (s.0, t.1) at e in
+    absurd (single-word j t.0 p t.2 cc)
+Spells-unique front rest (Text j a) ahead more (Text k b) s t e =
+    let h : word_of j ∷ ((a ++ dot ∷ []) ++ rest) ≡ word_of k ∷ ((b ++ dot ∷ []) ++ more) = rw (s.0, t.0) at e in
+    let word : word_of j ≡ word_of k = cc in
     let g : a ++ dot ∷ rest ≡ b ++ dot ∷ more = sym (append_assoc a (dot ∷ []) rest) ∙ ((cc) ∙ append_assoc b (dot ∷ []) more) in
     let r = body-unique a b rest more s.1 t.1 g in
-    (ap Configure r.0, r.1)
+    (ap₂ Text (one_word j k word) r.0, r.1)
 
 not_empty : (front rest : List Line) (c : Command) → Spells front c → [] ≡ front ++ rest → ⊥
 not_empty front rest (Single o) s e = let h : [] ≡ s.0 ∷ rest = rw s.1 at e in cc
-not_empty front rest (Configure a) s e = let h : [] ≡ config_line ∷ ((a ++ dot ∷ []) ++ rest) = rw s.0 at e in cc
+not_empty front rest (Text k a) s e = let h : [] ≡ word_of k ∷ ((a ++ dot ∷ []) ++ rest) = rw s.0 at e in cc
 
 -- lines are read in one way
 pub Reads-unique : (ls : List Line) (cs ds : List Command) → Reads ls cs → Reads ls ds → cs ≡ ds
@@ -75,30 +90,30 @@ Reads-unique ls (c ∷ cs) (d ∷ ds) r s =
     cc
 
 Stuck-not : (front rest : List Line) (c : Command) (ls : List Line) (k : ℕ) → Spells front c → IsStuck ls k → front ++ rest ≡ ls → ⊥
-Stuck-not front rest (Single o) ls k s (AtLine l more all none no_config one) e =
+Stuck-not front rest (Single o) ls k s (AtLine l more all none no_block one) e =
     let h : s.0 ∷ rest ≡ l ∷ more = rw (s.1, all) at e in
     let same : s.0 ≡ l = cc in
     let x : Some o ≡ None = sym s.2 ∙ (ap order_of same ∙ none) in cc
-Stuck-not front rest (Single o) ls k s (AtBody body l more all is fault one) e =
-    let h : s.0 ∷ rest ≡ config_line ∷ (body ++ l ∷ more) = rw (s.1, all) at e in
-    single-config s.0 o s.2 cc
-Stuck-not front rest (Single o) ls k s (AtEnd body all is one) e =
-    let h : s.0 ∷ rest ≡ config_line ∷ body = rw (s.1, all) at e in
-    single-config s.0 o s.2 cc
-Stuck-not front rest (Configure a) ls k s (AtLine l more all none no_config one) e =
-    let h : config_line ∷ ((a ++ dot ∷ []) ++ rest) ≡ l ∷ more = rw (s.0, all) at e in
-    no_config cc
-Stuck-not front rest (Configure a) ls k s (AtBody body l more all is fault one) e =
-    let h : config_line ∷ ((a ++ dot ∷ []) ++ rest) ≡ config_line ∷ (body ++ l ∷ more) = rw (s.0, all) at e in
+Stuck-not front rest (Single o) ls k s (AtBody block body l more all is fault one) e =
+    let h : s.0 ∷ rest ≡ word_of block ∷ (body ++ l ∷ more) = rw (s.1, all) at e in
+    single-word block s.0 o s.2 cc
+Stuck-not front rest (Single o) ls k s (AtEnd block body all is one) e =
+    let h : s.0 ∷ rest ≡ word_of block ∷ body = rw (s.1, all) at e in
+    single-word block s.0 o s.2 cc
+Stuck-not front rest (Text j a) ls k s (AtLine l more all none no_block one) e =
+    let h : word_of j ∷ ((a ++ dot ∷ []) ++ rest) ≡ l ∷ more = rw (s.0, all) at e in
+    no-word j l no_block cc
+Stuck-not front rest (Text j a) ls k s (AtBody block body l more all is fault one) e =
+    let h : word_of j ∷ ((a ++ dot ∷ []) ++ rest) ≡ word_of block ∷ (body ++ l ∷ more) = rw (s.0, all) at e in
     body-fault a body l rest more s.1 is fault (sym (append_assoc a (dot ∷ []) rest) ∙ cc)
-Stuck-not front rest (Configure a) ls k s (AtEnd body all is one) e =
-    let h : config_line ∷ ((a ++ dot ∷ []) ++ rest) ≡ config_line ∷ body = rw (s.0, all) at e in
+Stuck-not front rest (Text j a) ls k s (AtEnd block body all is one) e =
+    let h : word_of j ∷ ((a ++ dot ∷ []) ++ rest) ≡ word_of block ∷ body = rw (s.0, all) at e in
     body-end a body rest is (sym (append_assoc a (dot ∷ []) rest) ∙ cc)
 
 nothing_stuck : (ls : List Line) (k : ℕ) → IsStuck ls k → ls ≡ [] → ⊥
-nothing_stuck ls k (AtLine l more all none no_config one) e = let h : [] ≡ l ∷ more = sym e ∙ all in cc
-nothing_stuck ls k (AtBody body l more all is fault one) e = let h : [] ≡ config_line ∷ (body ++ l ∷ more) = sym e ∙ all in cc
-nothing_stuck ls k (AtEnd body all is one) e = let h : [] ≡ config_line ∷ body = sym e ∙ all in cc
+nothing_stuck ls k (AtLine l more all none no_block one) e = let h : [] ≡ l ∷ more = sym e ∙ all in cc
+nothing_stuck ls k (AtBody block body l more all is fault one) e = let h : [] ≡ word_of block ∷ (body ++ l ∷ more) = sym e ∙ all in cc
+nothing_stuck ls k (AtEnd block body all is one) e = let h : [] ≡ word_of block ∷ body = sym e ∙ all in cc
 
 stopped : (cs ds : List Command) (ls before stuck : List Line) (k : ℕ) → Reads ls cs → Reads before ds → ls ≡ before ++ stuck → IsStuck stuck k → ⊥
 stopped [] [] ls before stuck k r s e h = nothing_stuck stuck k h (let g : [] ≡ [] ++ stuck = sym r ∙ (e ∙ ap (λ v. v ++ stuck) s) in sym g)
@@ -117,11 +132,11 @@ Reads-not_stopped ls cs ds n r s = stopped cs ds ls s.before s.stuck s.place r s
 -- how many lines a command has
 abbrev width : Command → ℕ
 width (Single o) = 1
-width (Configure body) = length body + 2
+width (Text k body) = length body + 2
 
 Spells-width : (front : List Line) (c : Command) → Spells front c → length front ≡ width c
 Spells-width front (Single o) s = ap length s.1
-Spells-width front (Configure body) s = ap length s.0 ∙ omega (arith, length-append body (dot ∷ []))
+Spells-width front (Text k body) s = ap length s.0 ∙ omega (arith, length-append body (dot ∷ []))
 
 fault-unique : (a b : List Line) (l m : Line) (rest more : List Line) → IsBody a → IsBody b → ((length l ≤ longest_line) × IsUtf8 l → ⊥) → ((length m ≤ longest_line) × IsUtf8 m → ⊥) → a ++ l ∷ rest ≡ b ++ m ∷ more → length a ≡ length b
 fault-unique [] [] l m rest more h k f g e = refl
@@ -136,21 +151,21 @@ fault-end (x ∷ a) [] l rest k f e = cc
 fault-end (x ∷ a) (y ∷ b) l rest k f e = fault-end a b l rest k.1 f cc
 
 Stuck-unique : (ls : List Line) (k j : ℕ) → IsStuck ls k → IsStuck ls j → k ≡ j
-Stuck-unique ls k j (AtLine l more all none no_config one) (AtLine m other is nothing no_block first) = one ∙ sym first
-Stuck-unique ls k j (AtLine l more all none no_config one) (AtBody body m other is good fault first) = absurd (no_config (let h : l ∷ more ≡ config_line ∷ (body ++ m ∷ other) = sym all ∙ is in cc))
-Stuck-unique ls k j (AtLine l more all none no_config one) (AtEnd body is good first) = absurd (no_config (let h : l ∷ more ≡ config_line ∷ body = sym all ∙ is in cc))
-Stuck-unique ls k j (AtBody body l more all good fault one) (AtLine m other is nothing no_block first) = absurd (no_block (let h : config_line ∷ (body ++ l ∷ more) ≡ m ∷ other = sym all ∙ is in cc))
-Stuck-unique ls k j (AtBody body l more all good fault one) (AtBody body2 m other is good2 fault2 first) =
-    let h : config_line ∷ (body ++ l ∷ more) ≡ config_line ∷ (body2 ++ m ∷ other) = sym all ∙ is in
+Stuck-unique ls k j (AtLine l more all none no_block one) (AtLine m other is nothing none_begun first) = one ∙ sym first
+Stuck-unique ls k j (AtLine l more all none no_block one) (AtBody b body m other is good fault first) = absurd (no-word b l no_block (let h : l ∷ more ≡ word_of b ∷ (body ++ m ∷ other) = sym all ∙ is in cc))
+Stuck-unique ls k j (AtLine l more all none no_block one) (AtEnd b body is good first) = absurd (no-word b l no_block (let h : l ∷ more ≡ word_of b ∷ body = sym all ∙ is in cc))
+Stuck-unique ls k j (AtBody a body l more all good fault one) (AtLine m other is nothing none_begun first) = absurd (no-word a m none_begun (let h : word_of a ∷ (body ++ l ∷ more) ≡ m ∷ other = sym all ∙ is in cc))
+Stuck-unique ls k j (AtBody a body l more all good fault one) (AtBody b body2 m other is good2 fault2 first) =
+    let h : word_of a ∷ (body ++ l ∷ more) ≡ word_of b ∷ (body2 ++ m ∷ other) = sym all ∙ is in
     let r = fault-unique body body2 l m more other good good2 fault fault2 cc in omega arith
-Stuck-unique ls k j (AtBody body l more all good fault one) (AtEnd body2 is good2 first) =
-    let h : config_line ∷ (body ++ l ∷ more) ≡ config_line ∷ body2 = sym all ∙ is in
+Stuck-unique ls k j (AtBody a body l more all good fault one) (AtEnd b body2 is good2 first) =
+    let h : word_of a ∷ (body ++ l ∷ more) ≡ word_of b ∷ body2 = sym all ∙ is in
     absurd (fault-end body body2 l more good2 fault cc)
-Stuck-unique ls k j (AtEnd body all good one) (AtLine m other is nothing no_block first) = one ∙ sym first
-Stuck-unique ls k j (AtEnd body all good one) (AtBody body2 m other is good2 fault first) =
-    let h : config_line ∷ (body2 ++ m ∷ other) ≡ config_line ∷ body = sym is ∙ all in
+Stuck-unique ls k j (AtEnd a body all good one) (AtLine m other is nothing none_begun first) = one ∙ sym first
+Stuck-unique ls k j (AtEnd a body all good one) (AtBody b body2 m other is good2 fault first) =
+    let h : word_of b ∷ (body2 ++ m ∷ other) ≡ word_of a ∷ body = sym is ∙ all in
     absurd (fault-end body2 body m other good fault cc)
-Stuck-unique ls k j (AtEnd body all good one) (AtEnd body2 is good2 first) = one ∙ sym first
+Stuck-unique ls k j (AtEnd a body all good one) (AtEnd b body2 is good2 first) = one ∙ sym first
 
 same_stop : (cs ds : List Command) (before stuck : List Line) (k : ℕ) (ahead left : List Line) (j : ℕ) → Reads before cs → Reads ahead ds → before ++ stuck ≡ ahead ++ left → IsStuck stuck k → IsStuck left j → (cs ≡ ds) × (length before + k ≡ length ahead + j)
 same_stop [] [] before stuck k ahead left j r s e h i =

@@ -6,7 +6,11 @@ use Rattle.std.specs.Cmp.Lexicographic.{pointwise}
 use Rattle.hex.specs.Hex.{decode_of}
 use Rattle.hex.specs.declared.error.FromHexError.{FromHexError}
 use Rattle.access_rules.specs.Addresses.{number_of, address_of}
-use Rattle.directory_program.specs.Lines.{Line}
+use Rattle.slp_script.specs.Lines.{Line}
+use Rattle.slp_script.specs.declared.command.Block.{Block}
+use Rattle.slp_script.specs.declared.command.Block.TheVariants.{Config}
+use Rattle.slp_script.specs.declared.command.Order.{Order}
+use Rattle.slp_script.specs.declared.command.Order.TheVariants.{Blank, At, From, Udp, Open, Tcp, Sweep}
 
 -- the bytes of a line, without its LF
 abbrev pub longest_line : ℕ
@@ -15,31 +19,14 @@ longest_line = 140000
 abbrev pub longest_datagram : ℕ
 longest_datagram = 65535
 
--- a line that is one command by itself
-pub data Order : Type 0 where
-  -- an empty line
-  Blank : Order
-  -- it is this moment
-  At : ℕ → Order
-  -- datagrams come from this address
-  From : ℕ → Order
-  -- this datagram came
-  Udp : List ℕ → Order
-  -- a stream begins
-  Open : Order
-  -- these bytes came on the stream
-  Tcp : List ℕ → Order
-  -- what is dead is swept
-  Tidy : Order
-
+-- an order of one line, or a block with the lines of its text
 pub data Command : Type 0 where
   Single : Order → Command
-  -- the site is another one, by a configuration of these lines
-  Configure : List Line → Command
+  Text : Block → List Line → Command
 
--- what follows a word, in a line that begins with it
-abbrev pub behind : List ℕ → Line → Option (List ℕ)
-behind word l = if pointwise ◌==◌ (take (length word) l) word then Some (drop (length word) l) else None
+-- what stands after a word, in a line that begins with it
+abbrev pub rest_after : List ℕ → Line → Option (List ℕ)
+rest_after word l = if pointwise ◌==◌ (take (length word) l) word then Some (drop (length word) l) else None
 
 abbrev pub within_datagram : Result (List ℕ) FromHexError → Option Order
 within_datagram (Ok bytes) = if nat_le (length bytes) longest_datagram then Some (Udp bytes) else None
@@ -56,9 +43,9 @@ open_line = codes "open"
 abbrev pub tcp_word : List ℕ
 tcp_word = codes "tcp "
 
--- the line that is this word alone
-abbrev pub alone : List ℕ → Order → Line → Option Order
-alone word order l = if pointwise ◌==◌ l word then Some order else None
+-- what the line that is this word alone stands for
+abbrev pub alone : {A : Type 0} → List ℕ → A → Line → Option A
+alone word x l = if pointwise ◌==◌ l word then Some x else None
 
 abbrev pub at_word : List ℕ
 at_word = codes "at "
@@ -72,12 +59,16 @@ udp_word = codes "udp "
 abbrev pub sweep_line : List ℕ
 sweep_line = codes "sweep"
 
--- the line that begins a configuration, and the one that ends it
-abbrev pub config_line : List ℕ
-config_line = codes "config"
+-- the line that begins a block, and the one that ends it
+abbrev pub word_of : Block → Line
+word_of Config = codes "config"
 
-abbrev pub dot : List ℕ
+abbrev pub dot : Line
 dot = codes "."
+
+-- the block that a line begins, if it begins one
+abbrev pub block_of : Line → Option Block
+block_of l = alone (word_of Config) Config l
 
 -- the order that a line is, if it is one
 unfoldable pub order_of : Line → Option Order
@@ -85,16 +76,16 @@ order_of l =
     if nat_lt longest_line (length l) then None
     else if length l == 0 then Some Blank
     else option_or
-    (option_and_then (λ digits. option_map At (number_of digits)) (behind at_word l))
+    (option_and_then (λ digits. option_map At (number_of digits)) (rest_after at_word l))
     (option_or
-    (option_and_then (λ text. option_map From (address_of text)) (behind from_word l))
+    (option_and_then (λ text. option_map From (address_of text)) (rest_after from_word l))
     (option_or
-    (option_and_then (λ text. within_datagram (decode_of text)) (behind udp_word l))
+    (option_and_then (λ text. within_datagram (decode_of text)) (rest_after udp_word l))
     (option_or
     (alone open_line Open l)
     (option_or
-    (alone sweep_line Tidy l)
-    (option_and_then (λ text. as_piece (decode_of text)) (behind tcp_word l))))))
+    (alone sweep_line Sweep l)
+    (option_and_then (λ text. as_piece (decode_of text)) (rest_after tcp_word l))))))
 
 -- a line that may stand in a block
 pub record IsBodyLine (l : Line) : Type 0 where
@@ -106,13 +97,13 @@ abbrev pub IsBody : List Line → Type 0
 IsBody body = AllByRecursion IsBodyLine body
 
 -- the first line of a block, and some of its lines
-abbrev pub opened : List Line → List Line
-opened body = config_line ∷ body
+abbrev pub opened : Block → List Line → List Line
+opened block body = word_of block ∷ body
 
 -- these lines are this command
 abbrev pub Spells : List Line → Command → Type 0
 Spells ls (Single order) = (l : Line) × (ls ≡ l ∷ []) × (order_of l ≡ Some order)
-Spells ls (Configure body) = (ls ≡ opened body ++ dot ∷ []) × IsBody body
+Spells ls (Text block body) = (ls ≡ opened block body ++ dot ∷ []) × IsBody body
 
 -- these lines are these commands, one after the other
 abbrev pub Reads : List Line → List Command → Type 0
@@ -122,11 +113,11 @@ Reads ls (c ∷ cs) = (front rest : List Line) × (ls ≡ front ++ rest) × Spel
 -- where a command would begin, the k-th of these lines is the first at fault
 pub data IsStuck (ls : List Line) (k : ℕ) : Type 0 where
   -- the line is no order, and begins no block
-  AtLine : (l : Line) (rest : List Line) → ls ≡ l ∷ rest → order_of l ≡ None → l ≢ config_line → k ≡ 1 → IsStuck ls k
+  AtLine : (l : Line) (rest : List Line) → ls ≡ l ∷ rest → order_of l ≡ None → block_of l ≡ None → k ≡ 1 → IsStuck ls k
   -- a line of a block is too long or no text
-  AtBody : (body : List Line) (l : Line) (rest : List Line) → ls ≡ opened body ++ l ∷ rest → IsBody body → ¬ ((length l ≤ longest_line) × IsUtf8 l) → k ≡ length body + 2 → IsStuck ls k
+  AtBody : (block : Block) (body : List Line) (l : Line) (rest : List Line) → ls ≡ opened block body ++ l ∷ rest → IsBody body → ¬ ((length l ≤ longest_line) × IsUtf8 l) → k ≡ length body + 2 → IsStuck ls k
   -- the lines end within a block
-  AtEnd : (body : List Line) → ls ≡ opened body → IsBody body → k ≡ 1 → IsStuck ls k
+  AtEnd : (block : Block) (body : List Line) → ls ≡ opened block body → IsBody body → k ≡ 1 → IsStuck ls k
 
 -- the lines spell these commands, and then the n-th line of all, counted from 1, is the first at fault
 pub record StopsAt (ls : List Line) (cs : List Command) (n : ℕ) : Type 0 where

@@ -2,8 +2,8 @@
 use Rattle.std.proofs.Common.{◌≡◌, ◌≢◌, ℕ, false, List, [], ◌∷◌, ◌++◌, refl, sym, ap, ◌∙◌, append_assoc}
 use Rattle.std.specs.Prelude.{◌==◌}
 use Rattle.std.specs.List.{AllByRecursion, flat_map}
-use Rattle.directory_program.specs.Lines.{Line, onto, lines_of, ended, HasNoLf}
-use Rattle.directory_program.specs.Commands.{Command, Spells, Reads}
+use Rattle.slp_script.specs.Lines.{Line, onto, lines_of, ended, HasNoLf}
+use Rattle.slp_script.specs.Commands.{Command, Spells, Reads}
 use Rattle.std.proofs.lemmas.List.{append-nil}
 use Rattle.std.proofs.lemmas.Bool.Decides.{eqb_tells}
 use Rattle.std.proofs.Common.{inl, inr}

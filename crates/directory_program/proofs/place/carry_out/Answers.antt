@@ -1,0 +1,30 @@
+use Rattle.std.proofs.Common.{◌≡◌, ℕ, List, [], refl, sym, ap, subst}
+use Rattle.slp_stream.specs.Framing.{Frames}
+use Rattle.slp_script.specs.Commands.{Single}
+use Rattle.slp_script.specs.declared.command.Order.{Order}
+use Rattle.slp_script.specs.declared.command.Order.TheVariants.{At, From, Udp, Open}
+use Rattle.directory_program.specs.Holding.{Acts}
+use Rattle.directory_program.specs.declared.session.Session.{Session}
+use Rattle.directory_program.proofs.Known.{Appends-none}
+use Rattle.directory_program.proofs.Turning.{Acts-at, Acts-from, Acts-open}
+use Rattle.directory_program.proofs.place.carry_out.Goals as goal
+
+Acts-order : (s : Session) (o p : Order) (now : List ℕ) (t : Session) → o ≡ p → Acts s (Single p) now t → Acts s (Single o) now t
+Acts-order s o p now t is h = subst (λ x. Acts s (Single x) now t) (sym is) h
+
+pub returns-in-At : goal.returns-in-At
+returns-in-At g c =
+    ([], Appends-none _, Acts-order c.args.session.now c.args.order (At c.in-At.moment) [] _ c.in-At.is (Acts-at _ _ c.in-At.moment refl))
+
+pub returns-in-From : goal.returns-in-From
+returns-in-From g c =
+    ([], Appends-none _, Acts-order c.args.session.now c.args.order (From c.in-From.asker) [] _ c.in-From.is (Acts-from _ _ c.in-From.asker refl))
+
+pub returns-in_ok-take_datagram-in-Udp : goal.returns-in_ok-take_datagram-in-Udp
+returns-in_ok-take_datagram-in-Udp g c =
+    let done = c.in_ok-take_datagram-in-Udp.ensures in
+    (done.0, done.1, Acts-order c.args.session.now c.args.order (Udp c.in-Udp.bytes) done.0 _ c.in-Udp.is done.2)
+
+pub returns-in-Open : goal.returns-in-Open
+returns-in-Open g c =
+    ([], Appends-none _, Acts-order c.args.session.now c.args.order Open [] _ c.in-Open.is (Acts-open _ _ (ap (λ (f : Frames). record c.args.session.now { stream = f }) c.new.ensures)))

@@ -1,0 +1,3 @@
+pub mod OneByOne
+pub mod Unique
+pub mod Words

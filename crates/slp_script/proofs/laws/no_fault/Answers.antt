@@ -1,0 +1,5 @@
+use Rattle.slp_script.proofs.Unique.{Reads-not_stopped}
+use Rattle.slp_script.proofs.laws.no_fault.Goals as goal
+
+pub returns : goal.returns
+returns c = Reads-not_stopped

@@ -1,0 +1,5 @@
+use Rattle.slp_script.proofs.Unique.{StopsAt-unique}
+use Rattle.slp_script.proofs.laws.one_fault.Goals as goal
+
+pub returns : goal.returns
+returns c = StopsAt-unique
