@@ -12,7 +12,5 @@ mod session;
 mod streaming;
 
 pub use fault::RunFault;
-pub use place::{OpenBlock, Place};
 pub use program::replay_run;
-pub use running::{READS, Replay};
-pub use session::Session;
+pub use running::Replay;

@@ -1,4 +1,4 @@
-//! The tests of `directory_program`, in a crate of their own, since a crate with tests is proved twice.
+//! The tests of `slp_script` and `directory_program`, in a crate of their own, since a crate with tests is proved twice.
 #![tactic(auto)]
 
 #[cfg(test)]
@@ -9,8 +9,6 @@ mod messages;
 mod runs;
 #[cfg(test)]
 mod scripts;
-#[cfg(test)]
-mod sessions;
 #[cfg(test)]
 mod sites;
 #[cfg(test)]
