@@ -21,10 +21,12 @@ use Rattle.directory_program.proofs.Known.{Keeps-same, Appends-none, Appends-app
 -- nothing happened in the setup with which a run begins
 pub Holds-opening : Holds beginning opening_session
 Holds-opening = record {
-  legal = tt;
-  fold = record { entries = AreLive-nil; ruled = refl; placed = refl; clocks = refl };
-  moment = refl;
-  asker = refl;
+  agent = record {
+    legal = tt;
+    fold = record { entries = AreLive-nil; ruled = refl; placed = refl; clocks = refl };
+    moment = refl;
+    asker = refl;
+  };
   stream = refl;
   limit = refl;
   late = refl;

@@ -1,5 +1,5 @@
--- What a sweep makes of a session.
-use Rattle.std.proofs.Common.{◌≡◌, ℕ, ◌≤◌, max, true, ◌∷◌, refl, sym, ap, ◌∙◌, arith}
+-- What a sweep makes of an agent.
+use Rattle.std.proofs.Common.{◌≡◌, ℕ, ◌≤◌, max, ◌∷◌, refl, sym, ◌∙◌, arith}
 use Rattle.directory_judge.specs.History.{Event, History, Sweep, clock, now}
 use Rattle.directory_judge.specs.Making.{content}
 use Rattle.directory_judge.specs.declared.change.Change.{Change}
@@ -8,10 +8,9 @@ use Rattle.directory_answers.specs.Calls.{Opening}
 use Rattle.directory_answers.specs.Verdicts.{IsLegal}
 use Rattle.directory_state.specs.Folding.{Fold, StandsFor}
 use Rattle.directory_state.specs.State.{State}
-use Rattle.slp_stream.specs.Framing.{Frames}
-use Rattle.directory_program.specs.Holding.{Holds}
+use Rattle.directory_program.specs.Holding.{IsAgent}
 use Rattle.directory_program.specs.Running.{World, opening_of, swept}
-use Rattle.directory_program.specs.declared.session.Session.{Session}
+use Rattle.directory_program.specs.declared.agent.Agent.{Agent}
 
 -- what an applied change promises of the directory after it
 abbrev pub Folds : State → Change → State → Type 0
@@ -20,9 +19,9 @@ Folds s change t = (o : Opening) (h : History) (c : Event) → Fold o h s → Is
 later : (m k : ℕ) → k ≤ max m k
 later m k = grind (arith)
 
--- what is dead is dropped, and it is too late for another site
-pub Holds-swept : (w : World) (s t : Session) (n : ℕ) → Holds w s → n ≡ max s.moment s.directory.clock → Folds s.directory (change.Sweep n) t.directory → t.moment ≡ s.moment → t.asker ≡ s.asker → t.stream ≡ s.stream → t.late ≡ true → Holds (swept w) t
-Holds-swept w s t n h at folds moment asker stream late =
+-- what is dead is dropped
+pub IsAgent-swept : (w : World) (a b : Agent) (n : ℕ) → IsAgent w a → n ≡ max a.moment a.directory.clock → Folds a.directory (change.Sweep n) b.directory → b.moment ≡ a.moment → b.asker ≡ a.asker → IsAgent (swept w) b
+IsAgent-swept w a b n h at folds moment asker =
     let when : n ≡ now w.history w.moment = at ∙ rw (h.moment, h.fold.clocks) refl in
     let event : Event = record { moment = now w.history w.moment; act = Sweep } in
     let legal : IsLegal (opening_of w) (event ∷ w.history) = (later w.moment (clock w.history), tt, h.legal) in
@@ -31,7 +30,4 @@ Holds-swept w s t n h at folds moment asker stream late =
       fold = folds (opening_of w) w.history event h.fold legal (sym when, refl);
       moment = moment ∙ h.moment;
       asker = asker ∙ h.asker;
-      stream = stream ∙ h.stream;
-      limit = ap (λ (f : Frames). f.limit) stream ∙ h.limit;
-      late = late;
     }

@@ -1,5 +1,5 @@
 -- What comes of a stream, message by message.
-use Rattle.std.proofs.Common.{◌≡◌, ℕ, List, [], ◌∷◌, ◌++◌, Option, Some, None, Ok, Err, refl, sym, ap, ◌∙◌, subst, append_assoc, inl, inr}
+use Rattle.std.proofs.Common.{◌≡◌, ℕ, List, [], ◌∷◌, ◌++◌, Option, Some, None, Ok, Err, refl, sym, ap, ◌∙◌, subst, append_assoc}
 use Rattle.std.specs.Prelude.{MatchOption}
 use Rattle.std.specs.Option.{option_map_or}
 use Rattle.std.proofs.lemmas.List.{append-nil}
@@ -7,9 +7,11 @@ use Rattle.slp_stream.specs.Cutting.{Front, Wanting, Whole, Bad, front_of, IsEnd
 use Rattle.slp_stream.specs.Framing.{Frames, answer_at, answered, left_at, left_after}
 use Rattle.slp_stream.specs.declared.fault.FrameFault.{FrameFault}
 use Rattle.slp_stream.proofs.Given.{Leads, gave_message, gave_none, leads_on, leads_to_end}
-use Rattle.directory_program.specs.Holding.{Holds, TakesPiece, Meets, Drains}
-use Rattle.directory_program.specs.Running.{World, Answers, AnswersAll, Pieces, bad_length, closed, end_told, end_refused, longest_on_stream, new_stream}
+use Rattle.directory_program.specs.Holding.{IsAgent, TakesPiece, Meets, Drains}
+use Rattle.directory_program.specs.Running.{World, Answers, AnswersAll, Pieces, bad_length, closed, end_told, end_refused, longest_on_stream}
+use Rattle.directory_program.specs.declared.agent.Agent.{Agent}
 use Rattle.directory_program.specs.declared.session.Session.{Session}
+use Rattle.directory_program.proofs.Turning.{Answers-beside, IsAgent-beside}
 
 AnswersAll-snoc : (w : World) (ms : List (List ℕ)) (said : List ℕ) (u : World) (m now : List ℕ) (v : World) → AnswersAll w ms said u → Answers longest_on_stream u m now v → AnswersAll w (ms ++ m ∷ []) (said ++ now) v
 AnswersAll-snoc w [] said u m now v h a =
@@ -17,34 +19,22 @@ AnswersAll-snoc w [] said u m now v h a =
 AnswersAll-snoc w (n ∷ ms) said u m now v h a =
     (h.0, h.1, h.2 ++ now, rw (h.3) (append_assoc h.1 h.2 now), h.4, AnswersAll-snoc h.0 ms h.2 u m now v h.5 a)
 
--- what is answered does not depend on what waits
-Answers-elsewhere : (limit : ℕ) (w : World) (f : Frames) (m out : List ℕ) (v : World) → Answers limit (record w { stream = f }) m out v → Answers limit w m out (record v { stream = w.stream })
-Answers-elsewhere limit w f m out v (inl a) = inl (a.0, a.1, a.2, a.3, ap (λ (x : World). record x { stream = w.stream }) a.4)
-Answers-elsewhere limit w f m out v (inr a) = inr (a.0, ap (λ (x : World). record x { stream = w.stream }) a.1)
-
-AnswersAll-elsewhere : (w : World) (f : Frames) (ms : List (List ℕ)) (out : List ℕ) (v : World) → AnswersAll (record w { stream = f }) ms out v → AnswersAll w ms out (record v { stream = w.stream })
-AnswersAll-elsewhere w f [] out v a = (a.0, ap (λ (x : World). record x { stream = w.stream }) a.1)
-AnswersAll-elsewhere w f (m ∷ ms) out v a = (
-  record a.0 { stream = w.stream },
-  a.1,
-  a.2,
-  a.3,
-  Answers-elsewhere longest_on_stream w f m a.1 a.0 a.4,
-  AnswersAll-elsewhere (record a.0 { stream = w.stream }) a.0.stream ms a.2 v a.5,
-)
+AnswersAll-late : (w : World) (ms : List (List ℕ)) (out : List ℕ) (v : World) → AnswersAll w ms out v → v.late ≡ w.late
+AnswersAll-late w [] out v a = ap (λ (x : World). x.late) a.1
+AnswersAll-late w (m ∷ ms) out v a = AnswersAll-late a.0 ms a.2 v a.5 ∙ (Answers-beside longest_on_stream w m a.1 a.0 a.4).1
 
 -- these messages were answered so far, and this is left of the framer
-pub record Drained (s : Session) (f : Frames) (ms : List (List ℕ)) (said : List ℕ) (t : Session) (g : Frames) : Type 0 where
+pub record Drained (a : Agent) (f : Frames) (ms : List (List ℕ)) (said : List ℕ) (b : Agent) (g : Frames) : Type 0 where
   pub refused : g.refused ≡ None
   pub limit : g.limit ≡ f.limit
   pub leads : Leads f.limit f.waiting ms g.waiting
-  pub did : (w : World) → Holds w s → (u : World) × AnswersAll w ms said u × Holds u t
+  pub did : (w : World) → IsAgent w a → (u : World) × AnswersAll w ms said u × IsAgent u b
 
-pub Drained-begin : (s : Session) (f : Frames) → f.refused ≡ None → Drained s f [] [] s f
-Drained-begin s f none = record { refused = none; limit = refl; leads = λ ms end p. p; did = λ w h. (w, (refl, refl), h) }
+pub Drained-begin : (a : Agent) (f : Frames) → f.refused ≡ None → Drained a f [] [] a f
+Drained-begin a f none = record { refused = none; limit = refl; leads = λ ms end p. p; did = λ w h. (w, (refl, refl), h) }
 
-pub Drained-more : (s : Session) (f : Frames) (ms : List (List ℕ)) (said : List ℕ) (t : Session) (g : Frames) (m now : List ℕ) (u : Session) (after : Frames) → Drained s f ms said t g → Some (Ok m) ≡ answered g → after ≡ left_after g → Meets longest_on_stream t m now u → Drained s f (ms ++ m ∷ []) (said ++ now) u after
-Drained-more s f ms said t g m now u after d given left meets =
+pub Drained-more : (a : Agent) (f : Frames) (ms : List (List ℕ)) (said : List ℕ) (b : Agent) (g : Frames) (m now : List ℕ) (u : Agent) (after : Frames) → Drained a f ms said b g → Some (Ok m) ≡ answered g → after ≡ left_after g → Meets longest_on_stream b m now u → Drained a f (ms ++ m ∷ []) (said ++ now) u after
+Drained-more a f ms said b g m now u after d given left meets =
     let taken = gave_message g m after given left in
     record {
       refused = taken.refused;
@@ -60,8 +50,8 @@ kept : (g : Frames) (limit : ℕ) → g.limit ≡ limit → g.refused ≡ None �
 kept g limit same none = ap (λ (n : ℕ). record g { limit = n }) same ∙ ap (λ (r : Option FrameFault). record { limit = limit; waiting = g.waiting; refused = r }) none
 
 -- more bytes are wanted
-pub Drained-wants : (s : Session) (f : Frames) (ms : List (List ℕ)) (said : List ℕ) (t : Session) (g after : Frames) → Drained s f ms said t g → None ≡ answered g → after ≡ left_after g → Drains s f said t after
-Drained-wants s f ms said t g after d given left = λ w h.
+pub Drained-wants : (a : Agent) (f : Frames) (ms : List (List ℕ)) (said : List ℕ) (b : Agent) (g after : Frames) → Drained a f ms said b g → None ≡ answered g → after ≡ left_after g → Drains a f said b after
+Drained-wants a f ms said b g after d given left = λ w h.
     let k = d.did w h in
     let cut = leads_to_end f.limit f.waiting ms g after d.limit d.leads given left in
     let none = gave_none g after given left in
@@ -81,8 +71,8 @@ bad_unless : (refused : Option FrameFault) (g : Frames) (e : FrameFault) (after 
 bad_unless None g e after none given left = bad_at (front_of g.limit g.waiting) g e after refl given left
 bad_unless (Some x) g e after none given left = absurd cc
 
-pub Drained-bad : (s : Session) (f : Frames) (ms : List (List ℕ)) (said : List ℕ) (t : Session) (g : Frames) (e : FrameFault) (after : Frames) → Drained s f ms said t g → Some (Err e) ≡ answered g → after ≡ left_after g → Drains s f (said ++ bad_length e) t after
-Drained-bad s f ms said t g e after d given left = λ w h.
+pub Drained-bad : (a : Agent) (f : Frames) (ms : List (List ℕ)) (said : List ℕ) (b : Agent) (g : Frames) (e : FrameFault) (after : Frames) → Drained a f ms said b g → Some (Err e) ≡ answered g → after ≡ left_after g → Drains a f (said ++ bad_length e) b after
+Drained-bad a f ms said b g e after d given left = λ w h.
     let k = d.did w h in
     let bad = bad_unless g.refused g e after d.refused given left in
     let front : front_of f.limit g.waiting ≡ Bad e = rw (← d.limit) bad.0 in
@@ -92,11 +82,10 @@ Drained-bad s f ms said t g e after d given left = λ w h.
 
 -- ---- what a piece makes of a session
 
--- the piece was fed, and what waits then was answered apart from the session
-pub TakesPiece-fed : (s : Session) (bytes now : List ℕ) (n : Frames) (t : Session) (f g : Frames) (u : Session) → n ≡ new_stream → s.stream.refused ≡ None → f ≡ record s.stream { waiting = s.stream.waiting ++ bytes } → Drains (record s { stream = n }) f now t g → u ≡ record t { stream = g } → TakesPiece s bytes now u
-TakesPiece-fed s bytes now n t f g u new none fed drains is = λ w h.
-    let away : Holds (record w { stream = new_stream }) (record s { stream = n }) = record { legal = h.legal; fold = h.fold; moment = h.moment; asker = h.asker; stream = new; limit = ap (λ (x : Frames). x.limit) new; late = h.late } in
-    let d = drains (record w { stream = new_stream }) away in
+-- the piece was fed, and what waited then was answered
+pub TakesPiece-fed : (s : Session) (bytes now : List ℕ) (f g : Frames) (b : Agent) → s.stream.refused ≡ None → f ≡ record s.stream { waiting = s.stream.waiting ++ bytes } → Drains s.agent f now b g → TakesPiece s bytes now (record s { agent = b; stream = g })
+TakesPiece-fed s bytes now f g b none fed drains = λ w h.
+    let d = drains w h.agent in
     let limit : f.limit ≡ longest_on_stream = ap (λ (x : Frames). x.limit) fed ∙ h.limit in
     let waiting : f.waiting ≡ w.stream.waiting ++ bytes = ap (λ (x : Frames). x.waiting) fed ∙ ap (λ (x : Frames). x.waiting ++ bytes) h.stream in
     let going : w.stream.refused ≡ None = ap (λ (x : Frames). x.refused) (sym h.stream) ∙ none in
@@ -107,11 +96,16 @@ TakesPiece-fed s bytes now n t f g u new none fed drains is = λ w h.
         d.0,
         d.1,
         subst (λ (x : List ℕ). IsCut longest_on_stream x d.0 d.1) waiting (subst (λ (n : ℕ). IsCut n f.waiting d.0 d.1) limit d.2),
-        record d.3 { stream = w.stream },
+        d.3,
         d.4,
-        AnswersAll-elsewhere w new_stream d.0 d.4 d.3 d.5,
+        d.5,
         subst (λ (n : ℕ). now ≡ d.4 ++ end_told (front_of n d.1)) limit d.6,
         refl,
       ),
-      rw is (record { legal = d.8.legal; fold = d.8.fold; moment = d.8.moment; asker = d.8.asker; stream = same; limit = ap (λ (x : Frames). x.limit) same; late = d.8.late }),
+      record {
+        agent = IsAgent-beside d.3 left d.3.late b d.8;
+        stream = same;
+        limit = ap (λ (x : Frames). x.limit) same;
+        late = h.late ∙ sym (AnswersAll-late w d.0 d.4 d.3 d.5);
+      },
     )

@@ -1,50 +1,91 @@
--- What each order makes of a session.
-use Rattle.std.proofs.Common.{◌≡◌, ℕ, ◌+◌, true, List, [], Option, Some, None, Result, Ok, Err, refl, sym, ap, ap₂, subst, ◌∙◌, inl, inr}
+-- What each command makes of a session.
+use Rattle.std.proofs.Common.{◌≡◌, ℕ, ◌+◌, Bool, true, false, List, [], ◌∷◌, ◌++◌, codes, Option, Some, None, Result, Ok, Err, refl, sym, ap, ap₂, subst, ◌∙◌, inl, inr}
 use Rattle.std.specs.Prelude.{MatchResult}
 use Rattle.directory_answers.specs.Verdicts.{followed}
 use Rattle.slp_answer.specs.declared.answer.Sent.{Sent}
 use Rattle.slp_script.specs.Commands.{Single}
-use Rattle.slp_script.specs.declared.command.Order.TheVariants.{Blank, At, From, Udp, Open, Tcp}
-use Rattle.directory_program.specs.Holding.{Holds, Takes, TakesPiece, Acts, Meets}
-use Rattle.directory_program.specs.Running.{World, lacking, shown, new_stream, longest_reply, begun}
-use Rattle.directory_program.specs.Standing.{Turns, TurnsTo, TurnsOutside, TurnsInside}
+use Rattle.slp_script.specs.declared.command.Order.TheVariants.{Blank, At, From, Udp, Open, Tcp, Sweep}
+use Rattle.slp_script.specs.declared.command.Block.TheVariants.{Config as Configuration}
+use Rattle.directory_program.specs.Holding.{Holds, IsAgent, Takes, TakesPiece, Acts, Meets, ConfiguresTo, config_told}
+use Rattle.directory_program.specs.Running.{World, Answers, Configures, lacking, shown, new_stream, longest_reply, begun, swept, place_of}
+use Rattle.directory_program.specs.Standing.{Closes, Turns, TurnsTo, TurnsOutside, TurnsInside}
 use Rattle.directory_program.specs.declared.place.OpenBlock.{OpenBlock}
 use Rattle.directory_program.specs.declared.place.Place.{Place}
+use Rattle.directory_program.specs.declared.agent.Agent.{Agent}
 use Rattle.directory_program.specs.declared.session.Session.{Session}
+use Rattle.slp_stream.specs.Framing.{Frames}
+use Rattle.std.specs.Option.{option_map_or}
+use Rattle.site_config.specs.Configuring.{config_of}
+use Rattle.site_config.specs.declared.config.Config.{Config}
+use Rattle.site_config.specs.declared.fault.ConfigFault.{ConfigFault}
+use Rattle.site_config.specs.declared.fault.ConfigFault.TheVariants.{Range}
 
 pub Acts-blank : (s t : Session) → t ≡ s → Acts s (Single Blank) [] t
 Acts-blank s t e = λ w h. (w, (refl, refl), rw e h)
 
-pub Acts-at : (s t : Session) (m : ℕ) → t ≡ record s { moment = m } → Acts s (Single (At m)) [] t
-Acts-at s t m e = λ w h. (record w { moment = m }, (refl, refl), rw e (record { legal = h.legal; fold = h.fold; moment = refl; asker = h.asker; stream = h.stream; limit = h.limit; late = h.late }))
+-- the agent does not know of the stream, nor whether it is too late for another site
+pub IsAgent-beside : (w : World) (f : Frames) (late : Bool) (a : Agent) → IsAgent w a → IsAgent (record w { stream = f; late = late }) a
+IsAgent-beside w f late a h = record { legal = h.legal; fold = h.fold; moment = h.moment; asker = h.asker }
 
-pub Acts-from : (s t : Session) (a : ℕ) → t ≡ record s { asker = a } → Acts s (Single (From a)) [] t
-Acts-from s t a e = λ w h. (record w { asker = a }, (refl, refl), rw e (record { legal = h.legal; fold = h.fold; moment = h.moment; asker = refl; stream = h.stream; limit = h.limit; late = h.late }))
+pub Answers-beside : (limit : ℕ) (w : World) (m out : List ℕ) (v : World) → Answers limit w m out v → (v.stream ≡ w.stream) × (v.late ≡ w.late)
+Answers-beside limit w m out v (inl a) = (ap (λ (x : World). x.stream) a.4, ap (λ (x : World). x.late) a.4)
+Answers-beside limit w m out v (inr a) = (ap (λ (x : World). x.stream) a.1, ap (λ (x : World). x.late) a.1)
+
+pub Acts-at : (s t : Session) (m : ℕ) → t ≡ record s { agent = record s.agent { moment = m } } → Acts s (Single (At m)) [] t
+Acts-at s t m e = λ w h. (record w { moment = m }, (refl, refl), rw e (record { agent = record { legal = h.agent.legal; fold = h.agent.fold; moment = refl; asker = h.agent.asker }; stream = h.stream; limit = h.limit; late = h.late }))
+
+pub Acts-from : (s t : Session) (a : ℕ) → t ≡ record s { agent = record s.agent { asker = a } } → Acts s (Single (From a)) [] t
+Acts-from s t a e = λ w h. (record w { asker = a }, (refl, refl), rw e (record { agent = record { legal = h.agent.legal; fold = h.agent.fold; moment = h.agent.moment; asker = refl }; stream = h.stream; limit = h.limit; late = h.late }))
 
 pub Acts-open : (s t : Session) → t ≡ record s { stream = new_stream } → Acts s (Single Open) [] t
-Acts-open s t e = λ w h. (record w { stream = new_stream }, (refl, refl), rw e (record { legal = h.legal; fold = h.fold; moment = h.moment; asker = h.asker; stream = refl; limit = refl; late = h.late }))
+Acts-open s t e = λ w h. (record w { stream = new_stream }, (refl, refl), rw e (record { agent = IsAgent-beside w new_stream w.late s.agent h.agent; stream = refl; limit = refl; late = h.late }))
 
 -- from now on it is too late for another site
 Holds-begun : (w : World) (s : Session) → Holds w s → Holds (begun w) (record s { late = true })
-Holds-begun w s h = record { legal = h.legal; fold = h.fold; moment = h.moment; asker = h.asker; stream = h.stream; limit = h.limit; late = refl }
+Holds-begun w s h = record { agent = IsAgent-beside w w.stream true s.agent h.agent; stream = h.stream; limit = h.limit; late = refl }
 
-pub Acts-udp : (s t : Session) (bytes now : List ℕ) → Meets longest_reply (record s { late = true }) bytes now t → Acts s (Single (Udp bytes)) now t
-Acts-udp s t bytes now meets = λ w h. meets (begun w) (Holds-begun w s h)
+pub Acts-udp : (s : Session) (bytes now : List ℕ) (b : Agent) → Meets longest_reply s.agent bytes now b → Acts s (Single (Udp bytes)) now (record s { agent = b; late = true })
+Acts-udp s bytes now b meets = λ w h.
+    let k = meets (begun w) (IsAgent-beside w w.stream true s.agent h.agent) in
+    let same = Answers-beside longest_reply (begun w) bytes now k.0 k.1 in
+    (k.0, k.1, record { agent = k.2; stream = h.stream ∙ sym same.0; limit = h.limit; late = sym same.1 })
 
 pub Acts-tcp : (s t : Session) (bytes now : List ℕ) → TakesPiece (record s { late = true }) bytes now t → Acts s (Single (Tcp bytes)) now t
 Acts-tcp s t bytes now takes = λ w h. takes (begun w) (Holds-begun w s h)
 
+pub Acts-sweep : (s : Session) (b : Agent) → ((w : World) → IsAgent w s.agent → IsAgent (swept w) b) → Acts s (Single Sweep) (codes "# sweep" ++ 10 ∷ []) (record s { agent = b; late = true })
+Acts-sweep s b sweeps = λ w h. (swept w, (refl, refl), record { agent = sweeps w h.agent; stream = h.stream; limit = h.limit; late = refl })
+
+-- ---- the end of a configuration
+
+told_so : (w : World) (s : Session) (b : Agent) (h : Holds w s) (read : Result Config ConfigFault) (told : Result (Unit {0}) ConfigFault) → ConfiguresTo w read told b → (v : World) × Configures false w read (config_told told) v × Holds v (record s { agent = b })
+told_so w s b h (Ok c) told t = (record w { place = place_of c; history = [] }, (ap config_told t.0, refl), record { agent = t.1; stream = h.stream; limit = h.limit; late = h.late })
+told_so w s b h (Err e) told t = (w, (ap config_told t.0, refl), record { agent = t.1; stream = h.stream; limit = h.limit; late = h.late })
+
+pub Closes-told : (s : Session) (b : Agent) (kept : Option (List ℕ)) (told : Result (Unit {0}) ConfigFault) → s.late ≡ false → ((w : World) → IsAgent w s.agent → ConfiguresTo w (option_map_or config_of kept (Err Range)) told b) → Closes s Configuration kept (config_told told) (record s { agent = b })
+Closes-told s b kept told early configures = λ w h.
+    let read = option_map_or config_of kept (Err Range) in
+    subst (λ late. (v : World) × Configures late w read (config_told told) v × Holds v (record s { agent = b })) (sym (sym h.late ∙ early)) (told_so w s b h read told (configures w h.agent))
+
+pub Closes-late : (s : Session) (kept : Option (List ℕ)) → s.late ≡ true → Closes s Configuration kept (codes "! late" ++ 10 ∷ []) s
+Closes-late s kept late = λ w h.
+    subst (λ x. (v : World) × Configures x w (option_map_or config_of kept (Err Range)) (codes "! late" ++ 10 ∷ []) v × Holds v s) (sym (sym h.late ∙ late)) (w, (refl, refl), h)
+
+-- ---- a message
+
 -- a message that was answered
-pub Meets-answered : (limit : ℕ) (s : Session) (bytes : List ℕ) (what : Sent) (reply line : List ℕ) (t : Session) → ((w : World) → Holds w s → Takes limit w bytes what reply line t) → Meets limit s bytes (shown reply line) t
-Meets-answered limit s bytes what reply line t takes = λ w h.
+pub Meets-answered : (limit : ℕ) (a : Agent) (bytes : List ℕ) (what : Sent) (reply line : List ℕ) (b : Agent) → ((w : World) → IsAgent w a → Takes limit w bytes what reply line b) → Meets limit a bytes (shown reply line) b
+Meets-answered limit a bytes what reply line b takes = λ w h.
     let k = takes w h in
     (record w { history = followed k.event w.history }, inl (k.outcome, k.event, k.is, ap₂ shown k.told.replied k.told.lined, refl), k.holds)
 
 -- a message that found no memory
-pub Meets-refused : (limit : ℕ) (s : Session) (bytes : List ℕ) (t : Session) → ((w : World) → Holds w s → t ≡ s) → Meets limit s bytes (lacking t.asker bytes) t
-Meets-refused limit s bytes t same = λ w h.
+pub Meets-refused : (limit : ℕ) (a : Agent) (bytes : List ℕ) (b : Agent) → ((w : World) → IsAgent w a → b ≡ a) → Meets limit a bytes (lacking b.asker bytes) b
+Meets-refused limit a bytes b same = λ w h.
     let e = same w h in
-    (w, inr (ap (λ (a : ℕ). lacking a bytes) (ap (λ (u : Session). u.asker) e ∙ h.asker), refl), rw e h)
+    (w, inr (ap (λ (n : ℕ). lacking n bytes) (ap (λ (x : Agent). x.asker) e ∙ h.asker), refl), rw e h)
+
+-- ---- a line
 
 pub TurnsTo-outside : (p : Place) (l now : List ℕ) (q : Place) → p.block ≡ None → q.number ≡ p.number + 1 → TurnsOutside p.session l (p.number + 1) now q.session q.block → TurnsTo p l now q
 TurnsTo-outside p l now q off number turns =

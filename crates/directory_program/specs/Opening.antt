@@ -4,8 +4,13 @@ use Rattle.access_rules.specs.Opening.{opening_rules}
 use Rattle.directory_state.specs.State.{beginning}
 use Rattle.directory_program.specs.Running.{new_stream}
 use Rattle.directory_program.specs.Sites.{opening_place}
+use Rattle.directory_program.specs.declared.agent.Agent.{Agent}
 use Rattle.directory_program.specs.declared.session.Session.{Session}
 
--- nothing has happened, it is moment 0, and datagrams come from 10.0.0.1
+-- nothing has happened, it is moment 0, and messages come from 10.0.0.1
+abbrev pub opening_agent : Agent
+opening_agent = record { directory = beginning (record { rules = opening_rules; site = opening_place }); moment = 0; asker = 167772161 }
+
+-- and nothing came on the stream
 abbrev pub opening_session : Session
-opening_session = record { directory = beginning (record { rules = opening_rules; site = opening_place }); moment = 0; asker = 167772161; stream = new_stream; late = false }
+opening_session = record { agent = opening_agent; stream = new_stream; late = false }

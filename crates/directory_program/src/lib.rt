@@ -1,6 +1,7 @@
 //! The directory programs: so far the replay of a script of messages.
 #![tactic(auto)]
 
+mod agent;
 mod fault;
 mod feeding;
 mod meeting;

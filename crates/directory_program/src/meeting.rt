@@ -3,9 +3,9 @@ ghost use Rattle.std.specs.Io.KnownBytes.{Appends};
 ghost use Rattle.directory_program.specs.Holding.{Meets};
 ghost use Rattle.directory_program.specs.declared.fault.RunFault.TheVariants.{Write as Unwritten};
 
+use crate::agent::Agent;
 use crate::fault::RunFault;
 use crate::printing::{print, print_refusal};
-use crate::session::Session;
 use slp_answer::Answer;
 use slp_text::NoMemory;
 use std::alloc::Global;
@@ -13,7 +13,7 @@ use std::io::Write;
 
 /// Answers a message in at most `limit` bytes, and writes what came of it.
 pub fn meet<W: Write>(
-    session: &mut Session,
+    agent: &mut Agent,
     alloc: Global,
     bytes: &[u8],
     limit: usize,
@@ -23,12 +23,12 @@ pub fn meet<W: Write>(
     requires datagram { 1400 ≤ limit }
     requires stream { limit ≤ 65535 }
     ensures { MatchResult result
-        (λ _. (now : List ℕ) × Appends (W.contents writer.old) (W.contents writer.new) now × Meets limit session.old bytes.now now session.new)
+        (λ _. (now : List ℕ) × Appends (W.contents writer.old) (W.contents writer.new) now × Meets limit agent.old bytes.now now agent.new)
         (λ e. e ≡ Unwritten) }
 {
-    let written = match session.take(alloc, bytes, limit, answer) {
+    let written = match agent.take(alloc, bytes, limit, answer) {
         Ok(_sent) => print(answer.bytes.as_slice(), answer.audit.as_slice(), writer),
-        Err(NoMemory) => print_refusal(bytes, session.asker, writer),
+        Err(NoMemory) => print_refusal(bytes, agent.asker, writer),
     };
     match written {
         Ok(()) => Ok(()),

@@ -91,7 +91,7 @@ fn close_config<W: Write>(
     let written = if session.late {
         writer.write_all(b"! late\n")
     } else {
-        print_told(session.configure(alloc, text)?, writer)
+        print_told(session.agent.configure(alloc, text)?, writer)
     };
     match written {
         Ok(()) => Ok(()),
@@ -130,7 +130,7 @@ fn take_datagram<W: Write>(
 {
     session.late = true;
     meet(
-        session,
+        &mut session.agent,
         alloc,
         bytes.as_slice(),
         LONGEST_REPLY,
@@ -161,7 +161,8 @@ fn sweep<W: Write>(session: &mut Session, writer: &mut W) -> Result<(), RunFault
         (λ _. (now : List ℕ) × Appends (W.contents writer.old) (W.contents writer.new) now × Acts session.old (Single Sweeping) now session.new)
         (λ e. e ≡ Unwritten) }
 {
-    session.tidy();
+    session.agent.tidy();
+    session.late = true;
     match writer.write_all(b"# sweep\n") {
         Ok(()) => Ok(()),
         Err(_) => Err(RunFault::Write),
@@ -182,8 +183,8 @@ fn carry_out<W: Write>(
 {
     match order {
         Order::Blank => {}
-        Order::At(moment) => session.moment = moment,
-        Order::From(asker) => session.asker = Addr(asker),
+        Order::At(moment) => session.agent.moment = moment,
+        Order::From(asker) => session.agent.asker = Addr(asker),
         Order::Udp(bytes) => take_datagram(session, alloc, bytes, answer, writer)?,
         Order::Open => session.stream = Framer::new(alloc, LONGEST_ON_STREAM),
         Order::Tcp(bytes) => take_stream(session, alloc, bytes, answer, writer)?,

@@ -4,14 +4,15 @@ ghost use Rattle.directory_program.specs.Holding.{TakesPiece, Drains};
 ghost use Rattle.directory_program.specs.Running.{bad_length};
 ghost use Rattle.directory_program.specs.declared.fault.RunFault.TheVariants.{Write as Unwritten, NoMemory as Lacking};
 
+use crate::agent::Agent;
 use crate::fault::RunFault;
 use crate::meeting::meet;
 use crate::session::{LONGEST_ON_STREAM, Session};
 use slp_answer::Answer;
 use slp_stream::{FrameFault, Framer};
 use std::alloc::Global;
+use std::io;
 use std::io::Write;
-use std::{io, mem};
 
 // Writes that a stream is cut no further.
 fn print_bad_length<W: Write>(fault: FrameFault, writer: &mut W) -> io::Result<()>
@@ -24,9 +25,9 @@ fn print_bad_length<W: Write>(fault: FrameFault, writer: &mut W) -> io::Result<(
     }
 }
 
-// Answers the whole messages of a stream one after the other, and tells a bad length behind them.
+// Answers the whole messages of a stream one after the other, and tells a bad length after them.
 fn drain<W: Write>(
-    session: &mut Session,
+    agent: &mut Agent,
     stream: &mut Framer,
     alloc: Global,
     answer: &mut Answer,
@@ -34,12 +35,12 @@ fn drain<W: Write>(
 ) -> Result<(), RunFault>
     requires going { stream.old.refused ≡ None }
     ensures { MatchResult result
-        (λ _. (now : List ℕ) × Appends (W.contents writer.old) (W.contents writer.new) now × Drains session.old stream.old now session.new stream.new)
+        (λ _. (now : List ℕ) × Appends (W.contents writer.old) (W.contents writer.new) now × Drains agent.old stream.old now agent.new stream.new)
         (λ e. e ≡ Unwritten) }
 {
     while let Some(next) = stream.next() {
         match next {
-            Ok(message) => meet(session, alloc, message, LONGEST_ON_STREAM, answer, writer)?,
+            Ok(message) => meet(agent, alloc, message, LONGEST_ON_STREAM, answer, writer)?,
             Err(fault) => {
                 return match print_bad_length(fault, writer) {
                     Ok(()) => Ok(()),
@@ -64,13 +65,13 @@ pub fn take_piece<W: Write>(
         (λ e. (e ≡ Unwritten) ⊎ ((e ≡ Lacking) × Keeps (W.contents writer.old) (W.contents writer.new))) }
 {
     match session.stream.feed(bytes) {
-        Ok(()) => {
-            let fresh = Framer::new(alloc, LONGEST_ON_STREAM);
-            let mut stream = mem::replace(&mut session.stream, fresh);
-            let told = drain(session, &mut stream, alloc, answer, writer);
-            session.stream = stream;
-            told
-        }
+        Ok(()) => drain(
+            &mut session.agent,
+            &mut session.stream,
+            alloc,
+            answer,
+            writer,
+        ),
         Err(FrameFault::NoMemory) => Err(RunFault::NoMemory),
         Err(_) => match writer.write_all(b"! closed\n") {
             Ok(()) => Ok(()),

@@ -6,7 +6,7 @@ use Rattle.directory_program.proofs.Streams.{Drained-begin, Drained-more, Draine
 use Rattle.directory_program.proofs.streaming.drain.Goals as goal
 
 pub loop-next-init : goal.loop-next-init
-loop-next-init g c = ([], [], Appends-none _, Drained-begin c.args.session.now c.args.stream.now c.requires.going)
+loop-next-init g c = ([], [], Appends-none _, Drained-begin c.args.agent.now c.args.stream.now c.requires.going)
 
 pub loop-next-preserved : goal.loop-next-preserved
 loop-next-preserved g c =
@@ -16,7 +16,7 @@ loop-next-preserved g c =
     let given : Some (Ok message) ≡ answered before = sym (ap shown (c.in-Some.is ∙ ap Some c.in-Ok.is)) ∙ c.next.ensures.answer in
     let s = c.loop-next.invariant in
     let met = c.in_ok-meet-in-Ok.ensures in
-    (s.0 ++ message ∷ [], s.1 ++ met.0, Appends-append _ _ _ s.1 met.0 s.2 met.1, Drained-more _ _ s.0 s.1 c.loop-next.session before message met.0 _ after s.3 given c.next.follows.holds-at-none met.2)
+    (s.0 ++ message ∷ [], s.1 ++ met.0, Appends-append _ _ _ s.1 met.0 s.2 met.1, Drained-more _ _ s.0 s.1 c.loop-next.agent before message met.0 _ after s.3 given c.next.follows.holds-at-none met.2)
 
 pub returns-in-Ok-print_bad_length : goal.returns-in-Ok-print_bad_length
 returns-in-Ok-print_bad_length g c =
@@ -24,7 +24,7 @@ returns-in-Ok-print_bad_length g c =
     let after : Frames = c.next.follows.lender-at-none in
     let given : Some (Err c.in-Err.fault) ≡ answered before = sym (ap shown (c.in-Some.is ∙ ap Some c.in-Err.is)) ∙ c.next.ensures.answer in
     let s = c.loop-next.invariant in
-    (s.1 ++ bad_length c.in-Err.fault, Appends-append _ _ _ s.1 _ s.2 c.in-Ok-print_bad_length.ensures, Drained-bad _ _ s.0 s.1 c.loop-next.session before c.in-Err.fault after s.3 given c.next.follows.holds-at-none)
+    (s.1 ++ bad_length c.in-Err.fault, Appends-append _ _ _ s.1 _ s.2 c.in-Ok-print_bad_length.ensures, Drained-bad _ _ s.0 s.1 c.loop-next.agent before c.in-Err.fault after s.3 given c.next.follows.holds-at-none)
 
 pub returns : goal.returns
 returns g c =
@@ -32,4 +32,4 @@ returns g c =
     let after : Frames = c.next.follows.lender-at-none in
     let given : None ≡ answered before = sym (ap shown c.in_default.is) ∙ c.next.ensures.answer in
     let s = c.loop-next.invariant in
-    (s.1, s.2, Drained-wants _ _ s.0 s.1 c.loop-next.session before after s.3 given c.next.follows.holds-at-none)
+    (s.1, s.2, Drained-wants _ _ s.0 s.1 c.loop-next.agent before after s.3 given c.next.follows.holds-at-none)

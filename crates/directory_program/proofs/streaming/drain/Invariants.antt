@@ -4,7 +4,7 @@ use Rattle.directory_program.proofs.Streams.{Drained}
 use Rattle.directory_program.proofs.streaming.drain.Given as goal
 
 abbrev pub invariant-loop-next : goal.invariant-loop-next
-invariant-loop-next g l = (ms : List (List ℕ)) × (said : List ℕ) × Appends (g.W.Write.contents l.initial.writer) (g.W.Write.contents l.writer) said × Drained l.fn.session l.fn.stream ms said l.session l.stream
+invariant-loop-next g l = (ms : List (List ℕ)) × (said : List ℕ) × Appends (g.W.Write.contents l.initial.writer) (g.W.Write.contents l.writer) said × Drained l.fn.agent l.fn.stream ms said l.agent l.stream
 
 abbrev pub decreases-loop-next : goal.decreases-loop-next
 decreases-loop-next g l = length l.stream.waiting

@@ -1,4 +1,4 @@
-use Rattle.std.proofs.Common.{◌≡◌, Option, None, Some, Result, Ok, Err, inl, refl, ◌∙◌}
+use Rattle.std.proofs.Common.{◌≡◌, Option, None, Some, Result, Ok, Err, inl, refl}
 use Rattle.std.specs.Prelude.{◌⊎◌, MatchResult}
 use Rattle.slp_stream.specs.Framing.{Frames, Refuses}
 use Rattle.slp_stream.specs.declared.fault.FrameFault.{FrameFault}
@@ -18,6 +18,4 @@ told_as A B K (Err e) f h = inl h
 pub returns-in-Ok : goal.returns-in-Ok
 returns-in-Ok g c =
     let none = unrefused c.args.session.now.stream c.args.session.now.stream.refused refl c.in-Ok.ensures.faults in
-    let fresh = c.replace-stream.ensures.after ∙ c.new-fresh.ensures in
-    let fed = c.replace-stream.ensures.value ∙ c.in-Ok.ensures.fed in
-    told_as _ _ _ c.drain-told.result (λ h. (h.0, h.1, TakesPiece-fed c.args.session.now c.args.bytes.now h.0 c.replace-stream.new.dest c.drain-told.new.session c.replace-stream.result c.drain-told.new.stream _ fresh none fed h.2 refl)) c.drain-told.ensures
+    told_as _ _ _ c.drain.result (λ h. (h.0, h.1, TakesPiece-fed c.args.session.now c.args.bytes.now h.0 c.feed.new.self c.drain.new.stream c.drain.new.agent none c.in-Ok.ensures.fed h.2)) c.drain.ensures

@@ -1,6 +1,0 @@
-use Rattle.std.proofs.Common.{refl}
-use Rattle.directory_program.proofs.Renewed.{Holds-swept}
-use Rattle.directory_program.proofs.session.Session.tidy.Goals as goal
-
-pub returns : goal.returns
-returns c = λ w h. Holds-swept w c.args.self.now _ c.now-now.result h c.now-now.ensures c.apply.ensures.fold refl refl refl refl

@@ -1,0 +1,152 @@
+ghost use Rattle.std.specs.Prelude.{◌≡◌, ◌≤◌, [], IfOk, MatchResult};
+ghost use Rattle.std.specs.Option.{option_map_or, option_copied};
+ghost use Rattle.access_rules.specs.Opening.{opening_rules};
+ghost use Rattle.directory_state.specs.Folding.{Fold};
+ghost use Rattle.directory_state.specs.State.{beginning};
+ghost use Rattle.directory_program.specs.Running.{place_of};
+ghost use Rattle.site_config.specs.Configuring.{config_of, IsWithin};
+ghost use Rattle.site_config.specs.declared.fault.ConfigFault.TheVariants.{Range};
+ghost use Rattle.directory_program.specs.Sites.{opening_place};
+
+use access_rules::{Addr, Rules};
+use directory_judge::{Change, Site};
+use directory_state::Directory;
+use registry_core::{ListRegistry, RegistryFault};
+use site_config::{Config, ConfigFault};
+use slp_answer::{Answer, Call, Sent, step};
+use slp_text::{NoMemory, ScopeList, TextFault};
+use std::alloc::Global;
+use std::sync::Arc;
+
+/// The entries of the opening site.
+const CAPACITY: usize = 16;
+
+/// The boot stamp of the opening site.
+const BOOT: u32 = 1;
+
+/// 10.0.0.1, from which messages come at first.
+const FIRST_ASKER: Addr = Addr(0x0a00_0001);
+
+/// 127.0.0.1, at which they arrive.
+const OWN: Addr = Addr(0x7f00_0001);
+
+/// What answers messages: the directory, the moment that was set, and from where messages come.
+#[derive(Drop)]
+pub struct Agent {
+    pub directory: Directory<ListRegistry>,
+    pub moment: u32,
+    pub asker: Addr,
+}
+
+// The site of one scope, `DEFAULT`.
+fn opening_site(alloc: Global) -> Result<Site, NoMemory>
+    ensures { IfOk result (λ s. s ≡ opening_place) }
+{
+    match ScopeList::parse(alloc, "DEFAULT") {
+        Ok(scopes) => Ok(Site::new(scopes, CAPACITY, BOOT)),
+        Err(TextFault::NoMemory) => Err(NoMemory),
+        Err(TextFault::BadEscape | TextFault::Reserved | TextFault::NotUtf8) => unreachable!(),
+    }
+}
+
+// The site that a configuration describes.
+fn site_of(config: Config) -> Site
+    requires { IsWithin config }
+    ensures { result ≡ place_of config }
+{
+    let Config {
+        scopes,
+        capacity,
+        ..
+    } = config;
+    Site::new(scopes, capacity, BOOT)
+}
+
+// A directory to which nothing happened, with rules that allow everything to everyone.
+fn begin(alloc: Global, site: &Site) -> Result<Directory<ListRegistry>, NoMemory>
+    ensures state { IfOk result (λ d. d ≡ beginning (record { rules = opening_rules; site = site.now })) }
+    ensures fold { IfOk result (λ d. Fold (record { rules = opening_rules; site = site.now }) [] d) }
+{
+    let rules = Arc::new(alloc, Rules::opening(alloc)?)?;
+    match ListRegistry::new(alloc, site.capacity()) {
+        Ok(registry) => Directory::open(alloc, registry, site, rules),
+        Err(RegistryFault::NoMemory) => Err(NoMemory),
+        Err(RegistryFault::Full) => unreachable!(),
+    }
+}
+
+impl Agent {
+    ghost use Rattle.directory_program.specs.Opening.{opening_agent};
+    ghost use Rattle.directory_program.specs.Holding.{IsAgent, Takes, ConfiguresTo};
+    ghost use Rattle.directory_program.specs.Running.{World, swept};
+
+    /// The setup with which a run begins: the scope `DEFAULT`, room for 16 entries, and rules that
+    /// allow everything to everyone.
+    pub fn open(alloc: Global) -> Result<Agent, NoMemory>
+        ensures { IfOk result (λ a. a ≡ opening_agent) }
+    {
+        let site = opening_site(alloc)?;
+        Ok(Agent {
+            directory: begin(alloc, &site)?,
+            moment: 0,
+            asker: FIRST_ASKER,
+        })
+    }
+
+    /// Begins anew on the site of a configuration, without entries and at clock 0. The rules are the
+    /// opening ones; the moment and the asker stay. A refused text changes nothing, and
+    /// one that is not kept is out of its range.
+    pub fn configure(
+        &mut self,
+        alloc: Global,
+        text: Option<&str>,
+    ) -> Result<Result<(), ConfigFault>, NoMemory>
+        ensures { (w : World) → IsAgent w self.old → IfOk result (λ told. ConfiguresTo w (option_map_or config_of (option_copied text.entry) (Err Range)) told self.new) }
+    {
+        let Some(text) = text else {
+            return Ok(Err(ConfigFault::Range));
+        };
+        match Config::from_text(alloc, text) {
+            Ok(config) => {
+                let site = site_of(config);
+                self.directory = begin(alloc, &site)?;
+                Ok(Ok(()))
+            }
+            Err(ConfigFault::NoMemory) => Err(NoMemory),
+            Err(fault) => Ok(Err(fault)),
+        }
+    }
+
+    /// Sweeps at the moment that was set, or at the clock where that is greater.
+    pub fn tidy(&mut self)
+        ensures { (w : World) → IsAgent w self.old → IsAgent (swept w) self.new }
+    {
+        let now = self.directory.now(self.moment);
+        self.directory.apply(Change::Sweep(now));
+    }
+
+    /// Answers a message in at most `limit` bytes, and makes the change that it asks for. The reply
+    /// and the audit line are left in `answer`. `NoMemory` changes nothing.
+    pub fn take(
+        &mut self,
+        alloc: Global,
+        bytes: &[u8],
+        limit: usize,
+        answer: &mut Answer,
+    ) -> Result<Sent, NoMemory>
+        requires datagram { 1400 ≤ limit }
+        requires stream { limit ≤ 65535 }
+        ensures { (w : World) → IsAgent w self.old → MatchResult result
+            (λ what. Takes limit w bytes.now what answer.new.bytes.items answer.new.audit.items self.new)
+            (λ _. self.new ≡ self.old) }
+    {
+        let call = Call {
+            own: OWN,
+            moment: self.moment,
+            asker: self.asker,
+            bytes,
+            limit,
+        };
+        step(alloc, &mut self.directory, &call, answer)
+    }
+}
