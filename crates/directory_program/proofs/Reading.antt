@@ -24,6 +24,8 @@ Holds-opening = record {
   agent = record {
     legal = tt;
     fold = record { entries = AreLive-nil; ruled = refl; placed = refl; clocks = refl };
+    listen = refl;
+    loop = refl;
     moment = refl;
     asker = refl;
   };

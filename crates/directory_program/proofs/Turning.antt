@@ -7,7 +7,7 @@ use Rattle.slp_script.specs.Commands.{Single}
 use Rattle.slp_script.specs.declared.command.Order.TheVariants.{Blank, At, From, Udp, Open, Tcp, Sweep}
 use Rattle.slp_script.specs.declared.command.Block.TheVariants.{Config as Configuration}
 use Rattle.directory_program.specs.Holding.{Holds, IsAgent, Takes, TakesPiece, Acts, Meets, ConfiguresTo, config_told}
-use Rattle.directory_program.specs.Running.{World, Answers, Configures, lacking, shown, new_stream, longest_reply, begun, swept, place_of}
+use Rattle.directory_program.specs.Running.{World, Answers, Configures, lacking, shown, new_stream, longest_reply, begun, swept, renewed}
 use Rattle.directory_program.specs.Standing.{Closes, Turns, TurnsTo, TurnsOutside, TurnsInside}
 use Rattle.directory_program.specs.declared.place.OpenBlock.{OpenBlock}
 use Rattle.directory_program.specs.declared.place.Place.{Place}
@@ -25,17 +25,17 @@ Acts-blank s t e = λ w h. (w, (refl, refl), rw e h)
 
 -- the agent does not know of the stream, nor whether it is too late for another site
 pub IsAgent-beside : (w : World) (f : Frames) (late : Bool) (a : Agent) → IsAgent w a → IsAgent (record w { stream = f; late = late }) a
-IsAgent-beside w f late a h = record { legal = h.legal; fold = h.fold; moment = h.moment; asker = h.asker }
+IsAgent-beside w f late a h = record { legal = h.legal; fold = h.fold; listen = h.listen; loop = h.loop; moment = h.moment; asker = h.asker }
 
 pub Answers-beside : (limit : ℕ) (w : World) (m out : List ℕ) (v : World) → Answers limit w m out v → (v.stream ≡ w.stream) × (v.late ≡ w.late)
 Answers-beside limit w m out v (inl a) = (ap (λ (x : World). x.stream) a.4, ap (λ (x : World). x.late) a.4)
 Answers-beside limit w m out v (inr a) = (ap (λ (x : World). x.stream) a.1, ap (λ (x : World). x.late) a.1)
 
 pub Acts-at : (s t : Session) (m : ℕ) → t ≡ record s { agent = record s.agent { moment = m } } → Acts s (Single (At m)) [] t
-Acts-at s t m e = λ w h. (record w { moment = m }, (refl, refl), rw e (record { agent = record { legal = h.agent.legal; fold = h.agent.fold; moment = refl; asker = h.agent.asker }; stream = h.stream; limit = h.limit; late = h.late }))
+Acts-at s t m e = λ w h. (record w { moment = m }, (refl, refl), rw e (record { agent = record { legal = h.agent.legal; fold = h.agent.fold; listen = h.agent.listen; loop = h.agent.loop; moment = refl; asker = h.agent.asker }; stream = h.stream; limit = h.limit; late = h.late }))
 
 pub Acts-from : (s t : Session) (a : ℕ) → t ≡ record s { agent = record s.agent { asker = a } } → Acts s (Single (From a)) [] t
-Acts-from s t a e = λ w h. (record w { asker = a }, (refl, refl), rw e (record { agent = record { legal = h.agent.legal; fold = h.agent.fold; moment = h.agent.moment; asker = refl }; stream = h.stream; limit = h.limit; late = h.late }))
+Acts-from s t a e = λ w h. (record w { asker = a }, (refl, refl), rw e (record { agent = record { legal = h.agent.legal; fold = h.agent.fold; listen = h.agent.listen; loop = h.agent.loop; moment = h.agent.moment; asker = refl }; stream = h.stream; limit = h.limit; late = h.late }))
 
 pub Acts-open : (s t : Session) → t ≡ record s { stream = new_stream } → Acts s (Single Open) [] t
 Acts-open s t e = λ w h. (record w { stream = new_stream }, (refl, refl), rw e (record { agent = IsAgent-beside w new_stream w.late s.agent h.agent; stream = refl; limit = refl; late = h.late }))
@@ -59,7 +59,7 @@ Acts-sweep s b sweeps = λ w h. (swept w, (refl, refl), record { agent = sweeps 
 -- ---- the end of a configuration
 
 told_so : (w : World) (s : Session) (b : Agent) (h : Holds w s) (read : Result Config ConfigFault) (told : Result (Unit {0}) ConfigFault) → ConfiguresTo w read told b → (v : World) × Configures false w read (config_told told) v × Holds v (record s { agent = b })
-told_so w s b h (Ok c) told t = (record w { place = place_of c; history = [] }, (ap config_told t.0, refl), record { agent = t.1; stream = h.stream; limit = h.limit; late = h.late })
+told_so w s b h (Ok c) told t = (renewed c w, (ap config_told t.0, refl), record { agent = t.1; stream = h.stream; limit = h.limit; late = h.late })
 told_so w s b h (Err e) told t = (w, (ap config_told t.0, refl), record { agent = t.1; stream = h.stream; limit = h.limit; late = h.late })
 
 pub Closes-told : (s : Session) (b : Agent) (kept : Option (List ℕ)) (told : Result (Unit {0}) ConfigFault) → s.late ≡ false → ((w : World) → IsAgent w s.agent → ConfiguresTo w (option_map_or config_of kept (Err Range)) told b) → Closes s Configuration kept (config_told told) (record s { agent = b })

@@ -14,7 +14,7 @@ use Rattle.slp_answer.specs.declared.answer.Sent.{Sent}
 use Rattle.slp_stream.specs.Cutting.{front_of, IsCut}
 use Rattle.slp_stream.specs.Framing.{Frames}
 use Rattle.slp_script.specs.Commands.{Command}
-use Rattle.directory_program.specs.Running.{World, opening_of, call_of, Answers, AnswersAll, Pieces, Does, closed, fault_number, place_of, end_told, end_refused, longest_on_stream}
+use Rattle.directory_program.specs.Running.{World, opening_of, call_of, Answers, AnswersAll, Pieces, Does, closed, fault_number, renewed, end_told, end_refused, longest_on_stream}
 use Rattle.site_config.specs.declared.config.Config.{Config}
 use Rattle.site_config.specs.declared.fault.ConfigFault.{ConfigFault}
 use Rattle.directory_program.specs.declared.agent.Agent.{Agent}
@@ -24,6 +24,8 @@ use Rattle.directory_program.specs.declared.session.Session.{Session}
 pub record IsAgent (w : World) (a : Agent) : Type 0 where
   pub legal : IsLegal (opening_of w) w.history
   pub fold : Fold (opening_of w) w.history a.directory
+  pub listen : a.listen ≡ w.listen
+  pub loop : a.loop_place ≡ w.loop
   pub moment : a.moment ≡ w.moment
   pub asker : a.asker ≡ w.asker
 
@@ -73,5 +75,5 @@ config_told (Err e) = fault_told e
 
 -- what came of a configuration, and the agent after it: that of the new site, or the one that it was
 abbrev pub ConfiguresTo : World → Result Config ConfigFault → Result (Unit {0}) ConfigFault → Agent → Type 0
-ConfiguresTo w (Ok c) told a = (told ≡ Ok tt) × IsAgent (record w { place = place_of c; history = [] }) a
+ConfiguresTo w (Ok c) told a = (told ≡ Ok tt) × IsAgent (renewed c w) a
 ConfiguresTo w (Err e) told a = (told ≡ Err e) × IsAgent w a

@@ -1,6 +1,7 @@
 -- What a script may make the program write.
-use Rattle.std.specs.Prelude.{◌≡◌, ◌⊎◌, ℕ, Bool, true, false, ◌==◌, Result, Ok, Err, List, [], ◌∷◌, ◌++◌, length, codes, Option, Some, None, MatchOption, if◌then◌else◌}
+use Rattle.std.specs.Prelude.{◌≡◌, ◌⊎◌, ℕ, Bool, true, false, ◌==◌, Result, Ok, Err, List, [], ◌∷◌, ◌++◌, length, codes, slice_get, Option, Some, None, MatchOption, if◌then◌else◌}
 use Rattle.std.specs.List.{flat_map}
+use Rattle.std.specs.Option.{option_map_or}
 use Rattle.hex.specs.Hex.{encode_lower}
 use Rattle.slp_headers.specs.Headers.{heading_of}
 use Rattle.access_rules.specs.Deciding.{SiteRules}
@@ -42,23 +43,29 @@ longest_on_stream = 65535
 abbrev pub new_stream : Frames
 new_stream = record { limit = longest_on_stream; waiting = []; refused = None }
 
--- The site and what happened to it, the moment that was set, from where messages come, what came of the stream and is no whole message, and whether
--- it is too late for another site.
+-- The site and what happened to it, the addresses and ports that are listened on, the loop at one of them (counted from 0) to which messages come, the
+-- moment that was set, from where messages come, what came of the stream and is no whole message, and whether it is too late for another site.
 pub record World : Type 0 where
   pub place : Place
   pub history : History
+  pub listen : List (ℕ × ℕ)
+  pub loop : ℕ
   pub moment : ℕ
   pub asker : ℕ
   pub stream : Frames
   pub late : Bool
 
--- nothing happened to the opening site, it is moment 0, messages come from 10.0.0.1, and a stream is open
-abbrev pub beginning : World
-beginning = record { place = opening_place; history = []; moment = 0; asker = 167772161; stream = new_stream; late = false }
+-- 127.0.0.1 and 127.0.0.2
+abbrev pub opening_listen : List (ℕ × ℕ)
+opening_listen = (2130706433, 427) ∷ (2130706434, 427) ∷ []
 
--- 127.0.0.1, at which messages arrive
-abbrev pub own_address : ℕ
-own_address = 2130706433
+-- nothing happened to the opening site, it is moment 0, messages come from 10.0.0.1 to the first loop, and a stream is open
+abbrev pub beginning : World
+beginning = record { place = opening_place; history = []; listen = opening_listen; loop = 0; moment = 0; asker = 167772161; stream = new_stream; late = false }
+
+-- the address at which messages arrive
+abbrev pub own_at : List (ℕ × ℕ) → ℕ → ℕ
+own_at listen loop = option_map_or (λ p. p.0) (slice_get listen loop) 0
 
 -- the rules and the site with which it began
 abbrev pub opening_of : World → Opening
@@ -66,7 +73,7 @@ opening_of w = record { rules = opening_rules; site = w.place }
 
 -- a message that is answered in at most so many bytes
 abbrev pub call_of : ℕ → World → List ℕ → Call
-call_of limit w bytes = record { own = own_address; moment = w.moment; asker = w.asker; bytes = bytes; limit = limit }
+call_of limit w bytes = record { own = own_at w.listen w.loop; moment = w.moment; asker = w.asker; bytes = bytes; limit = limit }
 
 -- what is written for a message: the digits of the reply or a dash, and then the audit line, if any
 abbrev pub shown : List ℕ → List ℕ → List ℕ
@@ -142,10 +149,14 @@ text_of body = flat_map ended body
 abbrev pub place_of : Config → Place
 place_of c = record { scopes = c.scopes; capacity = c.capacity; boot = 1 }
 
+-- a new site, at its first loop
+abbrev pub renewed : Config → World → World
+renewed c w = record w { place = place_of c; history = []; listen = c.listen; loop = 0 }
+
 -- what a configuration may write, and what it leaves: a new site, unless it is refused or too late
 abbrev pub Configures : Bool → World → Result Config ConfigFault → List ℕ → World → Type 0
 Configures true w read out v = (out ≡ codes "! late" ++ 10 ∷ []) × (v ≡ w)
-Configures false w (Ok c) out v = (out ≡ codes "# config" ++ 10 ∷ []) × (v ≡ record w { place = place_of c; history = [] })
+Configures false w (Ok c) out v = (out ≡ codes "# config" ++ 10 ∷ []) × (v ≡ renewed c w)
 Configures false w (Err e) out v = (out ≡ codes "! config " ++ decimal (fault_number e) ++ 10 ∷ []) × (v ≡ w)
 
 -- what a command may write, and what it leaves

@@ -3,7 +3,7 @@ ghost use Rattle.std.specs.Option.{option_map_or, option_copied};
 ghost use Rattle.access_rules.specs.Opening.{opening_rules};
 ghost use Rattle.directory_state.specs.Folding.{Fold};
 ghost use Rattle.directory_state.specs.State.{beginning};
-ghost use Rattle.directory_program.specs.Running.{place_of};
+ghost use Rattle.directory_program.specs.Running.{opening_listen, place_of};
 ghost use Rattle.site_config.specs.Configuring.{config_of, IsWithin};
 ghost use Rattle.site_config.specs.declared.fault.ConfigFault.TheVariants.{Range};
 ghost use Rattle.directory_program.specs.Sites.{opening_place};
@@ -14,7 +14,7 @@ use directory_state::Directory;
 use registry_core::{ListRegistry, RegistryFault};
 use site_config::{Config, ConfigFault};
 use slp_answer::{Answer, Call, Sent, step};
-use slp_text::{NoMemory, ScopeList, TextFault};
+use slp_text::{NoMemory, Row, ScopeList, TextFault};
 use std::alloc::Global;
 use std::sync::Arc;
 
@@ -27,13 +27,22 @@ const BOOT: u32 = 1;
 /// 10.0.0.1, from which messages come at first.
 const FIRST_ASKER: Addr = Addr(0x0a00_0001);
 
-/// 127.0.0.1, at which they arrive.
-const OWN: Addr = Addr(0x7f00_0001);
+/// The port of the protocol (RFC 2608, section 4.1).
+const PORT: u16 = 427;
 
-/// What answers messages: the directory, the moment that was set, and from where messages come.
+/// 127.0.0.1, at which the first loop of the opening site listens.
+const FIRST_LOOP: Addr = Addr(0x7f00_0001);
+
+/// 127.0.0.2, at which the second does.
+const SECOND_LOOP: Addr = Addr(0x7f00_0002);
+
+/// What answers messages: the directory, the addresses and ports that are listened on, the loop at one
+/// of them (counted from 0) to which messages come, the moment that was set, and from where they come.
 #[derive(Drop)]
 pub struct Agent {
     pub directory: Directory<ListRegistry>,
+    pub listen: Row<(Addr, u16)>,
+    pub loop_place: usize,
     pub moment: u32,
     pub asker: Addr,
 }
@@ -49,17 +58,27 @@ fn opening_site(alloc: Global) -> Result<Site, NoMemory>
     }
 }
 
-// The site that a configuration describes.
-fn site_of(config: Config) -> Site
+// The addresses of its loops.
+fn opening_addresses(alloc: Global) -> Result<Row<(Addr, u16)>, NoMemory>
+    ensures { IfOk result (λ l. l ≡ opening_listen) }
+{
+    let listen = vec![in alloc; (FIRST_LOOP, PORT), (SECOND_LOOP, PORT)]?;
+    Ok(Row::wrap(listen))
+}
+
+// The site that a configuration describes, and the addresses of its loops.
+fn site_of(config: Config) -> (Site, Row<(Addr, u16)>)
     requires { IsWithin config }
-    ensures { result ≡ place_of config }
+    ensures site { result.0 ≡ place_of config }
+    ensures listen { result.1 ≡ config.listen }
 {
     let Config {
         scopes,
+        listen,
         capacity,
         ..
     } = config;
-    Site::new(scopes, capacity, BOOT)
+    (Site::new(scopes, capacity, BOOT), listen)
 }
 
 // A directory to which nothing happened, with rules that allow everything to everyone.
@@ -78,7 +97,7 @@ fn begin(alloc: Global, site: &Site) -> Result<Directory<ListRegistry>, NoMemory
 impl Agent {
     ghost use Rattle.directory_program.specs.Opening.{opening_agent};
     ghost use Rattle.directory_program.specs.Holding.{IsAgent, Takes, ConfiguresTo};
-    ghost use Rattle.directory_program.specs.Running.{World, swept};
+    ghost use Rattle.directory_program.specs.Running.{World, own_at, swept};
 
     /// The setup with which a run begins: the scope `DEFAULT`, room for 16 entries, and rules that
     /// allow everything to everyone.
@@ -88,13 +107,15 @@ impl Agent {
         let site = opening_site(alloc)?;
         Ok(Agent {
             directory: begin(alloc, &site)?,
+            listen: opening_addresses(alloc)?,
+            loop_place: 0,
             moment: 0,
             asker: FIRST_ASKER,
         })
     }
 
     /// Begins anew on the site of a configuration, without entries and at clock 0. The rules are the
-    /// opening ones; the moment and the asker stay. A refused text changes nothing, and
+    /// opening ones; the moment and the asker stay, and messages come to the first loop. A refused text changes nothing, and
     /// one that is not kept is out of its range.
     pub fn configure(
         &mut self,
@@ -108,12 +129,24 @@ impl Agent {
         };
         match Config::from_text(alloc, text) {
             Ok(config) => {
-                let site = site_of(config);
+                let (site, listen) = site_of(config);
                 self.directory = begin(alloc, &site)?;
+                self.listen = listen;
+                self.loop_place = 0;
                 Ok(Ok(()))
             }
             Err(ConfigFault::NoMemory) => Err(NoMemory),
             Err(fault) => Ok(Err(fault)),
+        }
+    }
+
+    /// The address at which messages arrive.
+    fn own(&self) -> Addr
+        ensures { result ≡ own_at self.now.listen self.now.loop_place }
+    {
+        match self.listen.as_slice().get(self.loop_place) {
+            Some((address, _)) => *address,
+            None => Addr(0),
         }
     }
 
@@ -141,7 +174,7 @@ impl Agent {
             (λ _. self.new ≡ self.old) }
     {
         let call = Call {
-            own: OWN,
+            own: self.own(),
             moment: self.moment,
             asker: self.asker,
             bytes,
