@@ -1,15 +1,20 @@
 # make run     replays a small script with the proved program
+# make day     replays a day of a small site; examples/day.md explains it
 # make try     replays it with the program as it stands, unproved, in about a minute
 # make build   proves what the program needs, crates side by side, and leaves it in bin/
 # make test    the gate
 # make bench   counts instructions per message, with the built program; it is no part of the gate, and needs valgrind
-.PHONY: run try build programs test bench
+.PHONY: run day try build programs test bench
 
 script := examples/printer.script
 jobs := $(shell nproc)
 
 run: build
 	@bin/slpreplay < $(script)
+
+# Its last line is not a command, so the status is 3.
+day: build
+	@bin/slpreplay < crates/slpreplay/stdin || test $$? = 3
 
 try:
 	@echo "Compiling without any proof: what follows shows how the program works, and proves nothing."

@@ -26,7 +26,7 @@ split-at byte (x ∷ xs) ys h =
     let other = not_byte x byte h.0 in
     rw (other, split-at byte xs ys h.1) refl
 
--- a byte that is no digit
+-- a byte that is not a digit
 abbrev pub IsNoDigit : ℕ → Type 0
 IsNoDigit byte = (b : Bool) → (nat_le 48 byte && nat_le byte 57 && b) ≡ false
 
@@ -70,7 +70,7 @@ parts p (x ∷ xs) =
       ]
     ]
 
--- ---- what is no address
+-- ---- what is not an address
 one-not : (o : Option ℕ) → address_in (o ∷ []) ≡ None
 one-not None = refl
 one-not (Some a) = refl

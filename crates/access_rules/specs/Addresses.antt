@@ -4,7 +4,7 @@ use Rattle.std.specs.Fmt.{decimal}
 use Rattle.std.specs.Option.{option_and_then}
 use Rattle.std.specs.List.{slice_split}
 
--- digits behind the value v, below 2^32
+-- digits after the value v, below 2^32
 abbrev pub number_from : ℕ → List ℕ → Option ℕ
 number_from v [] = Some v
 number_from v (x ∷ xs) =

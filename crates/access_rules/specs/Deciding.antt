@@ -10,7 +10,7 @@ use Rattle.access_rules.specs.declared.rule.Prefix.{Prefix}
 use Rattle.access_rules.specs.declared.rule.Rule.{Rule}
 use Rattle.access_rules.specs.declared.rules.Verdict.{Verdict}
 
--- the first bits of a prefix are those of the address; bits behind them are ignored
+-- the first bits of a prefix are those of the address; bits after them are ignored
 abbrev pub holds : Prefix → ℕ → Bool
 holds p addr = nat_le p.bits 32 && (p.addr / 2 ^ (32 - p.bits) == addr / 2 ^ (32 - p.bits))
 

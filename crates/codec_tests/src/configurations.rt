@@ -40,12 +40,12 @@ fn joined(alloc: Global, parts: &[&str]) -> Result<String, Fail> {
     Ok(text)
 }
 
-// Why a text is no configuration, if it is none.
+// Why a text is not a configuration, if it is none.
 fn fault_of(alloc: Global, text: &str) -> Option<ConfigFault> {
     Config::from_text(alloc, text).err()
 }
 
-// Texts in parts, and why they are no configuration; each under what stands out in it.
+// Texts in parts, and why they are not a configuration; each under what stands out in it.
 static TEXTS: [(&str, &[&str], Option<ConfigFault>); 46] = [
     // limits
     (

@@ -123,7 +123,7 @@ fn fields_are_read(rt: HostRuntime) -> Result<(), Fail> {
     Ok(())
 }
 
-// The message in front of the bytes, as it is written behind other bytes.
+// The message in front of the bytes, as it is written after other bytes.
 fn written(alloc: Global, bytes: &[u8]) -> Result<Vec<u8>, WireFault> {
     let mut written = Vec::from_slice(alloc, b"before")?;
     let message = decode(alloc, bytes)?;
@@ -135,7 +135,7 @@ fn written(alloc: Global, bytes: &[u8]) -> Result<Vec<u8>, WireFault> {
     }
 }
 
-// Whether the message in front of the bytes is written as these digits, behind other bytes.
+// Whether the message in front of the bytes is written as these digits, after other bytes.
 fn is_written_as(alloc: Global, digits: &str, want: &str) -> Result<bool, Fail> {
     let bytes = hex::decode(alloc, digits)?;
     let written = written(alloc, bytes.as_slice())?;
@@ -256,7 +256,7 @@ fn header_of_request(alloc: Global) -> Result<Header, Fail> {
     }
 }
 
-// Why a reply is not written behind the bytes, if it is not.
+// Why a reply is not written after the bytes, if it is not.
 fn fault_of_reply(header: Header, reply: ServiceReply, bytes: &mut Vec<u8>) -> Option<WireFault> {
     let message = Message::ServiceReply(header, reply);
     let fault = encode(&message, bytes).err();
@@ -276,8 +276,8 @@ fn long_reply(alloc: Global) -> Result<ServiceReply, Fail> {
     Ok(ServiceReply::Found(Row::wrap(vec![in alloc; entry]?)))
 }
 
-// Why a reply with the header of the request is not written behind the bytes, if it is not.
-fn fault_behind(
+// Why a reply with the header of the request is not written after the bytes, if it is not.
+fn fault_after(
     alloc: Global,
     reply: ServiceReply,
     bytes: &mut Vec<u8>,
@@ -289,7 +289,7 @@ fn fault_behind(
 #[test]
 fn long_strings_are_refused(rt: HostRuntime) -> Result<(), Fail> {
     let mut bytes = Vec::from_slice(rt.alloc(), b"before")?;
-    let fault = fault_behind(rt.alloc(), long_reply(rt.alloc())?, &mut bytes)?;
+    let fault = fault_after(rt.alloc(), long_reply(rt.alloc())?, &mut bytes)?;
     let told = fault == Some(WireFault::TooLong) && bytes.as_slice() == b"before".as_slice();
     assert_holds(&rt, told, "65,536 letters");
     Ok(())
@@ -311,7 +311,7 @@ fn codes_are_written(rt: HostRuntime) -> Result<(), Fail> {
     let code = ErrorCode::new(4);
     assert_holds(&rt, code.get() == 4, "4");
     let mut bytes = Vec::new(rt.alloc());
-    let fault = fault_behind(rt.alloc(), ServiceReply::Refused(code), &mut bytes)?;
+    let fault = fault_after(rt.alloc(), ServiceReply::Refused(code), &mut bytes)?;
     let digits = hex::encode(rt.alloc(), bytes.as_slice())?;
     assert_holds(
         &rt,

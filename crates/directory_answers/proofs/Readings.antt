@@ -4,7 +4,7 @@ use Rattle.std.specs.Prelude.{slice_index, ◌==◌, ◌||◌}
 use Rattle.std.specs.Option.{option_map_or}
 use Rattle.slp_headers.specs.Headers.{Heading, fields_of, is_readable}
 use Rattle.slp_messages.specs.Messages.{function_of}
-use Rattle.slp_wire.specs.Reading.{reading, reading_behind, marked}
+use Rattle.slp_wire.specs.Reading.{reading, reading_after, marked}
 use Rattle.slp_wire.specs.Spelling.{Spells}
 use Rattle.slp_fields.specs.declared.fault.WireFault.{WireFault}
 use Rattle.slp_fields.specs.declared.fault.WireFault.TheVariants.{NoHeader}
@@ -26,7 +26,7 @@ read-change : (bytes : List ℕ) (m : Message) → Spells (marked bytes) m → r
 unfolding reading is_change_of
 read-change bytes m s read =
     elim (is_readable bytes) as (λ (b : Bool).
-    ◌≡◌ {A = Result Message WireFault} (elim (cond b (Some (fields_of bytes)) None) [ None ↦ Err NoHeader | Some h ↦ reading_behind h bytes ]) (Ok m)
+    ◌≡◌ {A = Result Message WireFault} (elim (cond b (Some (fields_of bytes)) None) [ None ↦ Err NoHeader | Some h ↦ reading_after h bytes ]) (Ok m)
     → option_map_or (λ (h : Heading). h.function == 3 || h.function == 4) (cond b (Some (fields_of bytes)) None) false ≡ may_change m) [
       | true ↦ λ _. ap (λ (f : ℕ). f == 3 || f == 4) (spelled-function bytes m s)
       | false ↦ λ k. absurd cc

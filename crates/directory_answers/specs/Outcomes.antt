@@ -50,7 +50,7 @@ coded h code because = option_map_or (coded_as h code because) (reply_function_o
 abbrev pub denied : Heading → Decider → Outcome
 denied h d = coded h (code_by d) (by_step d None)
 
--- ---- bytes that are no message that is read
+-- ---- bytes that are not a message that is read
 
 -- the name of the step that asks for a fault, where it is answered
 abbrev pub decider_of_fault : WireFault → Option Decider

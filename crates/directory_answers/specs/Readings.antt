@@ -28,7 +28,7 @@ pub record IsAsked (h : Heading) (bytes : List ℕ) (q : Question) : Type 0 wher
   pub read : reading bytes ≡ Ok (message.ServiceRequest (kept_header h) request)
   pub asks : q ≡ question_of (kept_header h) request
 
--- the bytes are no message that is read, by this fault
+-- the bytes are not a message that is read, by this fault
 abbrev pub IsUnread : List ℕ → WireFault → Type 0
 IsUnread bytes e = reading bytes ≡ Err e
 

@@ -19,14 +19,14 @@ pub record Stood (read out line : List ℕ) (p : Place) : Type 0 where
   pub short : length line ≤ longest_line
   pub stands : Stands lines out p
 
--- what was written behind `out` when the run failed, where these bytes had been read
+-- what was written after `out` when the run failed, where these bytes had been read
 abbrev pub Failed : Option (List ℕ) → Option (List ℕ) → List ℕ → List ℕ → RunFault → Type 0
 Failed old new read out (AtLine n) = (now : List ℕ) × Appends old new now × ((more : List ℕ) → RunsUpTo (read ++ more) n (out ++ now))
 Failed old new read out NoMemory = (now : List ℕ) × Appends old new now × RunsPart read (out ++ now)
 Failed old new read out Write = ⊤
 Failed old new read out Read = ⊥
 
--- what was written behind `out`, and where the run stands, when these bytes had been read
+-- what was written after `out`, and where the run stands, when these bytes had been read
 abbrev pub Went : Option (List ℕ) → Option (List ℕ) → List ℕ → List ℕ → List ℕ → Place → Type 0
 Went old new read out line p = (now : List ℕ) × Appends old new now × Stood read (out ++ now) line p
 

@@ -44,7 +44,7 @@ abbrev pub new_stream : Frames
 new_stream = record { limit = longest_on_stream; waiting = []; refused = None }
 
 -- The site and what happened to it, the addresses and ports that are listened on, the loop at one of them (counted from 0) to which messages come, the
--- moment that was set, from where messages come, what came of the stream and is no whole message, and whether it is too late for another site.
+-- moment that was set, from where messages come, what came of the stream and is not a whole message, and whether it is too late for another site.
 pub record World : Type 0 where
   pub place : Place
   pub history : History

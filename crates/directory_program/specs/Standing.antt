@@ -21,7 +21,7 @@ use Rattle.directory_program.specs.declared.fault.RunFault.TheVariants.{Read, Wr
 abbrev pub kept_text : List Line → Option (List ℕ)
 kept_text body = if nat_le (length (text_of body)) longest_text then Some (text_of body) else None
 
--- these are the lines of the block that is open, behind k lines
+-- these are the lines of the block that is open, after k lines
 abbrev pub IsOpen : List Line → ℕ → Option OpenBlock → Type 0
 IsOpen ls k None = ls ≡ []
 IsOpen ls k (Some b) = (body : List Line) × (ls ≡ opened b.block body) × IsBody body × (b.begun ≡ k + 1) × (option_map string_bytes b.text ≡ kept_text body)

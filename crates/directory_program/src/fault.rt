@@ -13,7 +13,7 @@ pub enum RunFault {
     Read,
     #[error("the writer failed")]
     Write,
-    /// The first line, counted from 1, that is no line of a script.
+    /// The first line, counted from 1, that is not a line of a script.
     #[error("line {0}")]
     Line(u64),
     #[error("out of memory")]

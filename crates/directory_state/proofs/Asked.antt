@@ -222,11 +222,11 @@ in_place (p ∷ ps) a =
     All-cons (λ q. latest_in q.0 (p ∷ ps) ≡ Some q.1) p ps (ap (λ b. cond b (Some p.1) (latest_in p.0 ps)) (is_same-itself p.0))
     (λ k d h.
     let q : Dated = get_or ps k d in
-    ap (λ o. cond (is_eq o) (Some p.1) (latest_in q.0 ps)) (reversed p.0 q.0 Less (behind p ps a.0 k d h)) ∙ in_place ps a.1 k d h)
+    ap (λ o. cond (is_eq o) (Some p.1) (latest_in q.0 ps)) (reversed p.0 q.0 Less (after p ps a.0 k d h)) ∙ in_place ps a.1 k d h)
   where
-    behind : (p : Dated) (ps : List Dated) → AllByRecursion (λ u. bytes_cmp p.0 u ≡ Less) (urls_of ps) → All (λ q. bytes_cmp p.0 q.0 ≡ Less) ps
-    behind p [] h = All-nil (λ (q : Dated). bytes_cmp p.0 q.0 ≡ Less)
-    behind p (q ∷ ps) h = All-cons (λ q. bytes_cmp p.0 q.0 ≡ Less) q ps h.0 (behind p ps h.1)
+    after : (p : Dated) (ps : List Dated) → AllByRecursion (λ u. bytes_cmp p.0 u ≡ Less) (urls_of ps) → All (λ q. bytes_cmp p.0 q.0 ≡ Less) ps
+    after p [] h = All-nil (λ (q : Dated). bytes_cmp p.0 q.0 ≡ Less)
+    after p (q ∷ ps) h = All-cons (λ q. bytes_cmp p.0 q.0 ≡ Less) q ps h.0 (after p ps h.1)
 
 shown_urls : (n : ℕ) (ps : List Dated) → urls_of ps ≡ map (λ (i : UrlEntry). i.url) (map (item_at n) ps)
 shown_urls n [] = refl

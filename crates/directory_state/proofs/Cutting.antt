@@ -66,7 +66,7 @@ module _ (cost : List ℕ → ℕ) where
       ∙ (elim (p e) as (λ b. cut cost left (joined (filter p rest) (joined (cond b (e ∷ []) []) before)) ≡ cut cost left (joined (cond b (e ∷ filter p rest) (filter p rest)) before)) [ true ↦ refl | false ↦ refl ])
       ∙ ap (λ xs. cut cost left (joined (filter p xs) before)) (sym is)
 
-  -- what comes behind more than fits is not kept
+  -- what comes after more than fits is not kept
   pub cut-append : (left : ℕ) (ps qs : List Dated) → left < size cost ps → cut cost left (ps ++ qs) ≡ cut cost left ps
   cut-append left [] qs h = absurd (omega (arith, h))
   cut-append left (p ∷ ps) qs h =

@@ -78,7 +78,7 @@ none_before_first url p ps h a = none_before url (p ∷ ps) (h, below url p.0 (u
 
 -- ---- where a URL joins
 
--- a URL behind all others comes last
+-- a URL after all others comes last
 pub join-last : (url : List ℕ) (deadline : ℕ) (ps : List Dated) → AllByRecursion (λ w. bytes_cmp url w ≡ Greater) (urls_of ps) → join url deadline ps ≡ ps ++ (url, deadline) ∷ []
 join-last url deadline [] all = refl
 join-last url deadline (p ∷ ps) all =

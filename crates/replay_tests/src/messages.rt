@@ -48,7 +48,7 @@ static ROWS: [Row; 29] = [
         ],
     ),
     (
-        "a request with what is no type",
+        "a request with what is not a type",
         &["udp 0201000024000000000000010002656e00000003613a62000744454641554c5400000000\n"],
         &[UNREADABLE],
     ),
@@ -62,7 +62,7 @@ static ROWS: [Row; 29] = [
         ],
     ),
     (
-        "a request with what is no scope list",
+        "a request with what is not a scope list",
         &[
             "udp 020100002b000000000000010002656e0000000f736572766963653a7072696e7465720002613b00000000\n",
         ],
@@ -89,7 +89,7 @@ static ROWS: [Row; 29] = [
         ],
     ),
     (
-        "a withdrawal with an escaped TAB, which is no tag",
+        "a withdrawal with an escaped TAB, which is not a tag",
         &[
             "udp 020400003b000000000000030002656e000744454641554c540000000017736572766963653a7072696e7465723a6c70723a2f2f610000035c3039\n",
         ],
@@ -200,7 +200,7 @@ static ROWS: [Row; 29] = [
         ],
     ),
     (
-        "an extension that has to be understood, behind another",
+        "an extension that has to be understood, after another",
         &[
             "udp 020100003b000000003000010002656e0000000f736572766963653a7072696e746572000744454641554c54000000009799000036aa4001000000\n",
         ],
@@ -258,7 +258,7 @@ static ROWS: [Row; 29] = [
         &[NOTHING_FOUND],
     ),
     (
-        "bytes behind the body that no extension covers",
+        "bytes after the body that no extension covers",
         &[
             "udp 0201000035000000000000010002656e0000000f736572766963653a7072696e746572000744454641554c54000000009799000000\n",
         ],

@@ -161,7 +161,7 @@ fn flush_gives(alloc: Global, full: usize, want: u8) -> bool {
 }
 
 // A writer may keep what is written until it is flushed: where the last flush fails, nobody got it, and
-// the status has to tell. The script's last line has no LF, so it is carried out behind the last read
+// the status has to tell. The script's last line has no LF, so it is carried out after the last read
 // and the flush in front of that: no flush but the last fails.
 #[test]
 fn the_last_flush_is_asked(rt: HostRuntime) {

@@ -30,7 +30,7 @@ const CLOCK_FOR_300: &str =
 const CLOCK_ACCEPTED: &str =
     "> 0205000012000000000000020002656e0000\n# allow code=0 by=rule:all-register action=register asker=10.0.0.1 type=service:clock:x scope=default\n";
 
-// What a reply with the URL `..://a` says in front of its lifetime and behind it.
+// What a reply with the URL `..://a` says in front of its lifetime and after it.
 const FOUND_FRONT: &str = "> 0202000031000000000000010002656e0000000100";
 
 const FOUND_END: &str =

@@ -4,7 +4,7 @@ ghost use Rattle.service_url.specs.declared.fault.UrlFault.TheVariants.{NoMemory
 use slp_text::NoMemory;
 use thiserror::Error;
 
-/// Why a text is no type or no URL.
+/// Why a text is not a type or not a URL.
 #[derive(Clone, Copy, Debug, PartialEq, Eq, Error)]
 pub enum UrlFault {
     #[error("no service type")]

@@ -119,7 +119,7 @@ fn before_colon(text: &str) -> &str
 }
 
 // What follows the first dot, or nothing where there is none.
-fn behind_dot(text: &str) -> &str
+fn after_dot(text: &str) -> &str
     ensures { result.now ≡ after_first is_dot text.now }
 {
     match text.split_once('.') {
@@ -139,7 +139,7 @@ fn main_name(kind: &str) -> &str
 }
 
 impl ServiceType {
-    /// The type that a text names. One colon at the end of `service:A` is dropped. What is no type is
+    /// The type that a text names. One colon at the end of `service:A` is dropped. What is not a type is
     /// `BadType`.
     pub fn parse(alloc: Global, text: &str) -> Result<ServiceType, UrlFault>
         ensures { IsReading result (type_of text.now) }
@@ -180,12 +180,12 @@ impl ServiceType {
         kind == made || (self.is_abstract && is_followed_by_colon(kind, made))
     }
 
-    /// The naming authority: what follows the first dot of the name behind `service:`, or of the type
+    /// The naming authority: what follows the first dot of the name after `service:`, or of the type
     /// of another scheme, if it is not empty. Takes no memory.
     pub fn authority(&self) -> Option<&str>
         ensures { option_copied result ≡ authority_of self.now }
     {
-        let authority = behind_dot(main_name(&self.text));
+        let authority = after_dot(main_name(&self.text));
         if authority.is_empty() {
             return None;
         }

@@ -7,20 +7,20 @@ use Rattle.toml.specs.declared.value.Value.{Value}
 use Rattle.site_config.specs.Configuring.{values_of, each_in, array_in}
 
 -- what was read so far, and what is read of the rest
-abbrev pub behind : {A : Type 0} → List A → Option (List A) → Option (List A)
-behind xs o = option_map (λ ys. xs ++ ys) o
+abbrev pub with_front : {A : Type 0} → List A → Option (List A) → Option (List A)
+with_front xs o = option_map (λ ys. xs ++ ys) o
 
-put_between : {A : Type 0} (xs : List A) (x : A) (o : Option (List A)) → behind xs (option_and_then (λ ys. Some (x ∷ ys)) o) ≡ behind (xs ++ x ∷ []) o
+put_between : {A : Type 0} (xs : List A) (x : A) (o : Option (List A)) → with_front xs (option_and_then (λ ys. Some (x ∷ ys)) o) ≡ with_front (xs ++ x ∷ []) o
 put_between xs x None = refl
 put_between xs x (Some ys) = ap Some (sym (append_assoc xs (x ∷ []) ys))
 
 -- a value more is read
-pub read_one : {A : Type 0} (f : Data → Option A) (xs : List A) (d : Data) (ds : List Data) (x : A) → f d ≡ Some x → behind xs (each_in f (d ∷ ds)) ≡ behind (xs ++ x ∷ []) (each_in f ds)
-read_one f xs d ds x h = ap (λ o. behind xs (option_and_then (λ y. option_and_then (λ ys. Some (y ∷ ys)) (each_in f ds)) o)) h ∙ put_between xs x (each_in f ds)
+pub read_one : {A : Type 0} (f : Data → Option A) (xs : List A) (d : Data) (ds : List Data) (x : A) → f d ≡ Some x → with_front xs (each_in f (d ∷ ds)) ≡ with_front (xs ++ x ∷ []) (each_in f ds)
+read_one f xs d ds x h = ap (λ o. with_front xs (option_and_then (λ y. option_and_then (λ ys. Some (y ∷ ys)) (each_in f ds)) o)) h ∙ put_between xs x (each_in f ds)
 
 -- a value is none
-pub read_none : {A : Type 0} (f : Data → Option A) (xs : List A) (d : Data) (ds : List Data) → f d ≡ None → behind xs (each_in f (d ∷ ds)) ≡ None
-read_none f xs d ds h = ap (λ o. behind xs (option_and_then (λ y. option_and_then (λ ys. Some (y ∷ ys)) (each_in f ds)) o)) h
+pub read_none : {A : Type 0} (f : Data → Option A) (xs : List A) (d : Data) (ds : List Data) → f d ≡ None → with_front xs (each_in f (d ∷ ds)) ≡ None
+read_none f xs d ds h = ap (λ o. with_front xs (option_and_then (λ y. option_and_then (λ ys. Some (y ∷ ys)) (each_in f ds)) o)) h
 
 values_of_items : (ds : List Data) → values_of (items_of ds) ≡ ds
 values_of_items [] = refl

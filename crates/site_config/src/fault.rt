@@ -5,10 +5,10 @@ use slp_text::NoMemory;
 use std::alloc::{AllocError, AllocFailed};
 use thiserror::Error;
 
-/// Why a text is no configuration.
+/// Why a text is not a configuration.
 #[derive(Clone, Copy, Debug, PartialEq, Eq, Error)]
 pub enum ConfigFault {
-    /// It is no TOML.
+    /// It is not TOML.
     #[error("no TOML")]
     Toml = 1,
     /// A key that has to be there is missing.

@@ -82,7 +82,7 @@ pub fn answer_code(
     Ok(sent)
 }
 
-/// Answers bytes that are no message that is read: with the code of their fault, where their function
+/// Answers bytes that are not a message that is read: with the code of their fault, where their function
 /// is answered, and else with nothing.
 pub fn answer_fault(
     rules: &Rules,

@@ -1,4 +1,4 @@
--- Bodies as they are read (RFC 2608, sections 8 to 10). In replies so many bytes at the end are no part of them.
+-- Bodies as they are read (RFC 2608, sections 8 to 10). In replies so many bytes at the end are not part of them.
 use Rattle.std.specs.Prelude.{ℕ, List, Result}
 use Rattle.slp_messages.specs.Layouts.{service_request, registration, withdrawal, attribute_request, type_request, service_agent, services, attributes, directory_agent, types}
 use Rattle.slp_messages.specs.declared.message.AttributeReply.TheVariants as attribute_reply

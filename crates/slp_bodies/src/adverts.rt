@@ -10,8 +10,8 @@ ghost use Rattle.slp_fields.specs.Steps.{Gives};
 ghost use Rattle.slp_fields.specs.Writing.{fields_bytes, IsField};
 ghost use Rattle.slp_bodies.specs.Bodies.{directory_advert_at, service_agent_at};
 
-use crate::replies::behind_code;
-use slp_fields::{Field, WireFault, behind_no_block, long_of, number_of, text_of};
+use crate::replies::after_code;
+use slp_fields::{Field, WireFault, after_no_block, long_of, number_of, text_of};
 use slp_messages::{DirectoryAdvert, DirectoryAgent, ErrorCode, Kind, ServiceAgent, code};
 use std::alloc::Global;
 
@@ -23,7 +23,7 @@ fn directory_agent_of(alloc: Global, bytes: &[u8]) -> Result<(DirectoryAgent, &[
     let (scopes, rest) = text_of(alloc, rest)?;
     let (attributes, rest) = text_of(alloc, rest)?;
     let (indices, rest) = text_of(alloc, rest)?;
-    let rest = behind_no_block(rest)?;
+    let rest = after_no_block(rest)?;
     let agent = DirectoryAgent {
         boot,
         url,
@@ -34,7 +34,7 @@ fn directory_agent_of(alloc: Global, bytes: &[u8]) -> Result<(DirectoryAgent, &[
     Ok((agent, rest))
 }
 
-/// Reads a directory agent's advert. So many bytes at the end are no part of it.
+/// Reads a directory agent's advert. So many bytes at the end are not part of it.
 #[tactic(auto, unfolding(crate::specs::Bodies::directory_advert_at))]
 pub fn directory_advert_of(
     alloc: Global,
@@ -53,7 +53,7 @@ pub fn directory_advert_of(
             Kind::Text,
             Kind::NoBlock,
         ];
-        let rest = behind_code(&kinds, tail, rest)?;
+        let rest = after_code(&kinds, tail, rest)?;
         return Ok((DirectoryAdvert::Refused(ErrorCode::new(code)), rest));
     }
     let (agent, rest) = directory_agent_of(alloc, rest)?;
@@ -84,7 +84,7 @@ pub fn service_agent_of(alloc: Global, bytes: &[u8]) -> Result<(ServiceAgent, &[
     let (url, rest) = text_of(alloc, bytes)?;
     let (scopes, rest) = text_of(alloc, rest)?;
     let (attributes, rest) = text_of(alloc, rest)?;
-    let rest = behind_no_block(rest)?;
+    let rest = after_no_block(rest)?;
     let agent = ServiceAgent {
         url,
         scopes,

@@ -9,8 +9,8 @@ ghost use Rattle.slp_fields.specs.Steps.{Gives};
 ghost use Rattle.slp_fields.specs.Writing.{fields_bytes, IsField};
 ghost use Rattle.slp_bodies.specs.Bodies.{attribute_request_at, attribute_reply_at};
 
-use crate::replies::behind_code;
-use slp_fields::{Field, WireFault, behind_no_block, behind_no_index, number_of, text_of};
+use crate::replies::after_code;
+use slp_fields::{Field, WireFault, after_no_block, after_no_index, number_of, text_of};
 use slp_messages::{AttributeReply, AttributeRequest, ErrorCode, Kind, code};
 use slp_text::Text;
 use std::alloc::Global;
@@ -27,7 +27,7 @@ pub fn attribute_request_of(
     let (subject, rest) = text_of(alloc, rest)?;
     let (scopes, rest) = text_of(alloc, rest)?;
     let (tags, rest) = text_of(alloc, rest)?;
-    let rest = behind_no_index(rest)?;
+    let rest = after_no_index(rest)?;
     let request = AttributeRequest {
         responders,
         subject,
@@ -51,7 +51,7 @@ pub fn attribute_request_fields(request: &AttributeRequest) -> [Field<'_>; 5]
     ]
 }
 
-/// Reads a reply. So many bytes at the end are no part of it.
+/// Reads a reply. So many bytes at the end are not part of it.
 #[tactic(auto, unfolding(crate::specs::Bodies::attribute_reply_at))]
 pub fn attribute_reply_of(
     alloc: Global,
@@ -62,11 +62,11 @@ pub fn attribute_reply_of(
 {
     let (code, rest) = number_of(bytes)?;
     if code != code::OK {
-        let rest = behind_code(&[Kind::Text, Kind::NoBlock], tail, rest)?;
+        let rest = after_code(&[Kind::Text, Kind::NoBlock], tail, rest)?;
         return Ok((AttributeReply::Refused(ErrorCode::new(code)), rest));
     }
     let (list, rest) = text_of(alloc, rest)?;
-    let rest = behind_no_block(rest)?;
+    let rest = after_no_block(rest)?;
     Ok((AttributeReply::Found(list), rest))
 }
 

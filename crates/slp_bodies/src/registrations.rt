@@ -9,7 +9,7 @@ ghost use Rattle.slp_fields.specs.Steps.{Gives};
 ghost use Rattle.slp_fields.specs.Writing.{fields_bytes, IsField};
 ghost use Rattle.slp_bodies.specs.Bodies.{registration_at, withdrawal_at};
 
-use slp_fields::{Field, WireFault, behind_no_block, entry_view_of, str_of};
+use slp_fields::{Field, WireFault, after_no_block, entry_view_of, str_of};
 use slp_messages::{Registration, RegistrationView, Withdrawal, WithdrawalView};
 use std::alloc::Global;
 
@@ -22,7 +22,7 @@ pub fn registration_view_of(bytes: &[u8]) -> Result<(RegistrationView<'_>, &[u8]
     let (kind, rest) = str_of(rest)?;
     let (scopes, rest) = str_of(rest)?;
     let (attributes, rest) = str_of(rest)?;
-    let rest = behind_no_block(rest)?;
+    let rest = after_no_block(rest)?;
     let view = RegistrationView {
         entry,
         kind,

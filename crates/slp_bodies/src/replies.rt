@@ -1,4 +1,4 @@
-//! What all replies share: a code, and nothing that is kept behind one that is not 0 (RFC 2608, section 7).
+//! What all replies share: a code, and nothing that is kept after one that is not 0 (RFC 2608, section 7).
 ghost use Rattle.std.specs.Prelude.{◌≡◌, ◌++◌};
 ghost use Rattle.std.specs.List.{AllByRecursion};
 ghost use Rattle.byteorder.specs.Endian.{big_bytes};
@@ -10,9 +10,9 @@ ghost use Rattle.slp_bodies.specs.Replies.{rest_at};
 use slp_fields::{Field, WireFault, skip_fields};
 use slp_messages::{ErrorCode, Kind};
 
-/// What stands behind an error code is read for its faults alone. So many bytes at the end are no part of it.
+/// What stands after an error code is read for its faults alone. So many bytes at the end are not part of it.
 #[tactic(auto, unfolding(crate::specs::Replies::rest_at))]
-pub(crate) fn behind_code<'a>(
+pub(crate) fn after_code<'a>(
     kinds: &[Kind],
     tail: usize,
     bytes: &'a [u8],

@@ -10,8 +10,8 @@ ghost use Rattle.slp_fields.specs.Steps.{Gives};
 ghost use Rattle.slp_fields.specs.Writing.{fields_bytes, IsField};
 ghost use Rattle.slp_bodies.specs.Bodies.{service_request_at, service_reply_at};
 
-use crate::replies::behind_code;
-use slp_fields::{Field, WireFault, behind_no_index, listing_of, number_of, str_of};
+use crate::replies::after_code;
+use slp_fields::{Field, WireFault, after_no_index, listing_of, number_of, str_of};
 use slp_messages::{
     ErrorCode, Kind, ServiceReply, ServiceRequest, ServiceRequestView, UrlEntry, code,
 };
@@ -26,7 +26,7 @@ pub fn service_request_view_of(bytes: &[u8]) -> Result<(ServiceRequestView<'_>, 
     let (kind, rest) = str_of(rest)?;
     let (scopes, rest) = str_of(rest)?;
     let (predicate, rest) = str_of(rest)?;
-    let rest = behind_no_index(rest)?;
+    let rest = after_no_index(rest)?;
     let view = ServiceRequestView {
         responders,
         kind,
@@ -58,7 +58,7 @@ pub fn service_request_fields(request: &ServiceRequest) -> [Field<'_>; 5]
     ]
 }
 
-/// Reads a reply. So many bytes at the end are no part of it.
+/// Reads a reply. So many bytes at the end are not part of it.
 #[tactic(auto, unfolding(crate::specs::Bodies::service_reply_at))]
 pub fn service_reply_of(
     alloc: Global,
@@ -69,7 +69,7 @@ pub fn service_reply_of(
 {
     let (code, rest) = number_of(bytes)?;
     if code != code::OK {
-        let rest = behind_code(&[Kind::Entries], tail, rest)?;
+        let rest = after_code(&[Kind::Entries], tail, rest)?;
         return Ok((ServiceReply::Refused(ErrorCode::new(code)), rest));
     }
     let (entries, rest) = listing_of(alloc, rest)?;

@@ -9,7 +9,7 @@ ghost use Rattle.slp_fields.specs.Steps.{Gives};
 ghost use Rattle.slp_fields.specs.Writing.{fields_bytes, IsField};
 ghost use Rattle.slp_bodies.specs.Bodies.{type_request_at, type_reply_at};
 
-use crate::replies::behind_code;
+use crate::replies::after_code;
 use slp_fields::{Field, WireFault, authority_of, number_of, text_of};
 use slp_messages::{ErrorCode, Kind, TypeReply, TypeRequest, code};
 use slp_text::Text;
@@ -43,7 +43,7 @@ pub fn type_request_fields(request: &TypeRequest) -> [Field<'_>; 3]
     ]
 }
 
-/// Reads a reply. So many bytes at the end are no part of it.
+/// Reads a reply. So many bytes at the end are not part of it.
 #[tactic(auto, unfolding(crate::specs::Bodies::type_reply_at))]
 pub fn type_reply_of(
     alloc: Global,
@@ -54,7 +54,7 @@ pub fn type_reply_of(
 {
     let (code, rest) = number_of(bytes)?;
     if code != code::OK {
-        let rest = behind_code(&[Kind::Text], tail, rest)?;
+        let rest = after_code(&[Kind::Text], tail, rest)?;
         return Ok((TypeReply::Refused(ErrorCode::new(code)), rest));
     }
     let (list, rest) = text_of(alloc, rest)?;

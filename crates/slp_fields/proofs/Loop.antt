@@ -54,8 +54,8 @@ unkept_err e (Ok x) h = absurd cc
 unkept_err e (Err d) h = cc
 
 -- the first of so many entries, and the others
-abbrev behind : ℕ → UrlEntry × List ℕ → Result (List UrlEntry × List ℕ) WireFault
-behind n first = entries_at n first.1 >>= λ others. Ok (first.0 ∷ others.0, others.1)
+abbrev beyond : ℕ → UrlEntry × List ℕ → Result (List UrlEntry × List ℕ) WireFault
+beyond n first = entries_at n first.1 >>= λ others. Ok (first.0 ∷ others.0, others.1)
 
 pub skips_on : (count i : ℕ) (bytes after : List ℕ) (total : Result (List ℕ) WireFault) → i < count → unkept (entry_at bytes) ≡ Ok after
     → unkept (entries_at (count - i) bytes) ≡ total → unkept (entries_at (count - (i + 1)) after) ≡ total
@@ -66,7 +66,7 @@ skips_on count i bytes after total lt h so_far =
     let d = bind_ok (entry_at bytes) (λ x. Ok x.1) after h in
     let same : d.0.1 ≡ after = ok_is d.0.1 after d.2 in
     let one : unkept (entries_at (count - i) bytes) ≡ unkept (entries_at m d.0.1) =
-    ap (λ (n : ℕ). unkept (entries_at n bytes)) k ∙ ap unkept (bind_is (entry_at bytes) (behind m) d.0 d.1) ∙ regroup_unkept d.0.0 (entries_at m d.0.1) in
+    ap (λ (n : ℕ). unkept (entries_at n bytes)) k ∙ ap unkept (bind_is (entry_at bytes) (beyond m) d.0 d.1) ∙ regroup_unkept d.0.0 (entries_at m d.0.1) in
     sym (ap (λ (b : List ℕ). unkept (entries_at m b)) same) ∙ sym one ∙ so_far
 
 skip_failed : (e : WireFault) (count i : ℕ) (bytes : List ℕ) (total : Result (List ℕ) WireFault) → i < count → unkept (entry_at bytes) ≡ Err e
@@ -76,7 +76,7 @@ skip_failed e count i bytes total lt h so_far =
     let m = count - (i + 1) in
     let k : count - i ≡ suc m = omega arith in
     let d = unkept_err e (entry_at bytes) h in
-    let one : unkept (entries_at (count - i) bytes) ≡ Err e = ap (λ (n : ℕ). unkept (entries_at n bytes)) k ∙ ap unkept (bind_err (entry_at bytes) (behind m) e d) in
+    let one : unkept (entries_at (count - i) bytes) ≡ Err e = ap (λ (n : ℕ). unkept (entries_at n bytes)) k ∙ ap unkept (bind_err (entry_at bytes) (beyond m) e d) in
     sym so_far ∙ one
 
 pub skips_fail : (e : WireFault) (count i : ℕ) (bytes : List ℕ) (total : Result (List ℕ) WireFault) → i < count → Fails e (unkept (entry_at bytes))

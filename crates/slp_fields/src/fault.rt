@@ -5,7 +5,7 @@ use slp_text::NoMemory;
 use std::alloc::{AllocError, AllocFailed};
 use thiserror::Error;
 
-/// Why bytes are no message, or a message has no bytes: the first fault in this protocol's order.
+/// Why bytes are not a message, or a message has no bytes: the first fault in this protocol's order.
 #[derive(Clone, Copy, Debug, PartialEq, Eq, Error)]
 pub enum WireFault {
     /// Fewer than 14 bytes, or a language tag that is longer than 64 bytes, cut short or not printable.
@@ -13,7 +13,7 @@ pub enum WireFault {
     NoHeader = 1,
     #[error("another version than 2")]
     Version = 2,
-    /// A length field, string, count or extension that does not fit, or a string that is no UTF-8.
+    /// A length field, string, count or extension that does not fit, or a string that is not UTF-8.
     #[error("a malformed message")]
     Parse = 3,
     /// An extension that has to be understood, and is not.

@@ -13,7 +13,7 @@ pub use fault::WireFault;
 pub use field::Field;
 pub use measuring::{LONGEST, entry_length, with_fields};
 pub use reading::{
-    authority_of, behind_no_block, behind_no_index, entry_view_of, listing_of, long_of, number_of,
+    after_no_block, after_no_index, authority_of, entry_view_of, listing_of, long_of, number_of,
     str_of, text_of,
 };
 pub use skipping::skip_fields;

@@ -68,7 +68,7 @@ pub fn text_of(alloc: Global, bytes: &[u8]) -> Result<(Text, &[u8]), WireFault>
 
 /// The bytes after a count of authentication blocks that is 0.
 #[tactic(auto, unfolding(crate::specs::Reading::no_block_at))]
-pub fn behind_no_block(bytes: &[u8]) -> Result<&[u8], WireFault>
+pub fn after_no_block(bytes: &[u8]) -> Result<&[u8], WireFault>
     ensures { Gives (λ x. (tt, x.now)) result (no_block_at bytes.now) }
 {
     let (blocks, rest) = byte_of(bytes)?;
@@ -80,7 +80,7 @@ pub fn behind_no_block(bytes: &[u8]) -> Result<&[u8], WireFault>
 
 /// The bytes after a security parameter index whose name is empty.
 #[tactic(auto, unfolding(crate::specs::Reading::no_index_at))]
-pub fn behind_no_index(bytes: &[u8]) -> Result<&[u8], WireFault>
+pub fn after_no_index(bytes: &[u8]) -> Result<&[u8], WireFault>
     ensures { Gives (λ x. (tt, x.now)) result (no_index_at bytes.now) }
 {
     let (index, rest) = str_of(bytes)?;
@@ -98,7 +98,7 @@ pub fn entry_view_of(bytes: &[u8]) -> Result<(EntryView<'_>, &[u8]), WireFault>
     let (_, rest) = byte_of(bytes)?;
     let (lifetime, rest) = number_of(rest)?;
     let (url, rest) = str_of(rest)?;
-    let rest = behind_no_block(rest)?;
+    let rest = after_no_block(rest)?;
     Ok((EntryView { lifetime, url }, rest))
 }
 

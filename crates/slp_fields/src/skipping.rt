@@ -4,7 +4,7 @@ ghost use Rattle.slp_fields.specs.Reading.{entry_at, entries_at, listing_at, aut
 ghost use Rattle.slp_fields.specs.Steps.{Gives};
 
 use crate::fault::WireFault;
-use crate::reading::{ALL, behind_no_block, behind_no_index, byte_of, long_of, number_of, str_of};
+use crate::reading::{ALL, after_no_block, after_no_index, byte_of, long_of, number_of, str_of};
 use slp_messages::Kind;
 
 #[tactic(auto, unfolding(crate::specs::Reading::entry_at))]
@@ -14,7 +14,7 @@ fn skip_entry(bytes: &[u8]) -> Result<&[u8], WireFault>
     let (_, rest) = byte_of(bytes)?;
     let (_, rest) = number_of(rest)?;
     let (_, rest) = str_of(rest)?;
-    behind_no_block(rest)
+    after_no_block(rest)
 }
 
 fn skip_entries(count: u16, bytes: &[u8]) -> Result<&[u8], WireFault>
@@ -66,8 +66,8 @@ fn skip_field(kind: Kind, bytes: &[u8]) -> Result<&[u8], WireFault>
         Kind::Entry => skip_entry(bytes),
         Kind::Entries => skip_listing(bytes),
         Kind::Authority => skip_authority(bytes),
-        Kind::NoBlock => behind_no_block(bytes),
-        Kind::NoIndex => behind_no_index(bytes),
+        Kind::NoBlock => after_no_block(bytes),
+        Kind::NoIndex => after_no_index(bytes),
     }
 }
 

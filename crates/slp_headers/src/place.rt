@@ -14,5 +14,5 @@ pub const EXTENSION: usize = 7;
 pub const XID: usize = 10;
 /// The length of the language tag, of two bytes.
 pub const TAG_LENGTH: usize = 12;
-/// The language tag. Behind it the body begins.
+/// The language tag. After it the body begins.
 pub const TAG: usize = 14;

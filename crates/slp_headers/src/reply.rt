@@ -19,7 +19,7 @@ pub fn reply_function(function: u8) -> Option<u8>
     }
 }
 
-// Writes a part at a place, and answers the place behind it.
+// Writes a part at a place, and answers the place after it.
 fn put(reply: &mut [u8; 80], at: usize, part: &[u8]) -> usize
     requires { at + length part.now ≤ 80 }
     ensures bytes { take result reply.new ≡ take at reply.old ++ part.now }

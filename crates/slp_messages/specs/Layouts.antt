@@ -82,7 +82,7 @@ service_agent = record {
   made = λ v. record { url = v.0; scopes = v.1.0; attributes = v.1.1.0 };
 }
 
--- ---- replies: a code, and behind the code 0 what was found
+-- ---- replies: a code, and after the code 0 what was found
 
 pub data Reply (A : Type 0) : Type 0 where
   Found : A → Reply A

@@ -56,7 +56,7 @@ impl ErrorCode {
     }
 }
 
-/// SrvRply, function 2 (RFC 2608, section 8.2). Behind an error code nothing is kept.
+/// SrvRply, function 2 (RFC 2608, section 8.2). After an error code nothing is kept.
 #[derive(Drop)]
 pub enum ServiceReply {
     Found(Row<UrlEntry>),
@@ -93,7 +93,7 @@ pub struct AttributeRequest {
     pub tags: Text,
 }
 
-/// AttrRply, function 7 (RFC 2608, section 10.4). Behind an error code nothing is kept.
+/// AttrRply, function 7 (RFC 2608, section 10.4). After an error code nothing is kept.
 #[derive(Drop)]
 pub enum AttributeReply {
     /// An attribute list.
@@ -113,7 +113,7 @@ pub struct DirectoryAgent {
     pub indices: Text,
 }
 
-/// DAAdvert, function 8 (RFC 2608, section 8.5). Behind an error code nothing is kept.
+/// DAAdvert, function 8 (RFC 2608, section 8.5). After an error code nothing is kept.
 #[derive(Drop)]
 pub enum DirectoryAdvert {
     Present(DirectoryAgent),
@@ -138,7 +138,7 @@ pub struct TypeRequest {
     pub scopes: Text,
 }
 
-/// SrvTypeRply, function 10 (RFC 2608, section 10.2). Behind an error code nothing is kept.
+/// SrvTypeRply, function 10 (RFC 2608, section 10.2). After an error code nothing is kept.
 #[derive(Drop)]
 pub enum TypeReply {
     /// Service types, joined by commas.

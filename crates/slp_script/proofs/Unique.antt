@@ -8,7 +8,7 @@ use Rattle.slp_script.specs.declared.command.Block.TheVariants.{Config}
 use Rattle.slp_script.specs.declared.command.Order.{Order}
 use Rattle.slp_script.specs.Commands.{Command, Single, Text, Spells, Reads, order_of, block_of, word_of, dot, longest_line, IsBody, IsStuck, AtLine, AtBody, AtEnd, StopsAt}
 
--- the word of a block is no order, and begins that block
+-- the word of a block is not an order, and begins that block
 word-order : (block : Block) → order_of (word_of block) ≡ None
 unfolding order_of
 word-order Config = refl

@@ -95,11 +95,11 @@ whole_end : (q : List ℕ → Bool) (t : List ℕ) → q t ≡ true → list_any
 whole_end q [] h = or_left (q []) false h
 whole_end q (b ∷ bs) h = or_left (q (b ∷ bs)) (list_any q (ends_of bs)) h
 
-module _ (p q : List ℕ → Bool) (n : ℕ) (behind : (e : List ℕ) → p e ≡ true → list_any q (ends_of (drop n e)) ≡ true) where
+module _ (p q : List ℕ → Bool) (n : ℕ) (after : (e : List ℕ) → p e ≡ true → list_any q (ends_of (drop n e)) ≡ true) where
   later : (t : List ℕ) → list_any p (ends_of t) ≡ true → list_any q (ends_of (drop n t)) ≡ true
-  later [] h = elim (or_cases (p []) false h) [ inl is ↦ behind [] is | inr nothing ↦ cc nothing ]
+  later [] h = elim (or_cases (p []) false h) [ inl is ↦ after [] is | inr nothing ↦ cc nothing ]
   later (b ∷ bs) h = elim (or_cases (p (b ∷ bs)) (list_any p (ends_of bs)) h) [
-    | inl is ↦ behind (b ∷ bs) is
+    | inl is ↦ after (b ∷ bs) is
     | inr rest ↦ longer_end q n b bs (later bs rest)
   ]
 

@@ -49,7 +49,7 @@ bytes-some c =
       | false ↦ let k = encoded-some c in let l = length-map (encode_utf8 c) Some in omega (arith, k, l)
     ]
 
--- a sign more behind a part and what stands between them
+-- a sign more after a part and what stands between them
 with_sign : (part more : Part) (c : ℕ) (cs : List ℕ) → grown false ((part ++ more) ++ part_bytes c) cs ≡ part ++ (more ++ (part_bytes c ++ flat_map part_bytes (squeeze_from false cs)))
 with_sign part more c cs =
     let bytes = (part ++ more) ++ part_bytes c in

@@ -36,7 +36,7 @@ digit_of c =
     else (if nat_le 65 c && nat_le c 70 then Some (c - 55)
     else (if nat_le 97 c && nat_le c 102 then Some (c - 87) else None))
 
--- where reading stands: at something of its own, behind a backslash, or behind that and a digit
+-- where reading stands: at something of its own, after a backslash, or after that and a digit
 pub data Point : Type 0 where
   Plain : Point
   Slash : Point

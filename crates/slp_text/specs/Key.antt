@@ -6,11 +6,11 @@ use Rattle.caseless.specs.Caseless.{default_case_fold}
 abbrev pub is_white : ℕ → Bool
 is_white c = c == 32 || c == 9 || c == 10 || c == 13
 
--- a byte of ASCII that is no white space, and no other control character but DEL
+-- a byte of ASCII that is not white space, and no other control character but DEL
 abbrev pub is_word_byte : ℕ → Bool
 is_word_byte b = nat_lt 32 b && nat_lt b 128
 
--- the characters from the first on that is no white space
+-- the characters from the first on that is not white space
 abbrev pub trim_start : List ℕ → List ℕ
 trim_start [] = []
 trim_start (c ∷ cs) = if is_white c then trim_start cs else c ∷ cs

@@ -14,6 +14,6 @@ keys_of parts = filter is_some_text (map folded parts)
 unfoldable pub named_of : List ℕ → Result (List (List ℕ)) TextFault
 named_of text = read_map keys_of (read_all (unescaped_at Scope) (slice_split is_comma (chars text)))
 
--- a scope as it is written, behind a comma where others have begun
+-- a scope as it is written, after a comma where others have begun
 abbrev pub scope_written : Bool → List ℕ → List ℕ
 scope_written begun k = if begun then 44 ∷ encode_utf8_all (escaped Scope (chars k)) else encode_utf8_all (escaped Scope (chars k))

@@ -14,7 +14,7 @@ abbrev pub step_of_sign : Step (Option ℕ) → Step ℕ
 step_of_sign (Within s) = Within s
 step_of_sign (Read sign) = Read (sign_of sign)
 
--- what folded characters still give behind a part, where gap says that white space came since
+-- what folded characters still give after a part, where gap says that white space came since
 abbrev pub still : Bool → Part → List ℕ → List ℕ
 still gap [] cs = squeeze cs
 still gap (b ∷ bs) cs = squeeze_from gap cs

@@ -19,7 +19,7 @@ pub enum Place {
     Scope,
 }
 
-/// Where reading stands: at something of its own, behind a backslash, or behind that and a digit.
+/// Where reading stands: at something of its own, after a backslash, or after that and a digit.
 #[derive(Clone, Copy, Debug, PartialEq, Eq)]
 pub enum Stage {
     Plain,
@@ -185,7 +185,7 @@ fn unescaped_bytes(alloc: Global, text: &str) -> Result<Vec<u8>, TextFault>
     }
 }
 
-/// A text with its escapes of any byte read. What then is no UTF-8 is `NotUtf8`; a bad escape is
+/// A text with its escapes of any byte read. What then is not UTF-8 is `NotUtf8`; a bad escape is
 /// answered first.
 pub fn unescape_any(alloc: Global, text: &str) -> Result<String, TextFault>
     ensures { IsByteReading (read_map string_bytes result) (unescaped_any text.now) }
@@ -224,7 +224,7 @@ fn push_written(c: char, place: Place, out: &mut String) -> Result<(), NoMemory>
     Ok(())
 }
 
-// The same of all characters; where memory runs out some of it may stand behind what was there.
+// The same of all characters; where memory runs out some of it may stand after what was there.
 fn append_escaped(text: &str, place: Place, out: &mut String) -> Result<(), NoMemory>
     ensures ok { IfOk result (λ _. string_bytes out.new ≡ string_bytes out.old ++ encode_utf8_all (escaped place (chars text.now))) }
     ensures err { BeginsWith (string_bytes out.old) (string_bytes out.new) }

@@ -30,7 +30,7 @@ pub enum TextFault {
     /// A reserved character that is not escaped.
     #[error("a reserved character")]
     Reserved = 2,
-    /// Bytes that are no UTF-8.
+    /// Bytes that are not UTF-8.
     #[error("not UTF-8")]
     NotUtf8 = 3,
     #[error("out of memory")]

@@ -151,7 +151,7 @@ fn shared(alloc: Global, keys: &[Key], other: &ScopeList) -> Result<Vec<Key>, No
     Ok(found)
 }
 
-// Appends one key more, behind a comma if others have begun.
+// Appends one key more, after a comma if others have begun.
 fn append_scope(k: &Key, begun: bool, out: &mut String) -> Result<(), NoMemory>
     ensures ok { IfOk result (λ _. string_bytes out.new ≡ string_bytes out.old ++ scope_written begun k.now) }
     ensures start { BeginsWith (string_bytes out.old) (string_bytes out.new) }
@@ -162,7 +162,7 @@ fn append_scope(k: &Key, begun: bool, out: &mut String) -> Result<(), NoMemory>
     escape_into(k.as_str(), Place::Scope, out)
 }
 
-// Appends the keys; where memory runs out some of them may stand behind what was there.
+// Appends the keys; where memory runs out some of them may stand after what was there.
 fn append_printed(keys: &[Key], out: &mut String) -> Result<(), NoMemory>
     ensures ok { IfOk result (λ _. string_bytes out.new ≡ string_bytes out.old ++ printed keys.now) }
     ensures start { BeginsWith (string_bytes out.old) (string_bytes out.new) }

@@ -93,7 +93,7 @@ fn push_sign(sign: Option<char>, part: &mut Vec<Option<u8>>) -> Result<(), NoMem
     Ok(())
 }
 
-// Appends a folded sign, behind a space if white space came since the last one. White space itself is
+// Appends a folded sign, after a space if white space came since the last one. White space itself is
 // put off; whether it was is answered.
 fn add_sign(sign: Option<char>, gap: bool, part: &mut Vec<Option<u8>>) -> Result<bool, NoMemory>
     ensures { IfOk result (λ now. (rest : List ℕ) → grown now part.new.items rest ≡ grown gap part.old.items (sign_of sign ∷ rest)) }
@@ -214,7 +214,7 @@ fn first_run(part: &[Option<u8>], tag: &[u8]) -> Run
 }
 
 // Whether a part matches some end of a tag. A run that agrees up to a `*` is never tried further on:
-// what matches behind a later one matches behind it too.
+// what matches after a later one matches after it too.
 fn matches_an_end(part: &[Option<u8>], tag: &[u8]) -> bool
     ensures { result ≡ list_any (is_match part.now) (ends_of tag.now) }
 {
@@ -265,7 +265,7 @@ impl TagList {
         Ok(TagList { parts })
     }
 
-    /// Whether a part matches the tag, or there is no part. It takes no memory, and at most time for
+    /// Whether a part matches the tag, or there is not a part. It takes no memory, and at most time for
     /// the product of the lengths of each part and the tag.
     pub fn selects(&self, tag: &Key) -> bool
         ensures { result ≡ selects_tag self.now tag.now }
@@ -273,7 +273,7 @@ impl TagList {
         self.is_empty() || some_part_matches(&self.parts, tag.as_str().as_bytes())
     }
 
-    /// Whether there is no part. Takes no memory.
+    /// Whether there is not a part. Takes no memory.
     pub fn is_empty(&self) -> bool
         ensures { IsTrue result ↔ (self.now ≡ []) }
     {

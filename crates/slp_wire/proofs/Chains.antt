@@ -45,18 +45,18 @@ more_at at x y xs skipped short =
     let rest = chain_bytes (end_of at x) (y ∷ xs) in
     let n = big_number 3 (drop 2 bytes) in
     let size : length bytes ≡ 5 + length x.content + length rest = omega (arith, length-append x.content rest) in
-    let behind : 5 ≤ length rest = chain_long (end_of at x) y xs in
+    let after : 5 ≤ length rest = chain_long (end_of at x) y xs in
     let long : ltb (length bytes) 5 ≡ false = le-ltb (length bytes) 5 (omega (arith, size)) in
     let id : big_number 2 bytes ≡ x.id = two_again x.id (big_bytes 3 (end_of at x) ++ x.content ++ rest) skipped.id in
-    let next : n ≡ end_of at x = three_again (end_of at x) (x.content ++ rest) (omega (arith, size, behind, short)) in
+    let next : n ≡ end_of at x = three_again (end_of at x) (x.content ++ rest) (omega (arith, size, after, short)) in
     let optional : is_required (big_number 2 bytes) ≡ false = ap is_required id ∙ not-true (is_required x.id) skipped.optional in
     let some : eqb n 0 ≡ false = ne_eqb n 0 (λ (e : n ≡ 0). absurd (omega (arith, e, next))) in
     let past : ltb n (at + 5) ≡ false = le-ltb n (at + 5) (omega (arith, next)) in
-    let room : ltb (at + length bytes) (n + 5) ≡ false = le-ltb (at + length bytes) (n + 5) (omega (arith, size, behind, next)) in
+    let room : ltb (at + length bytes) (n + 5) ≡ false = le-ltb (at + length bytes) (n + 5) (omega (arith, size, after, next)) in
     λ i. next_by (long i) (optional i) (some i) (past i || room i) (next i)
 
-behind_first : (at : ℕ) (x y : Extension) (xs : List Extension) → drop (end_of at x - at) (chain_bytes at (x ∷ y ∷ xs)) ≡ chain_bytes (end_of at x) (y ∷ xs)
-behind_first at x y xs =
+after_first : (at : ℕ) (x y : Extension) (xs : List Extension) → drop (end_of at x - at) (chain_bytes at (x ∷ y ∷ xs)) ≡ chain_bytes (end_of at x) (y ∷ xs)
+after_first at x y xs =
     let rest = chain_bytes (end_of at x) (y ∷ xs) in
     let front = big_bytes 2 x.id ++ big_bytes 3 (end_of at x) ++ x.content in
     let size : length front ≡ end_of at x - at = omega arith in
@@ -69,7 +69,7 @@ chain_again (suc most) at x [] few short skipped = rw (last_at at x skipped.0) r
 chain_again (suc most) at x (y ∷ xs) few short skipped =
     let rest = chain_bytes (end_of at x) (y ∷ xs) in
     let size : length (chain_bytes at (x ∷ y ∷ xs)) ≡ 5 + length x.content + length rest = omega (arith, length-append x.content rest) in
-    rw (more_at at x y xs skipped.0 short, behind_first at x y xs)
+    rw (more_at at x y xs skipped.0 short, after_first at x y xs)
     (chain_again most (end_of at x) y xs (omega (arith, size)) (omega (arith, size, short)) skipped.1)
 
 -- ---- what is read is spelled

@@ -14,7 +14,7 @@ use Rattle.slp_wire.proofs.Numbers.{number_takes, number_again}
 use Rattle.slp_wire.proofs.Steps.{IsBytes, Takes, joined, bind_ok, chosen, from_ok}
 use Rattle.slp_wire.proofs.Values.{skipped_takes, skipped_again, values_are_spelled}
 
--- ---- what stands behind a code that is not 0
+-- ---- what stands after a code that is not 0
 
 rest_takes : (kinds : List Kind) (tail : ℕ) (bytes rest : List ℕ) → IsBytes bytes → rest_at kinds tail bytes ≡ Ok rest → (text : List ℕ) × Takes bytes text rest × IsRest kinds text
 unfolding rest_at
@@ -30,8 +30,8 @@ rest_takes kinds tail bytes rest fits e =
 rest_again : (kinds : List Kind) → ((text : List ℕ) (values : Values kinds) → SpellsValues kinds text values → 0 < length text)
     → (tail : ℕ) (text rest : List ℕ) → tail ≡ length rest → IsRest kinds text → rest_at kinds tail (text ++ rest) ≡ Ok rest
 unfolding rest_at
-rest_again kinds nonempty tail text rest size behind =
-    elim behind [
+rest_again kinds nonempty tail text rest size after =
+    elim after [
       | inl none ↦
           let here : text ++ rest ≡ rest = ap (λ (y : List ℕ). y ++ rest) none in
           let ends : eqb (length rest) tail ≡ true = eq-eqb (length rest) tail (omega arith) in

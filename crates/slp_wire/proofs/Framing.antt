@@ -18,7 +18,7 @@ pub record IsHeading (h : Heading) : Type 0 where
   pub xid : h.xid < 2 ^ 16
   pub language : IsTag h.language
 
--- the numbers of a header, one behind the other
+-- the numbers of a header, one after the other
 abbrev laid : ℕ → ℕ → List ℕ → List ℕ → List ℕ → List ℕ → List ℕ → List ℕ → List ℕ
 laid version function length flags extension xid tag rest = version ∷ function ∷ (length ++ (flags ++ (extension ++ (xid ++ (tag ++ rest)))))
 

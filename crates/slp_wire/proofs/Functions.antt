@@ -8,7 +8,7 @@ use Rattle.slp_messages.specs.declared.message.Message.{Message}
 use Rattle.slp_messages.specs.declared.message.Message.TheVariants as message
 use Rattle.slp_fields.specs.declared.fault.WireFault.{WireFault}
 use Rattle.slp_wire.specs.Bodies.{as_message, body_at}
-use Rattle.slp_wire.specs.Reading.{tail_of, kept_header, body_part, ends_at, ended, reading_behind, reading}
+use Rattle.slp_wire.specs.Reading.{tail_of, kept_header, body_part, ends_at, ended, reading_after, reading}
 use Rattle.slp_wire.proofs.Steps.{bind_ok, chosen, from_ok}
 
 -- this function, or another one
@@ -43,11 +43,11 @@ ended_function h m bytes e =
     let f = bind_ok (ends_at h.extension h.length d.0.1) _ m d.2 in
     from_ok (λ (k : Message). function_of k ≡ h.function) d.0.0 m f.2 (body_function h.function (tail_of h) (kept_header h) bytes d.0 d.1)
 
-behind_function : (h : Heading) (bytes : List ℕ) (m : Message) → reading_behind h bytes ≡ Ok m → function_of m ≡ h.function
-unfolding reading_behind
-behind_function h bytes m e =
+after_function : (h : Heading) (bytes : List ℕ) (m : Message) → reading_after h bytes ≡ Ok m → function_of m ≡ h.function
+unfolding reading_after
+after_function h bytes m e =
     ended_function h m (body_part h bytes) (grind arith)
 
 pub message_function : (bytes : List ℕ) (h : Heading) (m : Message) → heading_of bytes ≡ Some h → reading bytes ≡ Ok m → function_of m ≡ h.function
 unfolding reading
-message_function bytes h m head e = behind_function h bytes m (rw (head, reading) at e)
+message_function bytes h m head e = after_function h bytes m (rw (head, reading) at e)

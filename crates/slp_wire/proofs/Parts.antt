@@ -87,15 +87,15 @@ no_index_again rest = rw (string_again [] rest nothing) refl
 
 -- ---- entries
 
-abbrev entry_behind : ℕ → List ℕ → List ℕ → Result (UrlEntry × List ℕ) WireFault
-entry_behind lifetime url bytes = no_block_at bytes >>= λ none. Ok (record { lifetime = lifetime; url = url }, none.1)
+abbrev entry_after : ℕ → List ℕ → List ℕ → Result (UrlEntry × List ℕ) WireFault
+entry_after lifetime url bytes = no_block_at bytes >>= λ none. Ok (record { lifetime = lifetime; url = url }, none.1)
 
 pub entry_takes : (bytes : List ℕ) (e : UrlEntry) (rest : List ℕ) → IsBytes bytes → entry_at bytes ≡ Ok (e, rest) → (text : List ℕ) × Takes bytes text rest × SpellsEntry text e × IsEntry e
 unfolding entry_at
 entry_takes bytes e rest fits h =
-    let a = bind_ok (byte_at bytes) (λ reserved. number_at reserved.1 >>= λ lifetime. string_at lifetime.1 >>= λ url. entry_behind lifetime.0 url.0 url.1) (e, rest) h in
-    let b = bind_ok (number_at a.0.1) (λ lifetime. string_at lifetime.1 >>= λ url. entry_behind lifetime.0 url.0 url.1) (e, rest) a.2 in
-    let c = bind_ok (string_at b.0.1) (λ url. entry_behind b.0.0 url.0 url.1) (e, rest) b.2 in
+    let a = bind_ok (byte_at bytes) (λ reserved. number_at reserved.1 >>= λ lifetime. string_at lifetime.1 >>= λ url. entry_after lifetime.0 url.0 url.1) (e, rest) h in
+    let b = bind_ok (number_at a.0.1) (λ lifetime. string_at lifetime.1 >>= λ url. entry_after lifetime.0 url.0 url.1) (e, rest) a.2 in
+    let c = bind_ok (string_at b.0.1) (λ url. entry_after b.0.0 url.0 url.1) (e, rest) b.2 in
     let made : UrlEntry = record { lifetime = b.0.0; url = c.0.0 } in
     let d = bind_ok (no_block_at c.0.1) (λ none. Ok (made, none.1)) (e, rest) c.2 in
     let ta = byte_takes bytes a.0.0 a.0.1 fits a.1 in

@@ -59,6 +59,6 @@ pub record Takes (bytes text rest : List ℕ) : Type 0 where
 pub Takes-then : (a x b y c : List ℕ) → Takes a x b → Takes b y c → Takes a (x ++ y) c
 Takes-then a x b y c p q = record { parts = p.parts ∙ ap (λ (t : List ℕ). x ++ t) q.parts ∙ sym (append_assoc x y c); rest_fits = q.rest_fits }
 
--- two texts, one behind the other
+-- two texts, one after the other
 pub joined : {a x b y c : List ℕ} → Takes a x b → Takes b y c → Takes a (x ++ y) c
 joined {a = a} {x = x} {b = b} {y = y} {c = c} p q = Takes-then a x b y c p q

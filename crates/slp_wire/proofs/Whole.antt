@@ -10,7 +10,7 @@ use Rattle.slp_messages.specs.Messages.{header_of, function_of, IsHeader, IsMess
 use Rattle.slp_wire.specs.Extensions.{Extension, IsSkipped, begins_at, chain_bytes, extensions_at}
 use Rattle.slp_fields.specs.Steps.{◌>>=◌, Gives}
 use Rattle.slp_wire.specs.Bodies.{body_at}
-use Rattle.slp_wire.specs.Reading.{is_known, kept_header, body_part, tail_of, ends_at, ended, reading_behind, reading, marked}
+use Rattle.slp_wire.specs.Reading.{is_known, kept_header, body_part, tail_of, ends_at, ended, reading_after, reading, marked}
 use Rattle.slp_wire.specs.Spelling.{body_end, heading_for, Spells, plain, longest}
 use Rattle.slp_fields.specs.declared.fault.WireFault.{WireFault}
 use Rattle.slp_fields.specs.declared.fault.WireFault.TheVariants.{NoHeader, Version, Parse, Unknown}
@@ -24,14 +24,14 @@ use Rattle.slp_wire.proofs.Framing.{IsHeading, header_is_front, header_length, h
 use Rattle.slp_wire.proofs.Plain.{is_spelled}
 use Rattle.slp_wire.proofs.Steps.{IsBytes, IsBytes-drop, IsBytes-take, bind_ok, chosen, unless_ok, if_ok, ok_is}
 
-behind : Option Heading → List ℕ → Result Message WireFault
-behind found bytes = elim found [ None ↦ Err NoHeader | Some h ↦ reading_behind h bytes ]
+after : Option Heading → List ℕ → Result Message WireFault
+after found bytes = elim found [ None ↦ Err NoHeader | Some h ↦ reading_after h bytes ]
 
 abbrev result_of : Message → List ℕ → Result (Message × List ℕ) WireFault
 result_of m rest = Ok (m, rest)
 
-reading_is : (bytes : List ℕ) → reading bytes ≡ behind (heading_of bytes) bytes
-unfolding reading behind
+reading_is : (bytes : List ℕ) → reading bytes ≡ after (heading_of bytes) bytes
+unfolding reading after
 reading_is bytes = refl
 
 functions_are_known : (m : Message) → is_known (function_of m) ≡ true
@@ -97,7 +97,7 @@ unfolding ended
 ended_again h m rest read is ends = rw (is, ends) refl
 
 pub is_read : (bytes rest : List ℕ) (m : Message) → Spells bytes m → reading (bytes ++ rest) ≡ Ok m
-unfolding reading_behind behind
+unfolding reading_after after
 is_read bytes rest m s =
     let k = header_of m in
     let body = s.body in
@@ -122,7 +122,7 @@ is_read bytes rest m s =
     ∙ body_again m body chain (tail_of h) (tail_is_chain m s.word body s.extensions) s.spells s.sound.body in
     let done : ended h (body_at (function_of m) (tail_of h) (kept_header h) (body_part h x)) ≡ Ok m =
     ended_again h m chain (body_at (function_of m) (tail_of h) (kept_header h) (body_part h x)) read (ends_again m s.word body s.extensions (omega (arith, size, s.short)) s.skipped) in
-    reading_is x ∙ ap (λ (o : Option Heading). behind o x) head ∙ rw (known, room, there) done
+    reading_is x ∙ ap (λ (o : Option Heading). after o x) head ∙ rw (known, room, there) done
 
 -- ---- what is read is spelled
 
@@ -136,8 +136,8 @@ record Passes (h : Heading) (bytes : List ℕ) (m : Message) : Type 0 where
 abbrev sized : Heading → List ℕ → Result Message WireFault
 sized h bytes = cond (ltb h.length (14 + length h.language) || ltb (length bytes) h.length) (Err Parse) (ended h (body_at h.function (tail_of h) (kept_header h) (body_part h bytes)))
 
-passes : (h : Heading) (bytes : List ℕ) (m : Message) → reading_behind h bytes ≡ Ok m → Passes h bytes m
-unfolding reading_behind
+passes : (h : Heading) (bytes : List ℕ) (m : Message) → reading_after h bytes ≡ Ok m → Passes h bytes m
+unfolding reading_after
 passes h bytes m e =
     let a = if_ok (is_known h.function) Unknown (cond (eqb h.version 2) (sized h bytes) (Err Version)) m e in
     let b = if_ok (eqb h.version 2) Version (sized h bytes) m a.1 in
@@ -145,7 +145,7 @@ passes h bytes m e =
     let sizes = or_parts (ltb h.length (14 + length h.language)) (ltb (length bytes) h.length) c.0 in
     record { version = eqb-true _ _ b.0; room = ltb-false _ _ sizes.0; there = ltb-false _ _ sizes.1; ends = c.1 }
 
--- what stands behind a body that ends a message: extensions, where the header says that they begin
+-- what stands after a body that ends a message: extensions, where the header says that they begin
 record Ends (h : Heading) (read : Result (Message × List ℕ) WireFault) (m : Message) : Type 0 where
   rest : List ℕ
   body : read ≡ Ok (m, rest)
@@ -209,12 +209,12 @@ ends h read m fits e =
       chain = t.chain;
     }
 
-readable_first : (b : Bool) (h : Heading) (bytes : List ℕ) (m : Message) → behind (cond b (Some h) None) bytes ≡ Ok m → (b ≡ true) × (reading_behind h bytes ≡ Ok m)
-unfolding behind
+readable_first : (b : Bool) (h : Heading) (bytes : List ℕ) (m : Message) → after (cond b (Some h) None) bytes ≡ Ok m → (b ≡ true) × (reading_after h bytes ≡ Ok m)
+unfolding after
 readable_first true h bytes m e = (refl, e)
 readable_first false h bytes m e = absurd cc
 
--- the marked bytes are the header and what stands behind it
+-- the marked bytes are the header and what stands after it
 marked_parts : (bytes : List ℕ) → IsBytes bytes → is_readable bytes ≡ true → 14 + length (tag_of bytes) ≤ (fields_of bytes).length → marked bytes ≡ heading_bytes (fields_of bytes) ++ body_part (fields_of bytes) bytes
 marked_parts bytes fits readable room =
     let h = fields_of bytes in

@@ -15,7 +15,7 @@ use Rattle.slp_bodies.specs.Bodies.{service_request_at, service_reply_at, regist
 abbrev pub as_message : {A : Type 0} → (A → Message) → Result (A × List ℕ) WireFault → Result (Message × List ℕ) WireFault
 as_message f read = read >>= λ x. Ok (f x.0, x.1)
 
--- the body of a message of this function and with this header, of which so many bytes at the end are no part
+-- the body of a message of this function and with this header, of which so many bytes at the end are not part
 unfoldable pub body_at : ℕ → ℕ → Header → List ℕ → Result (Message × List ℕ) WireFault
 body_at function tail h bytes =
     if function == SERVICE_REQUEST then as_message (message.ServiceRequest h) (service_request_at bytes)

@@ -1,4 +1,4 @@
--- Extensions behind a body (RFC 2608, section 9.1).
+-- Extensions after a body (RFC 2608, section 9.1).
 use Rattle.std.specs.Prelude.{ℕ, ◌^◌, ◌<◌, List, length, ◌+◌, Bool, not, ◌==◌, ◌&&◌, nat_le, [], ◌∷◌, ◌++◌, IsTrue, if◌then◌else◌, zero, suc, ◌-◌, ◌||◌, nat_lt, drop, Option, Some, None, Result, Ok, Err}
 use Rattle.byteorder.specs.Endian.{big_bytes, big_number}
 use Rattle.slp_fields.specs.Steps.{◌>>=◌}

@@ -41,8 +41,8 @@ ended h read = do
   _ ← ends_at h.extension h.length m.1
   Ok m.0
 
-unfoldable pub reading_behind : Heading → List ℕ → Result Message WireFault
-reading_behind h bytes =
+unfoldable pub reading_after : Heading → List ℕ → Result Message WireFault
+reading_after h bytes =
     if is_known h.function then
     (if h.version == VERSION then
     (if nat_lt h.length (place.TAG + length h.language) || nat_lt (length bytes) h.length then Err Parse
@@ -53,7 +53,7 @@ reading_behind h bytes =
 -- The message in front of the bytes, as far as its length field marks it, or the first fault: no readable
 -- header, a function that there is not, another version, a length that does not fit, then the body from the left, and then the extensions.
 unfoldable pub reading : List ℕ → Result Message WireFault
-reading bytes = elim (heading_of bytes) [ None ↦ Err NoHeader | Some h ↦ reading_behind h bytes ]
+reading bytes = elim (heading_of bytes) [ None ↦ Err NoHeader | Some h ↦ reading_after h bytes ]
 
 -- the front of the bytes that the length field marks
 abbrev pub marked : List ℕ → List ℕ

@@ -12,7 +12,7 @@ use slp_fields::{WireFault, number_of};
 use slp_messages::{Header, Message, function};
 use std::alloc::Global;
 
-/// The body of a message of this function. So many bytes at the end are no part of it.
+/// The body of a message of this function. So many bytes at the end are not part of it.
 #[tactic(auto, unfolding(crate::specs::Bodies::body_at))]
 pub(crate) fn body_of(
     alloc: Global,

@@ -44,8 +44,8 @@ pub fn skip_extensions(begin: usize, bytes: &[u8]) -> Result<(), WireFault>
     for _ in 0..bytes.len() {
         match next_of(at, rest)? {
             None => return Ok(()),
-            Some((next, behind)) => {
-                rest = behind;
+            Some((next, after)) => {
+                rest = after;
                 at = next;
             }
         }

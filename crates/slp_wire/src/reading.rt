@@ -5,7 +5,7 @@ ghost use Rattle.slp_messages.specs.Views.{header_in as kept_in, message_in, req
 ghost use Rattle.slp_headers.specs.Headers.{flags_of, heading, heading_of};
 ghost use Rattle.slp_fields.specs.Steps.{Gives};
 ghost use Rattle.slp_wire.specs.Bodies.{body_at};
-ghost use Rattle.slp_wire.specs.Reading.{is_known, kept_header, tail_of, ends_at, ended, reading_behind, reading, marked};
+ghost use Rattle.slp_wire.specs.Reading.{is_known, kept_header, tail_of, ends_at, ended, reading_after, reading, marked};
 ghost use Rattle.slp_wire.specs.Spelling.{Spells};
 
 use crate::body::body_of;
@@ -106,10 +106,10 @@ fn whole_body(
 }
 
 // What stands after the header, where a message of this header may be read.
-#[tactic(auto, unfolding(crate::specs::Reading::reading_behind))]
-fn body_behind<'a>(view: &HeaderView<'_>, bytes: &'a [u8]) -> Result<&'a [u8], WireFault>
-    ensures ok { IfOk result (λ body. reading_behind (heading view.now) bytes.now ≡ ended (heading view.now) (body_at view.now.function (tail_of (heading view.now)) (kept_header (heading view.now)) body.now)) }
-    ensures err { IfErr result (λ e. reading_behind (heading view.now) bytes.now ≡ Err e) }
+#[tactic(auto, unfolding(crate::specs::Reading::reading_after))]
+fn body_after<'a>(view: &HeaderView<'_>, bytes: &'a [u8]) -> Result<&'a [u8], WireFault>
+    ensures ok { IfOk result (λ body. reading_after (heading view.now) bytes.now ≡ ended (heading view.now) (body_at view.now.function (tail_of (heading view.now)) (kept_header (heading view.now)) body.now)) }
+    ensures err { IfErr result (λ e. reading_after (heading view.now) bytes.now ≡ Err e) }
 {
     if !is_read(view.function) {
         return Err(WireFault::Unknown);
@@ -125,10 +125,10 @@ fn body_behind<'a>(view: &HeaderView<'_>, bytes: &'a [u8]) -> Result<&'a [u8], W
     Ok(&bytes[..length][start..])
 }
 
-fn message_behind(alloc: Global, view: &HeaderView<'_>, bytes: &[u8]) -> Result<Message, WireFault>
-    ensures { Gives (λ m. m) result (reading_behind (heading view.now) bytes.now) }
+fn message_after(alloc: Global, view: &HeaderView<'_>, bytes: &[u8]) -> Result<Message, WireFault>
+    ensures { Gives (λ m. m) result (reading_after (heading view.now) bytes.now) }
 {
-    let body = body_behind(view, bytes)?;
+    let body = body_after(view, bytes)?;
     let header = header_in(alloc, view)?;
     whole_body(alloc, view, header, body)
 }
@@ -143,7 +143,7 @@ pub fn read_service_request<'a>(
     requires function { view.now.function ≡ 1 }
     ensures { Gives (λ r. message.ServiceRequest (kept_header (heading view.now)) (request_in r)) result (reading bytes.now) }
 {
-    let body = body_behind(view, bytes)?;
+    let body = body_after(view, bytes)?;
     let (request, rest) = service_request_view_of(body)?;
     check_end(view.extension as usize, view.length as usize, rest)?;
     Ok(request)
@@ -157,7 +157,7 @@ pub fn read_change<'a>(view: &HeaderView<'a>, bytes: &'a [u8]) -> Result<ChangeV
     requires function { (view.now.function ≡ 3) ⊎ (view.now.function ≡ 4) }
     ensures { Gives message_in result (reading bytes.now) }
 {
-    let body = body_behind(view, bytes)?;
+    let body = body_after(view, bytes)?;
     if view.function == function::REGISTRATION {
         let (registration, rest) = registration_view_of(body)?;
         check_end(view.extension as usize, view.length as usize, rest)?;
@@ -174,12 +174,12 @@ fn message_of(alloc: Global, bytes: &[u8]) -> Result<Message, WireFault>
 {
     match read_header(bytes) {
         None => Err(WireFault::NoHeader),
-        Some(view) => message_behind(alloc, &view, bytes),
+        Some(view) => message_after(alloc, &view, bytes),
     }
 }
 
 /// The message in front of the bytes, as far as its length field marks it (RFC 2608, sections 7 to
-/// 10). What stands behind that is not looked at. The bytes are gone through once, and each text is
+/// 10). What stands after that is not looked at. The bytes are gone through once, and each text is
 /// copied once.
 pub fn decode(alloc: Global, bytes: &[u8]) -> Result<Message, WireFault>
     // What is read is spelled so.

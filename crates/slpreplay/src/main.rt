@@ -14,7 +14,7 @@ use std::process::ExitCode;
 
 /// The status where no memory is found before the first line of the script is read.
 const NO_MEMORY: u8 = 4;
-/// The status of wrong usage, where an argument is no text.
+/// The status of wrong usage, where an argument is not text.
 const USAGE: u8 = 64;
 /// The status where writing fails.
 const UNWRITTEN: u8 = 2;

@@ -67,7 +67,7 @@ pub static KEPT: [&str; 18] = [
     REFUSED_TYPES,
 ];
 
-// Bytes, and what the message in front of them is written as: what stands behind a code, or behind the
+// Bytes, and what the message in front of them is written as: what stands after a code, or after the
 // message, is gone.
 pub static SHORTENED: [(&str, &str); 5] = [
     (
@@ -112,12 +112,12 @@ pub static FAULTS: [(&str, &str, Option<WireFault>); 35] = [
         Some(WireFault::NoHeader),
     ),
     (
-        "a string that is no UTF-8",
+        "a string that is not UTF-8",
         "0201000030000000000000010002656e0000000fff6572766963653a7072696e746572000744454641554c5400000000",
         Some(WireFault::Parse),
     ),
     (
-        "a byte behind the body",
+        "a byte after the body",
         "0201000031000000000000010002656e0000000f736572766963653a7072696e746572000744454641554c540000000078",
         Some(WireFault::Parse),
     ),
@@ -127,57 +127,57 @@ pub static FAULTS: [(&str, &str, Option<WireFault>); 35] = [
         Some(WireFault::Auth),
     ),
     (
-        "a byte behind a refusal of services",
+        "a byte after a refusal of services",
         "0202000013000000000000010002656e000400",
         Some(WireFault::Parse),
     ),
     (
-        "16 bytes behind a refusal of services",
+        "16 bytes after a refusal of services",
         "0202000022000000000000010002656e000400000000000000000000000000000000",
         Some(WireFault::Parse),
     ),
     (
-        "a byte behind a refusal of attributes",
+        "a byte after a refusal of attributes",
         "0207000013000000000000010002656e000400",
         Some(WireFault::Parse),
     ),
     (
-        "16 bytes behind a refusal of attributes",
+        "16 bytes after a refusal of attributes",
         "0207000022000000000000010002656e000400000000000000000000000000000000",
         Some(WireFault::Parse),
     ),
     (
-        "a byte behind a refusal of an agent",
+        "a byte after a refusal of an agent",
         "0208000013000000000000010002656e000400",
         Some(WireFault::Parse),
     ),
     (
-        "16 bytes behind a refusal of an agent",
+        "16 bytes after a refusal of an agent",
         "0208000022000000000000010002656e000400000000000000000000000000000000",
         Some(WireFault::Parse),
     ),
     (
-        "a byte behind a refusal of types",
+        "a byte after a refusal of types",
         "020a000013000000000000010002656e000400",
         Some(WireFault::Parse),
     ),
     (
-        "16 bytes behind a refusal of types",
+        "16 bytes after a refusal of types",
         "020a000022000000000000010002656e000400000000000000000000000000000000",
         Some(WireFault::Parse),
     ),
     (
-        "a block behind refused attributes",
+        "a block after refused attributes",
         "0207000016000000000000010002656e000400017801",
         Some(WireFault::Auth),
     ),
     (
-        "a block behind a refused agent",
+        "a block after a refused agent",
         "020800001f000000000000010002656e000400000001000000000000000001",
         Some(WireFault::Auth),
     ),
     (
-        "a byte behind every authority",
+        "a byte after every authority",
         "0209000017000000000000010002656e0000ffff780000",
         Some(WireFault::Parse),
     ),
@@ -252,17 +252,17 @@ pub static FAULTS: [(&str, &str, Option<WireFault>); 35] = [
         Some(WireFault::Parse),
     ),
     (
-        "an offset behind the body",
+        "an offset after the body",
         "0201000035000000003100010002656e0000000f736572766963653a7072696e746572000744454641554c54000000009799000000",
         Some(WireFault::Parse),
     ),
     (
-        "an extension behind a refusal",
+        "an extension after a refusal",
         "0202000017000000001200010002656e00049799000000",
         None,
     ),
     (
-        "one to be understood behind a refusal",
+        "one to be understood after a refusal",
         "0202000017000000001200010002656e00044099000000",
         Some(WireFault::Option),
     ),

@@ -2,9 +2,9 @@ use Rattle.std.proofs.Common.{◌≡◌, drop, map}
 use Rattle.toml.specs.Data.{as_str}
 use Rattle.toml.specs.View.{view}
 use Rattle.site_config.specs.Configuring.{each_in}
-use Rattle.site_config.proofs.Arrays.{behind}
+use Rattle.site_config.proofs.Arrays.{with_front}
 use Rattle.site_config.proofs.values.paths.Given as goal
 
 -- those so far stand before what is read of the rest
 abbrev pub invariant-loop-value : goal.invariant-loop-value
-invariant-loop-value l = behind l.paths.items (each_in as_str (map view (drop l.value-index l.values))) ≡ each_in as_str (map view l.values)
+invariant-loop-value l = with_front l.paths.items (each_in as_str (map view (drop l.value-index l.values))) ≡ each_in as_str (map view l.values)

@@ -19,8 +19,8 @@ returns-in-None c =
 pub loop-preserved : goal.loop-preserved
 loop-preserved c =
     let total = extensions_at (length c.args.bytes.now) c.args.begin c.args.bytes.now in
-    let rest : c.in-Some.behind.now ≡ drop (c.in-Some.next - c.loop.at) c.loop.rest.now = subst (λ o. IfSome o (λ p. p.1.now ≡ drop (p.0 - c.loop.at) c.loop.rest.now)) c.in-Some.is c.in_ok-next_of.ensures.rest in
-    let within : c.in-Some.next + length c.in-Some.behind.now ≡ c.loop.at + length c.loop.rest.now = subst (λ o. IfSome o (λ p. p.0 + length p.1.now ≡ c.loop.at + length c.loop.rest.now)) c.in-Some.is c.in_ok-next_of.ensures.within in
+    let rest : c.in-Some.after.now ≡ drop (c.in-Some.next - c.loop.at) c.loop.rest.now = subst (λ o. IfSome o (λ p. p.1.now ≡ drop (p.0 - c.loop.at) c.loop.rest.now)) c.in-Some.is c.in_ok-next_of.ensures.rest in
+    let within : c.in-Some.next + length c.in-Some.after.now ≡ c.loop.at + length c.loop.rest.now = subst (λ o. IfSome o (λ p. p.0 + length p.1.now ≡ c.loop.at + length c.loop.rest.now)) c.in-Some.is c.in_ok-next_of.ensures.within in
     let next : next_at c.loop.at c.loop.rest.now ≡ Ok (Some c.in-Some.next) = c.in_ok-next_of.ensures.value ∙ ap (λ o. Ok (option_map (λ p. p.0) o)) c.in-Some.is in
     let on = on_to_next (length c.args.bytes.now) c.loop.counter c.loop.at c.loop.rest.now c.in-Some.next total c.loop-test.true next c.loop.invariant.1 in (
       omega (arith, within, c.loop.invariant.0),
