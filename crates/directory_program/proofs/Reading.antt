@@ -12,8 +12,8 @@ use Rattle.directory_program.specs.Running.{RunsUpTo, RunsWhole, IsUnfinished, b
 use Rattle.directory_program.specs.Standing.{IsOpen}
 use Rattle.directory_program.specs.Feeding.{Stood, Failed, Ends}
 use Rattle.directory_program.specs.Gives.{FaultGives, Gives, KnownFault, KnownGives}
-use Rattle.directory_program.specs.declared.place.OpenBlock.{OpenBlock}
-use Rattle.directory_program.specs.declared.place.Place.{Place}
+use Rattle.directory_program.specs.declared.progress.OpenBlock.{OpenBlock}
+use Rattle.directory_program.specs.declared.progress.Progress.{Progress}
 use Rattle.directory_program.specs.declared.fault.RunFault.{RunFault}
 use Rattle.directory_program.specs.declared.fault.RunFault.TheVariants.{Read, Write, Line as AtLine, NoMemory}
 use Rattle.directory_program.proofs.Known.{Keeps-same, Appends-none, Appends-append, Consumes-none, Consumes-append}
@@ -34,7 +34,7 @@ Holds-opening = record {
   late = refl;
 }
 
-pub Stood-begin : (p : Place) → p.number ≡ 0 → p.block ≡ None → p.session ≡ opening_session → Stood [] [] [] p
+pub Stood-begin : (p : Progress) → p.number ≡ 0 → p.block ≡ None → p.session ≡ opening_session → Stood [] [] [] p
 Stood-begin p n b s = record {
   lines = [];
   text = refl;
@@ -60,7 +60,7 @@ no_lines [] line e = refl
 no_lines (l ∷ ls) line e = absurd (omega (arith, simp length-append at (ap length e)))
 
 -- where nothing was read there was no line
-pub Stood-new : (p : Place) → Stood [] [] [] p → p.number ≡ 0
+pub Stood-new : (p : Progress) → Stood [] [] [] p → p.number ≡ 0
 Stood-new p s = s.stands.number ∙ no_lines s.lines [] s.text
 
 -- a run that never began
@@ -96,7 +96,7 @@ unfinished : (b : Option OpenBlock) (ls : List Line) (k : ℕ) → IsOpen ls k b
 unfinished None ls k h = inl h
 unfinished (Some b) ls k h = inr (b.block, h.0, h.1, h.2)
 
-Stood-whole : (read out line : List ℕ) (p : Place) → Stood read out line p → RunsWhole read out
+Stood-whole : (read out line : List ℕ) (p : Progress) → Stood read out line p → RunsWhole read out
 Stood-whole read out line p s = (
   s.stands.commands,
   s.stands.before,
@@ -109,7 +109,7 @@ Stood-whole read out line p s = (
   (s.stands.world, s.stands.prints),
 )
 
-pub Gives-read : (r n w u : Option (List ℕ)) (read out line : List ℕ) (p : Place) → Consumes r n read → Appends w u out → Stood read out line p → FaultGives r n w u Read
+pub Gives-read : (r n w u : Option (List ℕ)) (read out line : List ℕ) (p : Progress) → Consumes r n read → Appends w u out → Stood read out line p → FaultGives r n w u Read
 Gives-read r n w u read out line p c a s = (read, out, c, a, Stood-whole read out line p s)
 
 -- what was read of a known script, and what is left of it

@@ -20,7 +20,7 @@ later : (m k : ℕ) → k ≤ max m k
 later m k = grind (arith)
 
 -- what is dead is dropped
-pub IsAgent-swept : (w : World) (a b : Agent) (n : ℕ) → IsAgent w a → n ≡ max a.moment a.directory.clock → Folds a.directory (change.Sweep n) b.directory → b.listen ≡ a.listen → b.loop_place ≡ a.loop_place → b.moment ≡ a.moment → b.asker ≡ a.asker → IsAgent (swept w) b
+pub IsAgent-swept : (w : World) (a b : Agent) (n : ℕ) → IsAgent w a → n ≡ max a.moment a.directory.clock → Folds a.directory (change.Sweep n) b.directory → b.listen ≡ a.listen → b.loop_index ≡ a.loop_index → b.moment ≡ a.moment → b.asker ≡ a.asker → IsAgent (swept w) b
 IsAgent-swept w a b n h at folds listen loop moment asker =
     let when : n ≡ now w.history w.moment = at ∙ rw (h.moment, h.fold.clocks) refl in
     let event : Event = record { moment = now w.history w.moment; act = Sweep } in

@@ -15,8 +15,8 @@ use Rattle.directory_program.specs.Running.{World, Does, Prints, IsOutput, Confi
 use Rattle.directory_program.specs.Standing.{IsOpen, Stands, Turns, TurnsTo, TurnFailsBy, Begins, Ends, Lengthens, kept_text, lengthened}
 use Rattle.directory_program.specs.declared.fault.RunFault.{RunFault}
 use Rattle.directory_program.specs.declared.fault.RunFault.TheVariants.{Read, Write, Line as LineFault, NoMemory}
-use Rattle.directory_program.specs.declared.place.OpenBlock.{OpenBlock}
-use Rattle.directory_program.specs.declared.place.Place.{Place}
+use Rattle.directory_program.specs.declared.progress.OpenBlock.{OpenBlock}
+use Rattle.directory_program.specs.declared.progress.Progress.{Progress}
 use Rattle.directory_program.proofs.Kept.{lengthened-kept, kept-config}
 use Rattle.slp_script.specs.declared.command.Block.{Block}
 use Rattle.slp_script.specs.declared.command.Block.TheVariants.{Config as Configuration}
@@ -46,7 +46,7 @@ IsOpen-more b None ls l k h is e = absurd e
 IsOpen-more b (Some c) ls l k h is e =
     (h.0 ++ l ∷ [], rw (h.1, e.0) refl, All-append IsBodyLine h.0 (l ∷ []) h.2 (is, tt), e.1 ∙ h.3, e.2 ∙ (ap (λ (o : Option (List ℕ)). lengthened o l) h.4 ∙ lengthened-kept h.0 l))
 
-Stands-by : (b : Option OpenBlock) (ls : List Line) (out : List ℕ) (p : Place) (l now : List ℕ) (q : Place) (before unended : List Line) (cs : List Command) (world : World) → ls ≡ before ++ unended → Reads before cs → Prints beginning cs out world → Holds world p.session → IsOpen unended (length before) b → p.number ≡ length ls → q.number ≡ p.number + 1 → Turns b p l now q → Stands (ls ++ l ∷ []) (out ++ now) q
+Stands-by : (b : Option OpenBlock) (ls : List Line) (out : List ℕ) (p : Progress) (l now : List ℕ) (q : Progress) (before unended : List Line) (cs : List Command) (world : World) → ls ≡ before ++ unended → Reads before cs → Prints beginning cs out world → Holds world p.session → IsOpen unended (length before) b → p.number ≡ length ls → q.number ≡ p.number + 1 → Turns b p l now q → Stands (ls ++ l ∷ []) (out ++ now) q
 Stands-by None ls out p l now q before unended cs world all reads prints holds is_open number more (inl t) =
     let did = t.2 world holds in
     record {
@@ -104,7 +104,7 @@ Stands-by (Some b) ls out p l now q before unended cs world all reads prints hol
       number = omega (arith, length-append ls (l ∷ []));
     }
 
-pub Stands-turn : (ls : List Line) (out : List ℕ) (p : Place) (l now : List ℕ) (q : Place) → Stands ls out p → TurnsTo p l now q → Stands (ls ++ l ∷ []) (out ++ now) q
+pub Stands-turn : (ls : List Line) (out : List ℕ) (p : Progress) (l now : List ℕ) (q : Progress) → Stands ls out p → TurnsTo p l now q → Stands (ls ++ l ∷ []) (out ++ now) q
 Stands-turn ls out p l now q s t =
     Stands-by p.block ls out p l now q s.before s.unended s.commands s.world s.all s.reads s.prints s.holds s.is_open s.number t.number t.turns
 
@@ -120,7 +120,7 @@ FailsAs b number l old new NoMemory = Keeps old new
 FailsAs b number l old new Write = ⊤
 FailsAs b number l old new Read = ⊥
 
-pub fails_as : (b : Option OpenBlock) (p : Place) (l : Line) (old new : Option (List ℕ)) (e : RunFault) → TurnFailsBy b p l old new e → FailsAs b (p.number + 1) l old new e
+pub fails_as : (b : Option OpenBlock) (p : Progress) (l : Line) (old new : Option (List ℕ)) (e : RunFault) → TurnFailsBy b p l old new e → FailsAs b (p.number + 1) l old new e
 fails_as None p l old new (LineFault n) f = (f.0, (f.1, f.2), f.3)
 fails_as None p l old new NoMemory f = f
 fails_as None p l old new Write f = tt
@@ -130,7 +130,7 @@ fails_as (Some b) p l old new NoMemory f = f
 fails_as (Some b) p l old new Write f = tt
 fails_as (Some b) p l old new Read f = f
 
-Stops-by : (b : Option OpenBlock) (ls : List Line) (p : Place) (l : List ℕ) (before unended : List Line) (cs : List Command) (more : List Line) → ls ≡ before ++ unended → Reads before cs → IsOpen unended (length before) b → p.number ≡ length ls → IsAtFault b l → StopsAt (ls ++ l ∷ more) cs (p.number + 1)
+Stops-by : (b : Option OpenBlock) (ls : List Line) (p : Progress) (l : List ℕ) (before unended : List Line) (cs : List Command) (more : List Line) → ls ≡ before ++ unended → Reads before cs → IsOpen unended (length before) b → p.number ≡ length ls → IsAtFault b l → StopsAt (ls ++ l ∷ more) cs (p.number + 1)
 Stops-by None ls p l before unended cs more all reads is_open number fault =
     let same : length before ≡ length ls = rw (all, is_open, append-nil before) refl in
     record {
@@ -156,7 +156,7 @@ Stops-by (Some b) ls p l before unended cs more all reads is_open number fault =
     }
 
 -- a line at fault ends the run, whatever lines follow
-pub Stands-fault : (ls : List Line) (out : List ℕ) (p : Place) (l : List ℕ) (more : List Line) → Stands ls out p → IsAtFault p.block l → (cs : List Command) × StopsAt (ls ++ l ∷ more) cs (p.number + 1) × IsOutput cs out
+pub Stands-fault : (ls : List Line) (out : List ℕ) (p : Progress) (l : List ℕ) (more : List Line) → Stands ls out p → IsAtFault p.block l → (cs : List Command) × StopsAt (ls ++ l ∷ more) cs (p.number + 1) × IsOutput cs out
 Stands-fault ls out p l more s f =
     (s.commands, Stops-by p.block ls p l s.before s.unended s.commands more s.all s.reads s.is_open s.number f, (s.world, s.prints))
 
@@ -175,7 +175,7 @@ ends_within (Some c) b ls before unended cs e all reads is_open =
     }
 
 -- the lines end within a block
-pub Stands-open : (ls : List Line) (out : List ℕ) (p : Place) (b : OpenBlock) → Stands ls out p → p.block ≡ Some b → (cs : List Command) × StopsAt ls cs b.begun × IsOutput cs out
+pub Stands-open : (ls : List Line) (out : List ℕ) (p : Progress) (b : OpenBlock) → Stands ls out p → p.block ≡ Some b → (cs : List Command) × StopsAt ls cs b.begun × IsOutput cs out
 Stands-open ls out p b s e =
     (s.commands, ends_within p.block b ls s.before s.unended s.commands e s.all s.reads s.is_open, (s.world, s.prints))
 
@@ -184,6 +184,6 @@ ends_outside None ls before unended cs e all reads is_open = rw (all, is_open, a
 ends_outside (Some b) ls before unended cs e all reads is_open = absurd cc
 
 -- the lines end after a command
-pub Stands-closed : (ls : List Line) (out : List ℕ) (p : Place) → Stands ls out p → p.block ≡ None → (cs : List Command) × Reads ls cs × IsOutput cs out
+pub Stands-closed : (ls : List Line) (out : List ℕ) (p : Progress) → Stands ls out p → p.block ≡ None → (cs : List Command) × Reads ls cs × IsOutput cs out
 Stands-closed ls out p s e =
     (s.commands, ends_outside p.block ls s.before s.unended s.commands e s.all s.reads s.is_open, (s.world, s.prints))

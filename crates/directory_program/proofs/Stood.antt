@@ -12,12 +12,12 @@ use Rattle.slp_script.proofs.OneByOne.{lines_of-last, lines_of-ended, lines_of-a
 use Rattle.directory_program.specs.Running.{Run, RunsUpTo, RunsPart}
 use Rattle.directory_program.specs.Standing.{TurnsTo}
 use Rattle.directory_program.specs.Feeding.{Stood}
-use Rattle.directory_program.specs.declared.place.OpenBlock.{OpenBlock}
-use Rattle.directory_program.specs.declared.place.Place.{Place}
+use Rattle.directory_program.specs.declared.progress.OpenBlock.{OpenBlock}
+use Rattle.directory_program.specs.declared.progress.Progress.{Progress}
 use Rattle.directory_program.proofs.Standing.{IsAtFault, Stands-turn, Stands-fault, Stands-open, Stands-closed}
 
 -- more of the line that is begun
-pub Stood-more : (read out line : List ℕ) (p : Place) (xs : List ℕ) → Stood read out line p → HasNoLf xs → length (line ++ xs) ≤ longest_line → Stood (read ++ xs) out (line ++ xs) p
+pub Stood-more : (read out line : List ℕ) (p : Progress) (xs : List ℕ) → Stood read out line p → HasNoLf xs → length (line ++ xs) ≤ longest_line → Stood (read ++ xs) out (line ++ xs) p
 Stood-more read out line p xs s free short = record {
   lines = s.lines;
   text = rw (s.text, append_assoc) refl;
@@ -28,7 +28,7 @@ Stood-more read out line p xs s free short = record {
 }
 
 -- the line's end
-pub Stood-turn : (read out line : List ℕ) (p : Place) (now : List ℕ) (q : Place) → Stood read out line p → TurnsTo p line now q → Stood (read ++ 10 ∷ []) (out ++ now) [] q
+pub Stood-turn : (read out line : List ℕ) (p : Progress) (now : List ℕ) (q : Progress) → Stood read out line p → TurnsTo p line now q → Stood (read ++ 10 ∷ []) (out ++ now) [] q
 Stood-turn read out line p now q s t = record {
   lines = s.lines ++ line ∷ [];
   text = rw (s.text, flat_map-append ended s.lines (line ∷ []), append_assoc, append-nil, append-nil) refl;
@@ -38,11 +38,11 @@ Stood-turn read out line p now q s t = record {
   stands = Stands-turn s.lines out p line now q s.stands t;
 }
 
-lines_of-read : (read out line : List ℕ) (p : Place) (more : List ℕ) (s : Stood read out line p) → lines_of (read ++ more) ≡ s.lines ++ lines_of (line ++ more)
+lines_of-read : (read out line : List ℕ) (p : Progress) (more : List ℕ) (s : Stood read out line p) → lines_of (read ++ more) ≡ s.lines ++ lines_of (line ++ more)
 lines_of-read read out line p more s = rw (s.text, append_assoc) (lines_of-append s.lines (line ++ more) s.each)
 
 -- the commands so far, whatever else is read
-pub Stood-part : (read out line : List ℕ) (p : Place) (more : List ℕ) → Stood read out line p → RunsPart (read ++ more) out
+pub Stood-part : (read out line : List ℕ) (p : Progress) (more : List ℕ) → Stood read out line p → RunsPart (read ++ more) out
 Stood-part read out line p more s = (
   s.stands.commands,
   s.stands.before,
@@ -53,7 +53,7 @@ Stood-part read out line p more s = (
 )
 
 -- the line that ends here is at fault
-pub Stood-fault : (read out line : List ℕ) (p : Place) (more : List ℕ) → Stood read out line p → IsAtFault p.block line → RunsUpTo (read ++ 10 ∷ more) (p.number + 1) out
+pub Stood-fault : (read out line : List ℕ) (p : Progress) (more : List ℕ) → Stood read out line p → IsAtFault p.block line → RunsUpTo (read ++ 10 ∷ more) (p.number + 1) out
 Stood-fault read out line p more s f =
     let r = Stands-fault s.lines out p line (lines_of more) s.stands f in
     let e : lines_of (read ++ 10 ∷ more) ≡ s.lines ++ line ∷ lines_of more = lines_of-read read out line p (10 ∷ more) s ∙ ap (λ v. s.lines ++ v) (lines_of-ended line more s.unended) in
@@ -88,7 +88,7 @@ lines_of-within [] more h some = absurd (omega arith)
 lines_of-within (x ∷ l) more h some = lines_of-begun x l more h
 
 -- the line that is begun is too long, whatever else is read
-pub Stood-long : (read out line : List ℕ) (p : Place) (xs more : List ℕ) → Stood read out line p → HasNoLf xs → longest_line < length (line ++ xs) → RunsUpTo ((read ++ xs) ++ more) (p.number + 1) out
+pub Stood-long : (read out line : List ℕ) (p : Progress) (xs more : List ℕ) → Stood read out line p → HasNoLf xs → longest_line < length (line ++ xs) → RunsUpTo ((read ++ xs) ++ more) (p.number + 1) out
 Stood-long read out line p xs more s free long =
     let first = lines_of-within (line ++ xs) more (All-append (λ x. x ≢ 10) line xs s.unended free) (omega arith) in
     let whole = line ++ xs ++ first.0 in
@@ -97,38 +97,38 @@ Stood-long read out line p xs more s free long =
     let e : lines_of ((read ++ xs) ++ more) ≡ s.lines ++ whole ∷ first.1 = rw append_assoc (lines_of-read read out line p (xs ++ more) s ∙ ap (λ v. s.lines ++ v) (ap lines_of (sym (append_assoc line xs more)) ∙ first.2)) in
     (r.0, rw e r.1, r.2)
 
-ends-empty : (read out : List ℕ) (p : Place) (s : Stood read out [] p) → lines_of read ≡ s.lines
+ends-empty : (read out : List ℕ) (p : Progress) (s : Stood read out [] p) → lines_of read ≡ s.lines
 ends-empty read out p s = ap lines_of (sym (append-nil read)) ∙ (lines_of-read read out [] p [] s ∙ append-nil s.lines)
 
-ends-last : (read out line : List ℕ) (p : Place) (s : Stood read out line p) → 0 < length line → lines_of read ≡ s.lines ++ line ∷ []
+ends-last : (read out line : List ℕ) (p : Progress) (s : Stood read out line p) → 0 < length line → lines_of read ≡ s.lines ++ line ∷ []
 ends-last read out [] p s some = absurd (omega arith)
 ends-last read out (x ∷ l) p s some =
     ap lines_of (sym (append-nil read)) ∙ (lines_of-read read out (x ∷ l) p [] s ∙ ap (λ v. s.lines ++ v) (ap lines_of (append-nil (x ∷ l)) ∙ lines_of-last (x ∷ l) s.unended))
 
 -- all is read, and the run stands outside a block
-pub Stood-closed : (read out : List ℕ) (p : Place) → Stood read out [] p → p.block ≡ None → Run read out
+pub Stood-closed : (read out : List ℕ) (p : Progress) → Stood read out [] p → p.block ≡ None → Run read out
 Stood-closed read out p s e =
     let r = Stands-closed s.lines out p s.stands e in
     (r.0, rw (ends-empty read out p s) r.1, r.2)
 
 -- all is read, and the run stands within a block
-pub Stood-open : (read out : List ℕ) (p : Place) (b : OpenBlock) → Stood read out [] p → p.block ≡ Some b → RunsUpTo read b.begun out
+pub Stood-open : (read out : List ℕ) (p : Progress) (b : OpenBlock) → Stood read out [] p → p.block ≡ Some b → RunsUpTo read b.begun out
 Stood-open read out p b s e =
     let r = Stands-open s.lines out p b s.stands e in
     (r.0, rw (ends-empty read out p s) r.1, r.2)
 
 -- all is read, and the last line was taken without its LF
-pub Stood-closed_last : (read out line : List ℕ) (p : Place) (now : List ℕ) (q : Place) → Stood read out line p → 0 < length line → TurnsTo p line now q → q.block ≡ None → Run read (out ++ now)
+pub Stood-closed_last : (read out line : List ℕ) (p : Progress) (now : List ℕ) (q : Progress) → Stood read out line p → 0 < length line → TurnsTo p line now q → q.block ≡ None → Run read (out ++ now)
 Stood-closed_last read out line p now q s some t e =
     let r = Stands-closed (s.lines ++ line ∷ []) (out ++ now) q (Stands-turn s.lines out p line now q s.stands t) e in
     (r.0, rw (ends-last read out line p s some) r.1, r.2)
 
-pub Stood-open_last : (read out line : List ℕ) (p : Place) (now : List ℕ) (q : Place) (b : OpenBlock) → Stood read out line p → 0 < length line → TurnsTo p line now q → q.block ≡ Some b → RunsUpTo read b.begun (out ++ now)
+pub Stood-open_last : (read out line : List ℕ) (p : Progress) (now : List ℕ) (q : Progress) (b : OpenBlock) → Stood read out line p → 0 < length line → TurnsTo p line now q → q.block ≡ Some b → RunsUpTo read b.begun (out ++ now)
 Stood-open_last read out line p now q b s some t e =
     let r = Stands-open (s.lines ++ line ∷ []) (out ++ now) q b (Stands-turn s.lines out p line now q s.stands t) e in
     (r.0, rw (ends-last read out line p s some) r.1, r.2)
 
-pub Stood-fault_last : (read out line : List ℕ) (p : Place) → Stood read out line p → 0 < length line → IsAtFault p.block line → RunsUpTo read (p.number + 1) out
+pub Stood-fault_last : (read out line : List ℕ) (p : Progress) → Stood read out line p → 0 < length line → IsAtFault p.block line → RunsUpTo read (p.number + 1) out
 Stood-fault_last read out line p s some f =
     let r = Stands-fault s.lines out p line [] s.stands f in
     (r.0, rw (ends-last read out line p s some) r.1, r.2)

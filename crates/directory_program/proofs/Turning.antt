@@ -9,8 +9,8 @@ use Rattle.slp_script.specs.declared.command.Block.TheVariants.{Config as Config
 use Rattle.directory_program.specs.Holding.{Holds, IsAgent, Takes, TakesPiece, Acts, Meets, ConfiguresTo, config_told}
 use Rattle.directory_program.specs.Running.{World, Answers, Configures, lacking, shown, new_stream, longest_reply, begun, swept, renewed}
 use Rattle.directory_program.specs.Standing.{Closes, Turns, TurnsTo, TurnsOutside, TurnsInside}
-use Rattle.directory_program.specs.declared.place.OpenBlock.{OpenBlock}
-use Rattle.directory_program.specs.declared.place.Place.{Place}
+use Rattle.directory_program.specs.declared.progress.OpenBlock.{OpenBlock}
+use Rattle.directory_program.specs.declared.progress.Progress.{Progress}
 use Rattle.directory_program.specs.declared.agent.Agent.{Agent}
 use Rattle.directory_program.specs.declared.session.Session.{Session}
 use Rattle.slp_stream.specs.Framing.{Frames}
@@ -87,11 +87,11 @@ Meets-refused limit a bytes b same = λ w h.
 
 -- ---- a line
 
-pub TurnsTo-outside : (p : Place) (l now : List ℕ) (q : Place) → p.block ≡ None → q.number ≡ p.number + 1 → TurnsOutside p.session l (p.number + 1) now q.session q.block → TurnsTo p l now q
+pub TurnsTo-outside : (p : Progress) (l now : List ℕ) (q : Progress) → p.block ≡ None → q.number ≡ p.number + 1 → TurnsOutside p.session l (p.number + 1) now q.session q.block → TurnsTo p l now q
 TurnsTo-outside p l now q off number turns =
     record { number = number; turns = subst (λ (b : Option OpenBlock). Turns b p l now q) (sym off) turns }
 
-pub TurnsTo-inside : (p : Place) (l now : List ℕ) (q : Place) (b : OpenBlock) → p.block ≡ Some b → q.number ≡ p.number + 1 → TurnsInside p.session l b now q.session q.block → TurnsTo p l now q
+pub TurnsTo-inside : (p : Progress) (l now : List ℕ) (q : Progress) (b : OpenBlock) → p.block ≡ Some b → q.number ≡ p.number + 1 → TurnsInside p.session l b now q.session q.block → TurnsTo p l now q
 TurnsTo-inside p l now q b within number turns =
     record { number = number; turns = subst (λ (o : Option OpenBlock). Turns o p l now q) (sym within) turns }
 

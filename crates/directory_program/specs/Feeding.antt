@@ -6,12 +6,12 @@ use Rattle.slp_script.specs.Commands.{longest_line}
 use Rattle.slp_script.specs.Lines.{Line, ended, HasNoLf}
 use Rattle.directory_program.specs.Running.{Run, RunsUpTo, RunsPart}
 use Rattle.directory_program.specs.Standing.{Stands}
-use Rattle.directory_program.specs.declared.place.Place.{Place}
+use Rattle.directory_program.specs.declared.progress.Progress.{Progress}
 use Rattle.directory_program.specs.declared.fault.RunFault.{RunFault}
 use Rattle.directory_program.specs.declared.fault.RunFault.TheVariants.{Read, Write, Line as AtLine, NoMemory}
 
 -- the bytes that were read brought the run here, with a line begun, and this was written
-pub record Stood (read out line : List ℕ) (p : Place) : Type 0 where
+pub record Stood (read out line : List ℕ) (p : Progress) : Type 0 where
   pub lines : List Line
   pub text : read ≡ flat_map ended lines ++ line
   pub each : AllByRecursion HasNoLf lines
@@ -27,10 +27,10 @@ Failed old new read out Write = ⊤
 Failed old new read out Read = ⊥
 
 -- what was written after `out`, and where the run stands, when these bytes had been read
-abbrev pub Went : Option (List ℕ) → Option (List ℕ) → List ℕ → List ℕ → List ℕ → Place → Type 0
+abbrev pub Went : Option (List ℕ) → Option (List ℕ) → List ℕ → List ℕ → List ℕ → Progress → Type 0
 Went old new read out line p = (now : List ℕ) × Appends old new now × Stood read (out ++ now) line p
 
-abbrev pub Fed : Option (List ℕ) → Option (List ℕ) → List ℕ → List ℕ → Result (Unit {0}) RunFault → List ℕ → Place → Type 0
+abbrev pub Fed : Option (List ℕ) → Option (List ℕ) → List ℕ → List ℕ → Result (Unit {0}) RunFault → List ℕ → Progress → Type 0
 Fed old new read out r line p = MatchResult r (λ _. Went old new read out line p) (Failed old new read out)
 
 -- what the end of all that was read gives

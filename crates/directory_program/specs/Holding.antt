@@ -25,7 +25,7 @@ pub record IsAgent (w : World) (a : Agent) : Type 0 where
   pub legal : IsLegal (opening_of w) w.history
   pub fold : Fold (opening_of w) w.history a.directory
   pub listen : a.listen ≡ w.listen
-  pub loop : a.loop_place ≡ w.loop
+  pub loop : a.loop_index ≡ w.loop
   pub moment : a.moment ≡ w.moment
   pub asker : a.asker ≡ w.asker
 

@@ -22,7 +22,7 @@ use Rattle.slp_script.specs.declared.command.Block.{Block}
 use Rattle.slp_script.specs.declared.command.Block.TheVariants.{Config as Configuration}
 use Rattle.slp_script.specs.declared.command.Order.TheVariants as order
 use Rattle.slp_script.specs.Lines.{Line, lines_of, ended, HasNoLf}
-use Rattle.directory_program.specs.Sites.{opening_place}
+use Rattle.directory_program.specs.Sites.{first_site}
 use Rattle.site_config.specs.Configuring.{config_of}
 use Rattle.site_config.specs.declared.config.Config.{Config}
 use Rattle.site_config.specs.declared.fault.ConfigFault.{ConfigFault}
@@ -46,7 +46,7 @@ new_stream = record { limit = longest_on_stream; waiting = []; refused = None }
 -- The site and what happened to it, the addresses and ports that are listened on, the loop at one of them (counted from 0) to which messages come, the
 -- moment that was set, from where messages come, what came of the stream and is not a whole message, and whether it is too late for another site.
 pub record World : Type 0 where
-  pub place : Place
+  pub site : Place
   pub history : History
   pub listen : List (ℕ × ℕ)
   pub loop : ℕ
@@ -61,7 +61,7 @@ opening_listen = (2130706433, 427) ∷ (2130706434, 427) ∷ []
 
 -- nothing happened to the opening site, it is moment 0, messages come from 10.0.0.1 to the first loop, and a stream is open
 abbrev pub beginning : World
-beginning = record { place = opening_place; history = []; listen = opening_listen; loop = 0; moment = 0; asker = 167772161; stream = new_stream; late = false }
+beginning = record { site = first_site; history = []; listen = opening_listen; loop = 0; moment = 0; asker = 167772161; stream = new_stream; late = false }
 
 -- the address at which messages arrive
 abbrev pub own_at : List (ℕ × ℕ) → ℕ → ℕ
@@ -69,7 +69,7 @@ own_at listen loop = option_map_or (λ p. p.0) (slice_get listen loop) 0
 
 -- the rules and the site with which it began
 abbrev pub opening_of : World → Opening
-opening_of w = record { rules = opening_rules; site = w.place }
+opening_of w = record { rules = opening_rules; site = w.site }
 
 -- a message that is answered in at most so many bytes
 abbrev pub call_of : ℕ → World → List ℕ → Call
@@ -146,12 +146,12 @@ abbrev pub text_of : List Line → List ℕ
 text_of body = flat_map ended body
 
 -- the site of a configuration
-abbrev pub place_of : Config → Place
-place_of c = record { scopes = c.scopes; capacity = c.capacity; boot = 1 }
+abbrev pub site_in : Config → Place
+site_in c = record { scopes = c.scopes; capacity = c.capacity; boot = 1 }
 
 -- a new site, at its first loop
 abbrev pub renewed : Config → World → World
-renewed c w = record w { place = place_of c; history = []; listen = c.listen; loop = 0 }
+renewed c w = record w { site = site_in c; history = []; listen = c.listen; loop = 0 }
 
 -- what a configuration may write, and what it leaves: a new site, unless it is refused or too late
 abbrev pub Configures : Bool → World → Result Config ConfigFault → List ℕ → World → Type 0

@@ -4,5 +4,5 @@ use Rattle.slp_text.specs.Key.{key_of}
 use Rattle.directory_judge.specs.Sites.{Place}
 
 -- the scope `DEFAULT`, and room for 16 entries
-abbrev pub opening_place : Place
-opening_place = record { scopes = key_of (codes "DEFAULT") ∷ []; capacity = 16; boot = 1 }
+abbrev pub first_site : Place
+first_site = record { scopes = key_of (codes "DEFAULT") ∷ []; capacity = 16; boot = 1 }

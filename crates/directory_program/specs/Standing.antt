@@ -11,8 +11,8 @@ use Rattle.slp_script.specs.declared.command.Order.{Order}
 use Rattle.directory_program.specs.Holding.{Holds, Acts}
 use Rattle.slp_script.specs.Lines.{Line, ended}
 use Rattle.directory_program.specs.Running.{World, Prints, Configures, beginning, text_of}
-use Rattle.directory_program.specs.declared.place.OpenBlock.{OpenBlock}
-use Rattle.directory_program.specs.declared.place.Place.{Place}
+use Rattle.directory_program.specs.declared.progress.OpenBlock.{OpenBlock}
+use Rattle.directory_program.specs.declared.progress.Progress.{Progress}
 use Rattle.directory_program.specs.declared.session.Session.{Session}
 use Rattle.directory_program.specs.declared.fault.RunFault.{RunFault}
 use Rattle.directory_program.specs.declared.fault.RunFault.TheVariants.{Read, Write, Line as AtLine, NoMemory}
@@ -27,7 +27,7 @@ IsOpen ls k None = ls ≡ []
 IsOpen ls k (Some b) = (body : List Line) × (ls ≡ opened b.block body) × IsBody body × (b.begun ≡ k + 1) × (option_map string_bytes b.text ≡ kept_text body)
 
 -- the lines brought the run here, and this was written
-pub record Stands (ls : List Line) (out : List ℕ) (p : Place) : Type 0 where
+pub record Stands (ls : List Line) (out : List ℕ) (p : Progress) : Type 0 where
   pub before : List Line
   pub unended : List Line
   pub commands : List Command
@@ -75,12 +75,12 @@ TurnsInside s l b now t left =
     ⊎ (IsBodyLine l × (now ≡ []) × (t ≡ s) × Lengthens b l left)
 
 -- what a line may write and leave, by the block that is open
-abbrev pub Turns : Option OpenBlock → Place → Line → List ℕ → Place → Type 0
+abbrev pub Turns : Option OpenBlock → Progress → Line → List ℕ → Progress → Type 0
 Turns None p l now q = TurnsOutside p.session l (p.number + 1) now q.session q.block
 Turns (Some b) p l now q = TurnsInside p.session l b now q.session q.block
 
 -- one line more
-pub record TurnsTo (p : Place) (l : Line) (now : List ℕ) (q : Place) : Type 0 where
+pub record TurnsTo (p : Progress) (l : Line) (now : List ℕ) (q : Progress) : Type 0 where
   pub number : q.number ≡ p.number + 1
   pub turns : Turns p.block p l now q
 
@@ -99,9 +99,9 @@ InsideFails l number old new Write = ⊤
 InsideFails l number old new Read = ⊥
 
 -- the same, by the block that is open
-abbrev pub TurnFailsBy : Option OpenBlock → Place → Line → Option (List ℕ) → Option (List ℕ) → RunFault → Type 0
+abbrev pub TurnFailsBy : Option OpenBlock → Progress → Line → Option (List ℕ) → Option (List ℕ) → RunFault → Type 0
 TurnFailsBy None p l old new e = OutsideFails l (p.number + 1) old new e
 TurnFailsBy (Some b) p l old new e = InsideFails l (p.number + 1) old new e
 
-abbrev pub TurnFails : Place → Line → Option (List ℕ) → Option (List ℕ) → RunFault → Type 0
+abbrev pub TurnFails : Progress → Line → Option (List ℕ) → Option (List ℕ) → RunFault → Type 0
 TurnFails p l old new e = TurnFailsBy p.block p l old new e

@@ -3,10 +3,10 @@ ghost use Rattle.std.specs.Option.{option_map_or, option_copied};
 ghost use Rattle.access_rules.specs.Opening.{opening_rules};
 ghost use Rattle.directory_state.specs.Folding.{Fold};
 ghost use Rattle.directory_state.specs.State.{beginning};
-ghost use Rattle.directory_program.specs.Running.{opening_listen, place_of};
+ghost use Rattle.directory_program.specs.Running.{opening_listen, site_in};
 ghost use Rattle.site_config.specs.Configuring.{config_of, IsWithin};
 ghost use Rattle.site_config.specs.declared.fault.ConfigFault.TheVariants.{Range};
-ghost use Rattle.directory_program.specs.Sites.{opening_place};
+ghost use Rattle.directory_program.specs.Sites.{first_site};
 
 use access_rules::{Addr, Rules};
 use directory_judge::{Change, Site};
@@ -42,14 +42,14 @@ const SECOND_LOOP: Addr = Addr(0x7f00_0002);
 pub struct Agent {
     pub directory: Directory<ListRegistry>,
     pub listen: Row<(Addr, u16)>,
-    pub loop_place: usize,
+    pub loop_index: usize,
     pub moment: u32,
     pub asker: Addr,
 }
 
 // The site of one scope, `DEFAULT`.
 fn opening_site(alloc: Global) -> Result<Site, NoMemory>
-    ensures { IfOk result (λ s. s ≡ opening_place) }
+    ensures { IfOk result (λ s. s ≡ first_site) }
 {
     match ScopeList::parse(alloc, "DEFAULT") {
         Ok(scopes) => Ok(Site::new(scopes, CAPACITY, BOOT)),
@@ -69,7 +69,7 @@ fn opening_addresses(alloc: Global) -> Result<Row<(Addr, u16)>, NoMemory>
 // The site that a configuration describes, and the addresses of its loops.
 fn site_of(config: Config) -> (Site, Row<(Addr, u16)>)
     requires { IsWithin config }
-    ensures site { result.0 ≡ place_of config }
+    ensures site { result.0 ≡ site_in config }
     ensures listen { result.1 ≡ config.listen }
 {
     let Config {
@@ -108,7 +108,7 @@ impl Agent {
         Ok(Agent {
             directory: begin(alloc, &site)?,
             listen: opening_addresses(alloc)?,
-            loop_place: 0,
+            loop_index: 0,
             moment: 0,
             asker: FIRST_ASKER,
         })
@@ -132,7 +132,7 @@ impl Agent {
                 let (site, listen) = site_of(config);
                 self.directory = begin(alloc, &site)?;
                 self.listen = listen;
-                self.loop_place = 0;
+                self.loop_index = 0;
                 Ok(Ok(()))
             }
             Err(ConfigFault::NoMemory) => Err(NoMemory),
@@ -142,9 +142,9 @@ impl Agent {
 
     /// The address at which messages arrive.
     fn own(&self) -> Addr
-        ensures { result ≡ own_at self.now.listen self.now.loop_place }
+        ensures { result ≡ own_at self.now.listen self.now.loop_index }
     {
-        match self.listen.as_slice().get(self.loop_place) {
+        match self.listen.as_slice().get(self.loop_index) {
             Some((address, _)) => *address,
             None => Addr(0),
         }

@@ -4,7 +4,7 @@ ghost use Rattle.directory_program.specs.Feeding.{Stood, Fed, Ends};
 ghost use Rattle.directory_program.specs.declared.fault.RunFault.TheVariants.{Line as AtLine, NoMemory as Lacking};
 
 use crate::fault::RunFault;
-use crate::place::Place;
+use crate::progress::Progress;
 use slp_answer::Answer;
 use slp_script::LONGEST_LINE;
 use slp_text::cut;
@@ -28,7 +28,7 @@ fn lengthen(line: &mut Vec<u8>, more: &[u8], number: u64) -> Result<(), RunFault
 
 /// Takes the next bytes of a script: each line that they end is carried out, and the rest kept.
 pub fn feed<W: Write>(
-    place: &mut Place,
+    progress: &mut Progress,
     line: &mut Vec<u8>,
     alloc: Global,
     piece: &[u8],
@@ -36,28 +36,28 @@ pub fn feed<W: Write>(
     writer: &mut W,
 ) -> Result<(), RunFault>
     requires short { vec_len line.old ≤ longest_line }
-    requires room { place.old.number + length piece.now + 1 < 2 ^ 64 }
-    ensures fed { (read out : List ℕ) → Stood read out line.old.items place.old
-        → Fed (W.contents writer.old) (W.contents writer.new) (read ++ piece.now) out result line.new.items place.new }
-    ensures number { OnOk result (place.new.number ≤ place.old.number + length piece.now) }
+    requires room { progress.old.number + length piece.now + 1 < 2 ^ 64 }
+    ensures fed { (read out : List ℕ) → Stood read out line.old.items progress.old
+        → Fed (W.contents writer.old) (W.contents writer.new) (read ++ piece.now) out result line.new.items progress.new }
+    ensures number { OnOk result (progress.new.number ≤ progress.old.number + length piece.now) }
     ensures short { OnOk result (vec_len line.new ≤ longest_line) }
 {
     let mut rest = piece;
     while let Some((front, back)) = cut(rest, b'\n') {
-        lengthen(line, front, place.number)?;
-        place.turn(alloc, line.as_slice(), answer, writer)?;
+        lengthen(line, front, progress.number)?;
+        progress.turn(alloc, line.as_slice(), answer, writer)?;
         line.clear();
         rest = back;
     }
-    lengthen(line, rest, place.number)?;
+    lengthen(line, rest, progress.number)?;
     Ok(())
 }
 
 // A script may not end within a block.
-fn ending(place: &Place) -> Result<(), RunFault>
-    ensures { MatchOption place.now.block (result ≡ Ok tt) (λ block. result ≡ Err (AtLine block.begun)) }
+fn ending(progress: &Progress) -> Result<(), RunFault>
+    ensures { MatchOption progress.now.block (result ≡ Ok tt) (λ block. result ≡ Err (AtLine block.begun)) }
 {
-    match &place.block {
+    match &progress.block {
         Some(block) => Err(RunFault::Line(block.begun)),
         None => Ok(()),
     }
@@ -66,19 +66,19 @@ fn ending(place: &Place) -> Result<(), RunFault>
 /// Takes the end of a script, which ends its last line too. Within a block it is a fault of the line
 /// that began it.
 pub fn finish<W: Write>(
-    place: &mut Place,
+    progress: &mut Progress,
     line: &[u8],
     alloc: Global,
     answer: &mut Answer,
     writer: &mut W,
 ) -> Result<(), RunFault>
     requires short { length line.now ≤ longest_line }
-    requires room { place.old.number + 1 < 2 ^ 64 }
-    ensures { (read out : List ℕ) → Stood read out line.now place.old → Ends (W.contents writer.old) (W.contents writer.new) read out result }
+    requires room { progress.old.number + 1 < 2 ^ 64 }
+    ensures { (read out : List ℕ) → Stood read out line.now progress.old → Ends (W.contents writer.old) (W.contents writer.new) read out result }
 {
     if line.is_empty() {
-        return ending(place);
+        return ending(progress);
     }
-    place.turn(alloc, line, answer, writer)?;
-    ending(place)
+    progress.turn(alloc, line, answer, writer)?;
+    ending(progress)
 }

@@ -4,7 +4,7 @@ ghost use Rattle.directory_program.specs.Gives.{Gives};
 
 use crate::fault::RunFault;
 use crate::feeding::{feed, finish};
-use crate::place::Place;
+use crate::progress::Progress;
 use crate::session::Session;
 use slp_answer::Answer;
 use std::alloc::Global;
@@ -25,14 +25,14 @@ pub struct Replay {
 fn run_through<R: Read, W: Write>(
     alloc: Global,
     chunk: &mut [u8],
-    place: &mut Place,
+    progress: &mut Progress,
     answer: &mut Answer,
     reader: &mut R,
     writer: &mut W,
 ) -> Result<(), RunFault>
     requires some { 0 < length chunk.old }
     requires small { length chunk.old ≤ 65536 }
-    requires begun { Stood [] [] [] place.old }
+    requires begun { Stood [] [] [] progress.old }
     ensures { Gives (R.remaining reader.old) (R.remaining reader.new) (W.contents writer.old) (W.contents writer.new) result }
 {
     let mut line = Vec::new(alloc);
@@ -41,8 +41,8 @@ fn run_through<R: Read, W: Write>(
             return Err(RunFault::Write);
         }
         match reader.read(chunk) {
-            Ok(0) => return finish(place, line.as_slice(), alloc, answer, writer),
-            Ok(n) => feed(place, &mut line, alloc, &chunk[..n], answer, writer)?,
+            Ok(0) => return finish(progress, line.as_slice(), alloc, answer, writer),
+            Ok(n) => feed(progress, &mut line, alloc, &chunk[..n], answer, writer)?,
             Err(e) => {
                 if e.kind() != ErrorKind::Interrupted {
                     return Err(RunFault::Read);
@@ -77,7 +77,7 @@ impl Replay {
         ensures known { KnownGives (R.remaining reader.old) (W.contents writer.old) (W.contents writer.new) result }
     {
         let mut chunk = vec![in alloc; 0u8; CHUNK]?;
-        let mut place = Place {
+        let mut progress = Progress {
             number: 0,
             block: None,
             session: Session::open(alloc)?,
@@ -85,7 +85,7 @@ impl Replay {
         run_through(
             alloc,
             chunk.as_mut_slice(),
-            &mut place,
+            &mut progress,
             &mut self.answer,
             reader,
             writer,

@@ -6,14 +6,14 @@ use Rattle.slp_script.specs.Lines.{HasNoLf}
 use Rattle.slp_script.specs.Commands.{longest_line}
 use Rattle.directory_program.specs.declared.fault.RunFault.{RunFault}
 use Rattle.directory_program.specs.declared.fault.RunFault.TheVariants.{Line as AtLine, NoMemory}
-use Rattle.directory_program.specs.declared.place.Place.{Place}
+use Rattle.directory_program.specs.declared.progress.Progress.{Progress}
 use Rattle.directory_program.specs.Feeding.{Went, Failed}
 use Rattle.directory_program.proofs.Known.{Appends-none}
 use Rattle.directory_program.proofs.Pieces.{Went-long, Went-memory, Went-turn_fails, Went-turned, Went-rest}
 use Rattle.directory_program.proofs.Standing.{fails_as}
 use Rattle.directory_program.proofs.feeding.feed.Goals as goal
 
-lengthen_fails : (w v : Option (List ℕ)) (read out line : List ℕ) (p : Place) (done xs tail piece : List ℕ) (e : RunFault) → Went w v (read ++ done) out line p → piece ≡ done ++ (xs ++ tail) → HasNoLf xs → (e ≡ NoMemory) ⊎ ((e ≡ AtLine (p.number + 1)) × (longest_line < length (line ++ xs))) → Failed w v (read ++ piece) out e
+lengthen_fails : (w v : Option (List ℕ)) (read out line : List ℕ) (p : Progress) (done xs tail piece : List ℕ) (e : RunFault) → Went w v (read ++ done) out line p → piece ≡ done ++ (xs ++ tail) → HasNoLf xs → (e ≡ NoMemory) ⊎ ((e ≡ AtLine (p.number + 1)) × (longest_line < length (line ++ xs))) → Failed w v (read ++ piece) out e
 lengthen_fails w v read out line p done xs tail piece e t is free (inl h) =
     subst (λ (f : RunFault). Failed w v (read ++ piece) out f) (sym h) (Went-memory w v read out line p done (xs ++ tail) piece t is)
 lengthen_fails w v read out line p done xs tail piece e t is free (inr h) =
@@ -40,7 +40,7 @@ returns-in_err-turn-clause-fed g c = λ read out s.
     let t = c.loop-front.invariant.stood read out s in
     let p = err_from_is_err_and c.from_residual-in_err-turn.result c.from_residual-in_err-turn.ensures.1 in
     let whole : c.as_slice.result.now ≡ c.loop-front.line.items ++ c.in-Some.front.now = c.as_slice.ensures.value ∙ c.in_ok-lengthen.ensures.items in
-    rw (p.1, p.2) (Went-turn_fails _ _ _ read out _ c.loop-front.place t.0 c.in-Some.front.now c.in-Some.back.now c.args.piece.now _ t.2 (rw (← c.in-Some.ensures.0) t.1) c.in-Some.ensures.1 c.in_ok-lengthen.ensures.short (fails_as _ c.loop-front.place _ _ _ _ (rw (← whole) c.in_err-turn.ensures)))
+    rw (p.1, p.2) (Went-turn_fails _ _ _ read out _ c.loop-front.progress t.0 c.in-Some.front.now c.in-Some.back.now c.args.piece.now _ t.2 (rw (← c.in-Some.ensures.0) t.1) c.in-Some.ensures.1 c.in_ok-lengthen.ensures.short (fails_as _ c.loop-front.progress _ _ _ _ (rw (← whole) c.in_err-turn.ensures)))
 
 pub loop-front-preserved : goal.loop-front-preserved
 loop-front-preserved g c =
@@ -53,7 +53,7 @@ loop-front-preserved g c =
           let t = c.loop-front.invariant.stood read out s in (
             t.0 ++ (c.in-Some.front.now ++ 10 ∷ []),
             t.1 ∙ rw (c.in-Some.ensures.0) (join_rest t.0 c.in-Some.front.now c.in-Some.back.now),
-            rw c.clear.ensures.items (Went-turned _ _ _ read out _ c.loop-front.place t.0 c.in-Some.front.now turned.0 c.turn.new.self t.2 c.in-Some.ensures.1 c.in_ok-lengthen.ensures.short turned.1 (rw (← whole) turned.2)),
+            rw c.clear.ensures.items (Went-turned _ _ _ read out _ c.loop-front.progress t.0 c.in-Some.front.now turned.0 c.turn.new.self t.2 c.in-Some.ensures.1 c.in_ok-lengthen.ensures.short turned.1 (rw (← whole) turned.2)),
           );
     }
 
@@ -66,4 +66,4 @@ returns-in_err-lengthen-2-clause-fed g c = λ read out s.
 pub returns-clause-fed : goal.returns-clause-fed
 returns-clause-fed g c = λ read out s.
     let t = c.loop-front.invariant.stood read out s in
-    rw c.in_ok-lengthen-2.ensures.items (Went-rest _ _ read out _ c.loop-front.place t.0 c.loop-front.rest.now c.args.piece.now t.2 t.1 c.in_default.ensures c.in_ok-lengthen-2.ensures.short)
+    rw c.in_ok-lengthen-2.ensures.items (Went-rest _ _ read out _ c.loop-front.progress t.0 c.loop-front.rest.now c.args.piece.now t.2 t.1 c.in_default.ensures c.in_ok-lengthen-2.ensures.short)

@@ -6,9 +6,9 @@ use Rattle.directory_program.proofs.feeding.feed.Given as goal
 abbrev pub invariant-loop-front : goal.invariant-loop-front
 invariant-loop-front g l = record {
   kept : vec_len l.line ≤ longest_line;
-  counted : l.place.number + length l.rest ≤ l.fn.place.number + length l.piece;
-  stood : (read out : List ℕ) → Stood read out l.fn.line.items l.fn.place
-      → (done : List ℕ) × (l.piece ≡ done ++ l.rest) × Went (g.W.Write.contents l.initial.writer) (g.W.Write.contents l.writer) (read ++ done) out l.line.items l.place;
+  counted : l.progress.number + length l.rest ≤ l.fn.progress.number + length l.piece;
+  stood : (read out : List ℕ) → Stood read out l.fn.line.items l.fn.progress
+      → (done : List ℕ) × (l.piece ≡ done ++ l.rest) × Went (g.W.Write.contents l.initial.writer) (g.W.Write.contents l.writer) (read ++ done) out l.line.items l.progress;
 }
 
 abbrev pub decreases-loop-front : goal.decreases-loop-front

@@ -2,8 +2,8 @@ use Rattle.std.proofs.Common.{arith, ◌≡◌, ◌<◌, ◌+◌, ◌++◌, ◌�
 use Rattle.std.proofs.lemmas.Result.{err_from_is_err_and}
 use Rattle.directory_program.specs.declared.fault.RunFault.{RunFault}
 use Rattle.directory_program.specs.declared.fault.RunFault.TheVariants.{Read, Write, Line as AtLine, NoMemory}
-use Rattle.directory_program.specs.declared.place.OpenBlock.{OpenBlock}
-use Rattle.directory_program.specs.declared.place.Place.{Place}
+use Rattle.directory_program.specs.declared.progress.OpenBlock.{OpenBlock}
+use Rattle.directory_program.specs.declared.progress.Progress.{Progress}
 use Rattle.std.specs.Prelude.{MatchOption, ◌==◌}
 use Rattle.std.proofs.Common.{Bool, true, false}
 use Rattle.std.proofs.lemmas.Bool.{eqb-true}
@@ -26,7 +26,7 @@ is_none : (l : List ℕ) (b : Bool) → b ≡ (length l == 0) → b ≡ true →
 is_none [] b e t = refl
 is_none (x ∷ l) b e t = absurd (omega (arith, eqb-true (length (x ∷ l)) 0 (sym e ∙ t)))
 
-last_fails : (w v : Option (List ℕ)) (read out line : List ℕ) (p : Place) (e : RunFault) → Stood read out line p → 0 < length line → FailsAs p.block (p.number + 1) line w v e → EndFails w v read out e
+last_fails : (w v : Option (List ℕ)) (read out line : List ℕ) (p : Progress) (e : RunFault) → Stood read out line p → 0 < length line → FailsAs p.block (p.number + 1) line w v e → EndFails w v read out e
 last_fails w v read out line p Read s some f = f
 last_fails w v read out line p Write s some f = tt
 last_fails w v read out line p NoMemory s some f =
@@ -37,23 +37,23 @@ last_fails w v read out line p (AtLine n) s some f =
 pub returns-in_err-turn : goal.returns-in_err-turn
 returns-in_err-turn g c = λ read out s.
     let p = err_from_is_err_and c.from_residual.result c.from_residual.ensures.1 in
-    rw (p.1, p.2) (last_fails _ _ read out c.args.line.now c.args.place.now _ s (is_some c.args.line.now _ c.is_empty.ensures c.if-is_empty.false) (fails_as _ c.args.place.now _ _ _ _ c.in_err-turn.ensures))
+    rw (p.1, p.2) (last_fails _ _ read out c.args.line.now c.args.progress.now _ s (is_some c.args.line.now _ c.is_empty.ensures c.if-is_empty.false) (fails_as _ c.args.progress.now _ _ _ _ c.in_err-turn.ensures))
 
-end_here : (w : Option (List ℕ)) (read out : List ℕ) (p : Place) (block : Option OpenBlock) (r : Result (Unit {0}) RunFault) → p.block ≡ block → Stood read out [] p → MatchOption block (r ≡ Ok tt) (λ b. r ≡ Err (AtLine b.begun)) → Ends w w read out r
+end_here : (w : Option (List ℕ)) (read out : List ℕ) (p : Progress) (block : Option OpenBlock) (r : Result (Unit {0}) RunFault) → p.block ≡ block → Stood read out [] p → MatchOption block (r ≡ Ok tt) (λ b. r ≡ Err (AtLine b.begun)) → Ends w w read out r
 end_here w read out p None r b s e = rw e ([], Appends-none w, rw (append-nil out) (Stood-closed read out p s b))
 end_here w read out p (Some x) r b s e = rw e ([], Appends-none w, rw (append-nil out) (Stood-open read out p x s b))
 
-end_last : (w v : Option (List ℕ)) (read out line : List ℕ) (p : Place) (now : List ℕ) (q : Place) (block : Option OpenBlock) (r : Result (Unit {0}) RunFault) → q.block ≡ block → Stood read out line p → 0 < length line → Appends w v now → TurnsTo p line now q → MatchOption block (r ≡ Ok tt) (λ b. r ≡ Err (AtLine b.begun)) → Ends w v read out r
+end_last : (w v : Option (List ℕ)) (read out line : List ℕ) (p : Progress) (now : List ℕ) (q : Progress) (block : Option OpenBlock) (r : Result (Unit {0}) RunFault) → q.block ≡ block → Stood read out line p → 0 < length line → Appends w v now → TurnsTo p line now q → MatchOption block (r ≡ Ok tt) (λ b. r ≡ Err (AtLine b.begun)) → Ends w v read out r
 end_last w v read out line p now q None r b s some a t e = rw e (now, a, Stood-closed_last read out line p now q s some t b)
 end_last w v read out line p now q (Some x) r b s some a t e = rw e (now, a, Stood-open_last read out line p now q x s some t b)
 
 pub returns-then-is_empty : goal.returns-then-is_empty
 returns-then-is_empty g c = λ read out s.
     let none = is_none c.args.line.now _ c.is_empty.ensures c.if-is_empty.true in
-    let t : Stood read out [] c.args.place.now = rw none at s in
-    end_here _ read out c.args.place.now c.args.place.now.block _ refl t c.ending.ensures
+    let t : Stood read out [] c.args.progress.now = rw none at s in
+    end_here _ read out c.args.progress.now c.args.progress.now.block _ refl t c.ending.ensures
 
 pub returns : goal.returns
 returns g c = λ read out s.
     let h = c.in_ok-turn.ensures in
-    end_last _ _ read out c.args.line.now c.args.place.now h.0 c.turn.new.self c.turn.new.self.block _ refl s (is_some c.args.line.now _ c.is_empty.ensures c.if-is_empty.false) h.1 h.2 c.ending-2.ensures
+    end_last _ _ read out c.args.line.now c.args.progress.now h.0 c.turn.new.self c.turn.new.self.block _ refl s (is_some c.args.line.now _ c.is_empty.ensures c.if-is_empty.false) h.1 h.2 c.ending-2.ensures

@@ -16,7 +16,7 @@ short_piece n buf h = grind (arith, common_steps)
 pub loop-turn-init : goal.loop-turn-init
 loop-turn-init g c = record {
   kept = omega (arith, c.new-line.ensures.len);
-  counted = omega (arith, Stood-new c.args.place.now c.requires.begun);
+  counted = omega (arith, Stood-new c.args.progress.now c.requires.begun);
   stood = ([], [], Consumes-none _ _ (Keeps-same _), Appends-none _, rw c.new-line.ensures.items c.requires.begun);
 }
 
@@ -26,7 +26,7 @@ returns-in-Ok-eq0 g c =
     let b = c.in-Ok-eq0.ensures.bytes in
     let zero = c.in-Ok-eq0.field-0-is in
     let there = c.read.auto.buf in
-    let t : Stood s.0 s.1 c.as_slice.result.now c.loop-turn.place = rw c.as_slice.ensures.value s.4 in
+    let t : Stood s.0 s.1 c.as_slice.result.now c.loop-turn.progress = rw c.as_slice.ensures.value s.4 in
     Gives-ends _ _ _ _ _ s.0 s.1 c.finish.result (Consumes-end _ _ _ s.0 _ _ s.2 b.0 c.in-Ok-eq0.field-0-test) (b.1 c.in-Ok-eq0.field-0-test (omega arith)) (Appends-keeps _ _ _ s.1 s.3 c.flush.ensures.bytes) (c.finish.ensures s.0 s.1 t)
 
 pub returns-in_err-feed-in-Ok : goal.returns-in_err-feed-in-Ok
@@ -51,14 +51,14 @@ loop-turn-preserved g c =
           let f = w.in_ok-feed-in-Ok.ensures.fed s.0 s.1 s.4 in
           record {
             kept = rw w.line-is (w.in_ok-feed-in-Ok.ensures.short);
-            counted = rw w.place-is (grown _ _ c.loop-turn.turn _ w.in_ok-feed-in-Ok.ensures.number (short_piece w.in-Ok.n c.read.new.buf (omega arith)) c.loop-turn.invariant.counted);
-            stood = (s.0 ++ take w.in-Ok.n c.read.new.buf, s.1 ++ f.0, Consumes-append _ _ _ s.0 _ s.2 w.in-Ok.ensures.bytes.0, rw w.writer-is (Appends-append _ _ _ s.1 f.0 written f.1), rw (w.line-is, w.place-is) f.2);
+            counted = rw w.progress-is (grown _ _ c.loop-turn.turn _ w.in_ok-feed-in-Ok.ensures.number (short_piece w.in-Ok.n c.read.new.buf (omega arith)) c.loop-turn.invariant.counted);
+            stood = (s.0 ++ take w.in-Ok.n c.read.new.buf, s.1 ++ f.0, Consumes-append _ _ _ s.0 _ s.2 w.in-Ok.ensures.bytes.0, rw w.writer-is (Appends-append _ _ _ s.1 f.0 written f.1), rw (w.line-is, w.progress-is) f.2);
           }
       | in-Err+else-ne w ↦
           record {
             kept = rw w.line-is c.loop-turn.invariant.kept;
-            counted = rw w.place-is (grown c.loop-turn.place.number c.loop-turn.place.number c.loop-turn.turn 0 (omega arith) (omega arith) c.loop-turn.invariant.counted);
-            stood = (s.0, s.1, Consumes-keeps _ _ _ s.0 s.2 w.in-Err.ensures.bytes, rw w.writer-is written, rw (w.line-is, w.place-is) s.4);
+            counted = rw w.progress-is (grown c.loop-turn.progress.number c.loop-turn.progress.number c.loop-turn.turn 0 (omega arith) (omega arith) c.loop-turn.invariant.counted);
+            stood = (s.0, s.1, Consumes-keeps _ _ _ s.0 s.2 w.in-Err.ensures.bytes, rw w.writer-is written, rw (w.line-is, w.progress-is) s.4);
           }
     ]
 

@@ -7,6 +7,6 @@ use Rattle.directory_program.proofs.running.run_through.Given as goal
 abbrev pub invariant-loop-turn : goal.invariant-loop-turn
 invariant-loop-turn g l = record {
   kept : vec_len l.line ≤ longest_line;
-  counted : l.place.number ≤ l.turn * 65536;
-  stood : (read out : List ℕ) × Consumes (g.R.Read.remaining l.initial.reader) (g.R.Read.remaining l.reader) read × Appends (g.W.Write.contents l.initial.writer) (g.W.Write.contents l.writer) out × Stood read out l.line.items l.place;
+  counted : l.progress.number ≤ l.turn * 65536;
+  stood : (read out : List ℕ) × Consumes (g.R.Read.remaining l.initial.reader) (g.R.Read.remaining l.reader) read × Appends (g.W.Write.contents l.initial.writer) (g.W.Write.contents l.writer) out × Stood read out l.line.items l.progress;
 }

@@ -2,7 +2,7 @@ use Rattle.std.proofs.Common.{◌≡◌, ◌∷◌, ◌++◌, [], codes, refl}
 use Rattle.std.specs.Fmt.{digits}
 use Rattle.site_config.specs.declared.fault.ConfigFault.TheVariants.{Toml, Missing, Range, NoMemory}
 use Rattle.directory_program.specs.Holding.{fault_told}
-use Rattle.directory_program.proofs.place.print_fault.Goals as goal
+use Rattle.directory_program.proofs.progress.print_fault.Goals as goal
 
 told-toml : fault_told Toml ≡ codes "! config 1" ++ 10 ∷ []
 unfolding digits

@@ -7,8 +7,8 @@ use Rattle.directory_program.specs.Running.{World}
 use Rattle.directory_program.specs.Standing.{Closes}
 use Rattle.directory_program.specs.declared.session.Session.{Session}
 use Rattle.directory_program.proofs.Turning.{Closes-late, Closes-told}
-use Rattle.directory_program.proofs.place.close_config.Goals as goal
-use Rattle.directory_program.proofs.place.close_config.Goals.{then-session, else-session+in_ok-configure}
+use Rattle.directory_program.proofs.progress.close_config.Goals as goal
+use Rattle.directory_program.proofs.progress.close_config.Goals.{then-session, else-session+in_ok-configure}
 
 late_line : List ℕ
 late_line = codes "! late" ++ 10 ∷ []

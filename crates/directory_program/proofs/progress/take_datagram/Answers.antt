@@ -1,5 +1,5 @@
 use Rattle.directory_program.proofs.Turning.{Acts-udp, MatchResult-more}
-use Rattle.directory_program.proofs.place.take_datagram.Goals as goal
+use Rattle.directory_program.proofs.progress.take_datagram.Goals as goal
 
 pub returns : goal.returns
 returns g c =

@@ -1,5 +1,5 @@
 use Rattle.directory_program.proofs.Turning.{Acts-tcp, MatchResult-more}
-use Rattle.directory_program.proofs.place.take_stream.Goals as goal
+use Rattle.directory_program.proofs.progress.take_stream.Goals as goal
 
 pub returns : goal.returns
 returns g c =

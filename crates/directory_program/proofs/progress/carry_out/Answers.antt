@@ -7,7 +7,7 @@ use Rattle.directory_program.specs.Holding.{Acts}
 use Rattle.directory_program.specs.declared.session.Session.{Session}
 use Rattle.directory_program.proofs.Known.{Appends-none}
 use Rattle.directory_program.proofs.Turning.{Acts-at, Acts-from, Acts-open}
-use Rattle.directory_program.proofs.place.carry_out.Goals as goal
+use Rattle.directory_program.proofs.progress.carry_out.Goals as goal
 
 Acts-order : (s : Session) (o p : Order) (now : List ℕ) (t : Session) → o ≡ p → Acts s (Single p) now t → Acts s (Single o) now t
 Acts-order s o p now t is h = subst (λ x. Acts s (Single x) now t) (sym is) h

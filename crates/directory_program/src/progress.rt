@@ -33,7 +33,7 @@ pub struct OpenBlock {
 
 /// Where a run stands between two lines.
 #[derive(Drop)]
-pub struct Place {
+pub struct Progress {
     /// The lines so far.
     pub number: u64,
     pub block: Option<OpenBlock>,
@@ -252,7 +252,7 @@ fn turn_inside<W: Write>(
     }
 }
 
-impl Place {
+impl Progress {
     /// Takes the next line, which stands here without its LF.
     pub fn turn<W: Write>(
         &mut self,
