@@ -115,8 +115,8 @@ impl Agent {
     }
 
     /// Begins anew on the site of a configuration, without entries and at clock 0. The rules are the
-    /// opening ones; the moment and the asker stay, and messages come to the first loop. A refused text changes nothing, and
-    /// one that is not kept is out of its range.
+    /// opening ones; the moment and the asker stay, and messages come to the first loop. A refused text
+    /// changes nothing, and one that is not kept is out of its range.
     pub fn configure(
         &mut self,
         alloc: Global,

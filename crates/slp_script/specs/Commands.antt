@@ -114,7 +114,7 @@ Reads ls (c ∷ cs) = (front rest : List Line) × (ls ≡ front ++ rest) × Spel
 pub data IsStuck (ls : List Line) (k : ℕ) : Type 0 where
   -- the line is not an order, and begins no block
   AtLine : (l : Line) (rest : List Line) → ls ≡ l ∷ rest → order_of l ≡ None → block_of l ≡ None → k ≡ 1 → IsStuck ls k
-  -- a line of a block is too long or no text
+  -- a line of a block is too long or not text
   AtBody : (block : Block) (body : List Line) (l : Line) (rest : List Line) → ls ≡ opened block body ++ l ∷ rest → IsBody body → ¬ ((length l ≤ longest_line) × IsUtf8 l) → k ≡ length body + 2 → IsStuck ls k
   -- the lines end within a block
   AtEnd : (block : Block) (body : List Line) → ls ≡ opened block body → IsBody body → k ≡ 1 → IsStuck ls k
