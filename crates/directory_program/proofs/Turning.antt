@@ -4,10 +4,10 @@ use Rattle.std.specs.Prelude.{MatchResult}
 use Rattle.directory_answers.specs.Verdicts.{followed}
 use Rattle.slp_answer.specs.declared.answer.Sent.{Sent}
 use Rattle.slp_script.specs.Commands.{Single}
-use Rattle.slp_script.specs.declared.command.Order.TheVariants.{Blank, At, From, Udp, Open, Tcp, Sweep}
+use Rattle.slp_script.specs.declared.command.Order.TheVariants.{At, From, Udp, Open, Tcp}
 use Rattle.slp_script.specs.declared.command.Block.TheVariants.{Config as Configuration}
 use Rattle.directory_program.specs.Holding.{Holds, IsAgent, Takes, TakesPiece, Acts, Meets, ConfiguresTo, config_told}
-use Rattle.directory_program.specs.Running.{World, Answers, Configures, lacking, shown, new_stream, longest_reply, begun, swept, renewed}
+use Rattle.directory_program.specs.Running.{World, Answers, Configures, lacking, shown, new_stream, longest_reply, begun, renewed}
 use Rattle.directory_program.specs.Standing.{Closes, Turns, TurnsTo, TurnsOutside, TurnsInside}
 use Rattle.directory_program.specs.declared.progress.OpenBlock.{OpenBlock}
 use Rattle.directory_program.specs.declared.progress.Progress.{Progress}
@@ -19,9 +19,6 @@ use Rattle.site_config.specs.Configuring.{config_of}
 use Rattle.site_config.specs.declared.config.Config.{Config}
 use Rattle.site_config.specs.declared.fault.ConfigFault.{ConfigFault}
 use Rattle.site_config.specs.declared.fault.ConfigFault.TheVariants.{Range}
-
-pub Acts-blank : (s t : Session) → t ≡ s → Acts s (Single Blank) [] t
-Acts-blank s t e = λ w h. (w, (refl, refl), rw e h)
 
 -- the agent does not know of the stream, nor whether it is too late for another site
 pub IsAgent-beside : (w : World) (f : Frames) (late : Bool) (a : Agent) → IsAgent w a → IsAgent (record w { stream = f; late = late }) a
@@ -52,9 +49,6 @@ Acts-udp s bytes now b meets = λ w h.
 
 pub Acts-tcp : (s t : Session) (bytes now : List ℕ) → TakesPiece (record s { late = true }) bytes now t → Acts s (Single (Tcp bytes)) now t
 Acts-tcp s t bytes now takes = λ w h. takes (begun w) (Holds-begun w s h)
-
-pub Acts-sweep : (s : Session) (b : Agent) → ((w : World) → IsAgent w s.agent → IsAgent (swept w) b) → Acts s (Single Sweep) (codes "# sweep" ++ 10 ∷ []) (record s { agent = b; late = true })
-Acts-sweep s b sweeps = λ w h. (swept w, (refl, refl), record { agent = sweeps w h.agent; stream = h.stream; limit = h.limit; late = refl })
 
 -- ---- the end of a configuration
 
