@@ -11,7 +11,7 @@ pub const LONGEST_REPLY: usize = 1_400;
 /// The bytes of a message that comes on a stream, and of a reply that is sent on it.
 pub const LONGEST_ON_STREAM: usize = 65_535;
 
-/// What a run keeps between two lines: what answers messages, and what came of the stream and is no
+/// What a run keeps between two lines: what answers messages, and what came of the stream and is not a
 /// whole message.
 #[derive(Drop)]
 pub struct Session {

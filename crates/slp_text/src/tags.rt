@@ -265,7 +265,7 @@ impl TagList {
         Ok(TagList { parts })
     }
 
-    /// Whether a part matches the tag, or there is not a part. It takes no memory, and at most time for
+    /// Whether a part matches the tag, or there is no part. It takes no memory, and at most time for
     /// the product of the lengths of each part and the tag.
     pub fn selects(&self, tag: &Key) -> bool
         ensures { result ≡ selects_tag self.now tag.now }
@@ -273,7 +273,7 @@ impl TagList {
         self.is_empty() || some_part_matches(&self.parts, tag.as_str().as_bytes())
     }
 
-    /// Whether there is not a part. Takes no memory.
+    /// Whether there is no part. Takes no memory.
     pub fn is_empty(&self) -> bool
         ensures { IsTrue result ↔ (self.now ≡ []) }
     {
