@@ -4,8 +4,9 @@ use Rattle.std.specs.Prelude.{Bool, ◌&&◌, ◌==◌, nat_le}
 use Rattle.std.specs.Option.{option_and_then}
 use Rattle.std.specs.List.{slice_split, onto_first}
 use Rattle.std.proofs.lemmas.Bool.Decides.{eqb_tells}
+use Rattle.slp_text.specs.Ascii.{colon, digit_zero, dot, is_digit}
 use Rattle.slp_text.specs.Words.{Lacks}
-use Rattle.access_rules.specs.Addresses.{number_from, number_of, within_octet, octet_of, address_in, is_dot, address_of, within_port, is_colon, paired, socket_in, socket_of}
+use Rattle.access_rules.specs.Addresses.{number_from, number_of, within_octet, octet_of, address_in, is_dot, address_of, within_port, is_colon, both_of, socket_in, socket_of}
 
 -- ---- texts that are cut at a byte
 not_byte : (x byte : ℕ) → x ≢ byte → (x == byte) ≡ false
@@ -28,18 +29,18 @@ split-at byte (x ∷ xs) ys h =
 
 -- a byte that is not a digit
 abbrev pub IsNoDigit : ℕ → Type 0
-IsNoDigit byte = (b : Bool) → (nat_le 48 byte && nat_le byte 57 && b) ≡ false
+IsNoDigit byte = (b : Bool) → (is_digit byte && b) ≡ false
 
 no_number : (byte v : ℕ) (xs : List ℕ) → IsNoDigit byte → number_from v (byte ∷ xs) ≡ None
-no_number byte v xs other = ap (λ b. cond b (number_from (v * 10 + (byte - 48)) xs) None) (other (nat_lt (v * 10 + (byte - 48)) (2 ^ 32)))
+no_number byte v xs other = ap (λ b. cond b (number_from (v * 10 + (byte - digit_zero)) xs) None) (other (nat_lt (v * 10 + (byte - digit_zero)) (2 ^ 32)))
 
 -- a number has no such byte
 number_from-lacks : (byte v : ℕ) (d : List ℕ) (n : ℕ) → IsNoDigit byte → number_from v d ≡ Some n → Lacks byte d
 number_from-lacks byte v [] n other h = tt
 number_from-lacks byte v (x ∷ xs) n other h = (
   λ e. let k : number_from v (byte ∷ xs) ≡ Some n = rw e at h in let none = no_number byte v xs other in absurd (let e : None ≡ Some n = sym none ∙ k in cc),
-  elim (nat_le 48 x && nat_le x 57 && nat_lt (v * 10 + (x - 48)) (2 ^ 32)) as (λ b. cond b (number_from (v * 10 + (x - 48)) xs) None ≡ Some n → Lacks byte xs) [
-    | true ↦ λ k. number_from-lacks byte (v * 10 + (x - 48)) xs n other k
+  elim (is_digit x && nat_lt (v * 10 + (x - digit_zero)) (2 ^ 32)) as (λ b. cond b (number_from (v * 10 + (x - digit_zero)) xs) None ≡ Some n → Lacks byte xs) [
+    | true ↦ λ k. number_from-lacks byte (v * 10 + (x - digit_zero)) xs n other k
     | false ↦ λ k. absurd cc
   ] h,
 )
@@ -48,10 +49,10 @@ pub number_of-lacks : (byte : ℕ) (d : List ℕ) (n : ℕ) → IsNoDigit byte �
 number_of-lacks byte [] n other h = tt
 number_of-lacks byte (x ∷ xs) n other h = number_from-lacks byte 0 (x ∷ xs) n other h
 
-octet_of-lacks : (d : List ℕ) (n : ℕ) → octet_of d ≡ Some n → Lacks 46 d
+octet_of-lacks : (d : List ℕ) (n : ℕ) → octet_of d ≡ Some n → Lacks dot d
 octet_of-lacks d n h =
-    elim (number_of d) as (λ o. number_of d ≡ o → option_and_then within_octet o ≡ Some n → Lacks 46 d) [
-      | Some m ↦ λ e k. number_of-lacks 46 d m (λ b. refl) e
+    elim (number_of d) as (λ o. number_of d ≡ o → option_and_then within_octet o ≡ Some n → Lacks dot d) [
+      | Some m ↦ λ e k. number_of-lacks dot d m (λ b. refl) e
       | None ↦ λ e k. absurd cc
     ] refl h
 
@@ -101,30 +102,30 @@ fourth-not (Some a) (Some b) (Some c) = refl
 
 -- a text that was cut at its first dot
 pub record IsCut (text front rest : List ℕ) : Type 0 where
-  pub all : text ≡ front ++ 46 ∷ rest
-  pub lacks : Lacks 46 front
+  pub all : text ≡ front ++ dot ∷ rest
+  pub lacks : Lacks dot front
 
 split-cut : (text front rest : List ℕ) → IsCut text front rest → slice_split is_dot text ≡ front ∷ slice_split is_dot rest
-split-cut text front rest c = ap (slice_split is_dot) c.all ∙ split-at 46 front rest c.lacks
+split-cut text front rest c = ap (slice_split is_dot) c.all ∙ split-at dot front rest c.lacks
 
 split-cut_2 : (text a rest b more : List ℕ) → IsCut text a rest → IsCut rest b more → slice_split is_dot text ≡ a ∷ b ∷ slice_split is_dot more
 split-cut_2 text a rest b more f g = split-cut text a rest f ∙ ap (λ t. a ∷ t) (split-cut rest b more g)
 
-pub address-one : (text : List ℕ) → Lacks 46 text → address_of text ≡ None
-address-one text h = rw (split-none 46 text h) (one-not (octet_of text))
+pub address-one : (text : List ℕ) → Lacks dot text → address_of text ≡ None
+address-one text h = rw (split-none dot text h) (one-not (octet_of text))
 
-pub address-two : (text a rest : List ℕ) → IsCut text a rest → Lacks 46 rest → address_of text ≡ None
-address-two text a rest f h = rw (split-cut text a rest f, split-none 46 rest h) (two-not (octet_of a) (octet_of rest))
+pub address-two : (text a rest : List ℕ) → IsCut text a rest → Lacks dot rest → address_of text ≡ None
+address-two text a rest f h = rw (split-cut text a rest f, split-none dot rest h) (two-not (octet_of a) (octet_of rest))
 
-pub address-three : (text a rest b more : List ℕ) → IsCut text a rest → IsCut rest b more → Lacks 46 more → address_of text ≡ None
-address-three text a rest b more f g h = rw (split-cut_2 text a rest b more f g, split-none 46 more h) (three-not (octet_of a) (octet_of b) (octet_of more))
+pub address-three : (text a rest b more : List ℕ) → IsCut text a rest → IsCut rest b more → Lacks dot more → address_of text ≡ None
+address-three text a rest b more f g h = rw (split-cut_2 text a rest b more f g, split-none dot more h) (three-not (octet_of a) (octet_of b) (octet_of more))
 
 last-octet : (o p q : Option ℕ) (d : List ℕ) → address_in (o ∷ p ∷ q ∷ map octet_of (slice_split is_dot d)) ≡ address_in (o ∷ p ∷ q ∷ octet_of d ∷ [])
 last-octet o p q d =
     elim (parts is_dot d) [
       | inl e ↦ rw e refl
       | inr t ↦ elim (octet_of d) as (λ r. octet_of d ≡ r → address_in (o ∷ p ∷ q ∷ map octet_of (slice_split is_dot d)) ≡ address_in (o ∷ p ∷ q ∷ r ∷ [])) [
-        | Some n ↦ λ is. let one = split-none 46 d (octet_of-lacks d n is) in absurd (let e : d ∷ [] ≡ t.0 ∷ t.1 ∷ t.2 = sym one ∙ t.3 in cc)
+        | Some n ↦ λ is. let one = split-none dot d (octet_of-lacks d n is) in absurd (let e : d ∷ [] ≡ t.0 ∷ t.1 ∷ t.2 = sym one ∙ t.3 in cc)
         | None ↦ λ is. rw t.3 (five-not o p q (octet_of t.0) (octet_of t.1) (map octet_of t.2) ∙ sym (fourth-not o p q))
       ] refl
     ]
@@ -135,31 +136,31 @@ address-four text a rest b more c d f g h =
     ∙ last-octet (octet_of a) (octet_of b) (octet_of c) d
 
 -- ---- an address with a port
-unpaired : (o : Option ℕ) → paired {A = ℕ} {B = ℕ} o None ≡ None
+unpaired : (o : Option ℕ) → both_of {A = ℕ} {B = ℕ} o None ≡ None
 unpaired None = refl
 unpaired (Some a) = refl
 
-pub no_colon : (text : List ℕ) → Lacks 58 text → socket_of text ≡ None
-no_colon text h = rw (split-none 58 text h) refl
+pub no_colon : (text : List ℕ) → Lacks colon text → socket_of text ≡ None
+no_colon text h = rw (split-none colon text h) refl
 
-socket_at : (host digits : List ℕ) → Lacks 58 host → socket_of (host ++ 58 ∷ digits) ≡ paired (address_of host) (option_and_then within_port (number_of digits))
+socket_at : (host digits : List ℕ) → Lacks colon host → socket_of (host ++ colon ∷ digits) ≡ both_of (address_of host) (option_and_then within_port (number_of digits))
 socket_at host digits h =
-    ap socket_in (split-at 58 host digits h) ∙ elim (parts is_colon digits) [
+    ap socket_in (split-at colon host digits h) ∙ elim (parts is_colon digits) [
       | inl e ↦ ap (λ t. socket_in (host ∷ t)) e
-      | inr t ↦ elim (number_of digits) as (λ o. number_of digits ≡ o → socket_in (host ∷ slice_split is_colon digits) ≡ paired (address_of host) (option_and_then within_port o)) [
-        | Some n ↦ λ is. let one = split-none 58 digits (number_of-lacks 58 digits n (λ b. refl) is) in absurd (let e : digits ∷ [] ≡ t.0 ∷ t.1 ∷ t.2 = sym one ∙ t.3 in cc)
+      | inr t ↦ elim (number_of digits) as (λ o. number_of digits ≡ o → socket_in (host ∷ slice_split is_colon digits) ≡ both_of (address_of host) (option_and_then within_port o)) [
+        | Some n ↦ λ is. let one = split-none colon digits (number_of-lacks colon digits n (λ b. refl) is) in absurd (let e : digits ∷ [] ≡ t.0 ∷ t.1 ∷ t.2 = sym one ∙ t.3 in cc)
         | None ↦ λ is. ap (λ u. socket_in (host ∷ u)) t.3 ∙ sym (unpaired (address_of host))
       ] refl
     ]
 
-pub socket_cut : (text host digits : List ℕ) → text ≡ host ++ 58 ∷ digits → Lacks 58 host → socket_of text ≡ paired (address_of host) (option_and_then within_port (number_of digits))
+pub socket_cut : (text host digits : List ℕ) → text ≡ host ++ colon ∷ digits → Lacks colon host → socket_of text ≡ both_of (address_of host) (option_and_then within_port (number_of digits))
 socket_cut text host digits all h = ap socket_of all ∙ socket_at host digits h
 
-pub no_address : (text host digits : List ℕ) → text ≡ host ++ 58 ∷ digits → Lacks 58 host → address_of host ≡ None → socket_of text ≡ None
-no_address text host digits all h none = socket_cut text host digits all h ∙ ap (λ o. paired o (option_and_then within_port (number_of digits))) none
+pub no_address : (text host digits : List ℕ) → text ≡ host ++ colon ∷ digits → Lacks colon host → address_of host ≡ None → socket_of text ≡ None
+no_address text host digits all h none = socket_cut text host digits all h ∙ ap (λ o. both_of o (option_and_then within_port (number_of digits))) none
 
-pub no_port : (text host digits : List ℕ) → text ≡ host ++ 58 ∷ digits → Lacks 58 host → option_and_then within_port (number_of digits) ≡ None → socket_of text ≡ None
-no_port text host digits all h none = socket_cut text host digits all h ∙ ap (λ o. paired (address_of host) o) none ∙ unpaired (address_of host)
+pub no_port : (text host digits : List ℕ) → text ≡ host ++ colon ∷ digits → Lacks colon host → option_and_then within_port (number_of digits) ≡ None → socket_of text ≡ None
+no_port text host digits all h none = socket_cut text host digits all h ∙ ap (λ o. both_of (address_of host) o) none ∙ unpaired (address_of host)
 
-pub address_and_port : (text host digits : List ℕ) (a n : ℕ) → text ≡ host ++ 58 ∷ digits → Lacks 58 host → address_of host ≡ Some a → option_and_then within_port (number_of digits) ≡ Some n → socket_of text ≡ Some (a, n)
-address_and_port text host digits a n all h some port = socket_cut text host digits all h ∙ ap (λ o. paired o (option_and_then within_port (number_of digits))) some ∙ ap (λ o. paired (Some a) o) port
+pub address_and_port : (text host digits : List ℕ) (a n : ℕ) → text ≡ host ++ colon ∷ digits → Lacks colon host → address_of host ≡ Some a → option_and_then within_port (number_of digits) ≡ Some n → socket_of text ≡ Some (a, n)
+address_and_port text host digits a n all h some port = socket_cut text host digits all h ∙ ap (λ o. both_of o (option_and_then within_port (number_of digits))) some ∙ ap (λ o. both_of (Some a) o) port

@@ -3,12 +3,13 @@ use Rattle.std.specs.Prelude.{ℕ, ◌+◌, ◌-◌, ◌*◌, ◌/◌, ◌%◌, 
 use Rattle.std.specs.Fmt.{decimal}
 use Rattle.std.specs.Option.{option_and_then}
 use Rattle.std.specs.List.{slice_split}
+use Rattle.slp_text.specs.Ascii.{colon, digit_zero, dot, is_digit}
 
 -- digits after the value v, below 2^32
 abbrev pub number_from : ℕ → List ℕ → Option ℕ
 number_from v [] = Some v
 number_from v (x ∷ xs) =
-    if nat_le 48 x && nat_le x 57 && nat_lt (v * 10 + (x - 48)) (2 ^ 32) then number_from (v * 10 + (x - 48)) xs else None
+    if is_digit x && nat_lt (v * 10 + (x - digit_zero)) (2 ^ 32) then number_from (v * 10 + (x - digit_zero)) xs else None
 
 -- decimal digits, at least one; leading zeros are allowed
 abbrev pub number_of : List ℕ → Option ℕ
@@ -28,7 +29,7 @@ address_in (Some a ∷ Some b ∷ Some c ∷ Some d ∷ []) = Some (((a * 256 + 
 address_in _ = None
 
 abbrev pub is_dot : ℕ → Bool
-is_dot b = b == 46
+is_dot b = b == dot
 
 -- four octets with a dot between each two
 abbrev pub address_of : List ℕ → Option ℕ
@@ -39,15 +40,15 @@ abbrev pub within_port : ℕ → Option ℕ
 within_port n = if nat_le 1 n && nat_le n 65535 then Some n else None
 
 abbrev pub is_colon : ℕ → Bool
-is_colon b = b == 58
+is_colon b = b == colon
 
-abbrev pub paired : {A B : Type 0} → Option A → Option B → Option (A × B)
-paired (Some a) (Some b) = Some (a, b)
-paired (Some a) None = None
-paired None o = None
+abbrev pub both_of : {A B : Type 0} → Option A → Option B → Option (A × B)
+both_of (Some a) (Some b) = Some (a, b)
+both_of (Some a) None = None
+both_of None o = None
 
 abbrev pub socket_in : List (List ℕ) → Option (ℕ × ℕ)
-socket_in (a ∷ p ∷ []) = paired (address_of a) (option_and_then within_port (number_of p))
+socket_in (a ∷ p ∷ []) = both_of (address_of a) (option_and_then within_port (number_of p))
 socket_in _ = None
 
 -- an address and a port, with a colon between them
@@ -58,4 +59,4 @@ socket_of text = socket_in (slice_split is_colon text)
 
 -- four decimal numbers with a dot between each two
 abbrev pub address_text : ℕ → List ℕ
-address_text a = decimal (a / 16777216) ++ 46 ∷ decimal (a / 65536 % 256) ++ 46 ∷ decimal (a / 256 % 256) ++ 46 ∷ decimal (a % 256)
+address_text a = decimal (a / 16777216) ++ dot ∷ decimal (a / 65536 % 256) ++ dot ∷ decimal (a / 256 % 256) ++ dot ∷ decimal (a % 256)

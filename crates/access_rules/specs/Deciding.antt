@@ -44,10 +44,10 @@ fits asker action kind scope r =
 abbrev pub SiteRules : Type 0
 SiteRules = List Rule
 
--- what the rule at a place says, if there is one; without a rule all is denied
+-- what the rule at an index says, if there is one; without a rule all is denied
 abbrev pub verdict_at : SiteRules → Option ℕ → Verdict
 verdict_at rules None = record { allow = false; rule = None }
-verdict_at rules (Some place) = record { allow = option_map_or (λ r. r.allow) (slice_get rules place) false; rule = Some place }
+verdict_at rules (Some index) = record { allow = option_map_or (λ r. r.allow) (slice_get rules index) false; rule = Some index }
 
 -- The first rule that fits decides.
 abbrev pub deciding : SiteRules → ℕ → Action → List ℕ → List ℕ → Verdict

@@ -2,10 +2,10 @@
 //! decides.
 #![tactic(auto)]
 
-mod addr;
+mod address;
 mod rule;
 mod rules;
 
-pub use addr::{Addr, number};
+pub use address::{Addr, number};
 pub use rule::{Action, Prefix, Rule};
 pub use rules::{Rules, Verdict};

@@ -1,8 +1,9 @@
 ghost use Rattle.std.specs.Prelude.{◌≡◌};
 ghost use Rattle.std.specs.List.{list_any};
-ghost use Rattle.access_rules.specs.Deciding.{holds as holds_it, action_eq, allows_kind, allows_scope, fits as fits_it};
+ghost use Rattle.access_rules.specs.Deciding as spec;
+ghost use Rattle.access_rules.specs.Deciding.{action_eq, allows_kind, allows_scope};
 
-use crate::addr::Addr;
+use crate::address::Addr;
 use service_url::ServiceType;
 use slp_text::{Key, Row, ScopeList, Text};
 
@@ -24,7 +25,7 @@ pub struct Prefix {
 
 impl Prefix {
     fn holds(&self, addr: Addr) -> bool
-        ensures { result ≡ holds_it self.now addr }
+        ensures { result ≡ spec.holds self.now addr }
     {
         if self.bits > 32 {
             return false;
@@ -60,7 +61,7 @@ fn is_same(a: Action, b: Action) -> bool
 
 impl Rule {
     fn is_from(&self, asker: Addr) -> bool
-        ensures { result ≡ list_any (λ p. holds_it p asker) self.now.from }
+        ensures { result ≡ list_any (λ p. spec.holds p asker) self.now.from }
     {
         self.from.as_slice().iter().any(|p| p.holds(asker))
     }
@@ -85,7 +86,7 @@ impl Rule {
 
     /// Whether the rule is about this question.
     pub(crate) fn fits(&self, asker: Addr, action: Action, kind: &ServiceType, scope: &Key) -> bool
-        ensures { result ≡ fits_it asker action kind.now scope.now self.now }
+        ensures { result ≡ spec.fits asker action kind.now scope.now self.now }
     {
         is_same(self.action, action)
             && self.is_from(asker)

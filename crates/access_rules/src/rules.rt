@@ -3,7 +3,7 @@ ghost use Rattle.std.specs.Option.{option_map};
 ghost use Rattle.access_rules.specs.Deciding.{deciding, fits};
 ghost use Rattle.access_rules.specs.Opening.{open_to_all, opening_rules};
 
-use crate::addr::Addr;
+use crate::address::Addr;
 use crate::rule::{Action, Prefix, Rule};
 use service_url::ServiceType;
 use slp_text::{Key, NoMemory, Row, Text};

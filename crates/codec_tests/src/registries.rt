@@ -1,5 +1,5 @@
 ghost use Rattle.std.specs.Prelude.{◌≡◌, ◌≤◌, length, IfOk};
-ghost use Rattle.slp_text.specs.Scopes.{printed};
+ghost use Rattle.slp_text.specs.Scopes.{printed_scopes};
 ghost use Rattle.std.specs.Arc.{arc_value};
 
 use crate::holding::assert_holds;
@@ -21,7 +21,7 @@ const PRINTER: &str = "service:printer:lpr";
 /// The one scope that a text names, of at most 1,024 bytes where it is written.
 pub fn one_scope(alloc: Global, scope: &str) -> Result<ScopeList, Fail>
     ensures one { IfOk result (λ scopes. length scopes ≡ 1) }
-    ensures short { IfOk result (λ scopes. length (printed scopes) ≤ 1024) }
+    ensures short { IfOk result (λ scopes. length (printed_scopes scopes) ≤ 1024) }
 {
     let scopes = ScopeList::parse(alloc, scope)?;
     let mut written = String::new(alloc);

@@ -4,12 +4,12 @@ use Rattle.std.specs.Prelude.{slice_index, ◌==◌, ◌||◌}
 use Rattle.std.specs.Option.{option_map_or}
 use Rattle.slp_headers.specs.Headers.{Heading, fields_of, is_readable}
 use Rattle.slp_messages.specs.Messages.{function_of}
-use Rattle.slp_wire.specs.Reading.{reading, reading_after, marked}
+use Rattle.slp_wire.specs.Reading.{reading, reading_after, marked_bytes}
 use Rattle.slp_wire.specs.Spelling.{Spells}
 use Rattle.slp_fields.specs.declared.fault.WireFault.{WireFault}
 use Rattle.slp_fields.specs.declared.fault.WireFault.TheVariants.{NoHeader}
 use Rattle.slp_messages.specs.declared.message.Message.{Message}
-use Rattle.directory_answers.specs.Answering.{is_change_of}
+use Rattle.directory_answers.specs.Answers.{is_change_of}
 use Rattle.directory_answers.specs.Readings.{may_change, IsRead}
 
 second_of_front : (n : ℕ) (bytes rest : List ℕ) (a b : ℕ) → take n bytes ≡ a ∷ b ∷ rest → slice_index bytes 1 ≡ b
@@ -19,10 +19,10 @@ second_of_front (suc zero) (x ∷ bytes) rest a b h = cc
 second_of_front (suc (suc n)) (x ∷ []) rest a b h = cc
 second_of_front (suc (suc n)) (x ∷ y ∷ bytes) rest a b h = cc
 
-spelled-function : (bytes : List ℕ) (m : Message) → Spells (marked bytes) m → slice_index bytes 1 ≡ function_of m
+spelled-function : (bytes : List ℕ) (m : Message) → Spells (marked_bytes bytes) m → slice_index bytes 1 ≡ function_of m
 spelled-function bytes m s = second_of_front _ bytes _ 2 (function_of m) s.framing
 
-read-change : (bytes : List ℕ) (m : Message) → Spells (marked bytes) m → reading bytes ≡ Ok m → is_change_of bytes ≡ may_change m
+read-change : (bytes : List ℕ) (m : Message) → Spells (marked_bytes bytes) m → reading bytes ≡ Ok m → is_change_of bytes ≡ may_change m
 unfolding reading is_change_of
 read-change bytes m s read =
     elim (is_readable bytes) as (λ (b : Bool).
@@ -32,5 +32,5 @@ read-change bytes m s read =
       | false ↦ λ k. absurd cc
     ] read
 
-pub is_read : (bytes : List ℕ) (m : Message) → Spells (marked bytes) m → reading bytes ≡ Ok m → IsRead bytes m
+pub is_read : (bytes : List ℕ) (m : Message) → Spells (marked_bytes bytes) m → reading bytes ≡ Ok m → IsRead bytes m
 is_read bytes m s read = record { read = read; sound = s.sound; change = read-change bytes m s read }

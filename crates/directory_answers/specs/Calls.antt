@@ -1,13 +1,13 @@
 -- What a directory begins with, and what is asked of it.
 use Rattle.std.specs.Prelude.{ℕ, ◌<◌, get_or, List}
 use Rattle.access_rules.specs.Deciding.{SiteRules}
-use Rattle.directory_judge.specs.Sites.{Place}
-use Rattle.directory_answers.specs.declared.call.Call.{Call as Lent}
+use Rattle.directory_judge.specs.Sites.{Site}
+use Rattle.directory_answers.specs.declared.call.Call as code
 
 -- the rules and the site that it begins with
 pub record Opening : Type 0 where
   pub rules : SiteRules
-  pub site : Place
+  pub site : Site
 
 -- bytes that an asker sends at a moment, in seconds, to an address of the directory, and how many bytes a reply may have
 pub record Call : Type 0 where
@@ -22,5 +22,5 @@ abbrev pub AreBytes : List ℕ → Type 0
 AreBytes bytes = (i : ℕ) → get_or bytes i 0 < 256
 
 -- what is asked, wherever its bytes lie
-abbrev pub call_in : Lent → Call
+abbrev pub call_in : code.Call → Call
 call_in c = record { own = c.own; moment = c.moment; asker = c.asker; bytes = c.bytes.now; limit = c.limit }

@@ -1,7 +1,7 @@
-pub mod Answering
-pub mod Asking
+pub mod Answers
 pub mod Calls
-pub mod Cutting
+pub mod Cuts
+pub mod Items
 pub mod Outcomes
 pub mod Questions
 pub mod Readings

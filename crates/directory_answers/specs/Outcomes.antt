@@ -7,10 +7,10 @@ use Rattle.slp_fields.specs.declared.fault.WireFault.{WireFault}
 use Rattle.slp_fields.specs.declared.fault.WireFault.TheVariants as fault
 use Rattle.slp_messages.specs.declared.code.TheConstants.{OK}
 use Rattle.slp_messages.specs.declared.function.TheConstants.{SERVICE_REQUEST, ATTRIBUTE_REQUEST, TYPE_REQUEST}
-use Rattle.directory_judge.specs.Judging.{Judgement, Accepts, Ignores, Waits, Denies, by_step, code_by}
-use Rattle.directory_judge.specs.declared.because.Because.{Because}
-use Rattle.directory_judge.specs.declared.because.Decider.{Decider}
-use Rattle.directory_judge.specs.declared.because.Decider.TheVariants as decider
+use Rattle.directory_judge.specs.Judgements.{Judgement, Accepts, Ignores, Waits, Denies, by_step, code_by}
+use Rattle.directory_judge.specs.declared.reason.Because.{Because}
+use Rattle.directory_judge.specs.declared.reason.Decider.{Decider}
+use Rattle.directory_judge.specs.declared.reason.Decider.TheVariants as decider
 
 -- the bytes of a reply, none where none is sent; and the code, and who decided on what, where there is a verdict
 pub record Outcome : Type 0 where
@@ -40,15 +40,15 @@ sent_of h code is_empty reply = if is_to_many h && (not (code == OK) || is_empty
 -- ---- replies that are a code alone
 
 -- a code and why, in answer to a message of a function that is answered
-abbrev pub coded_as : Heading → ℕ → Because → ℕ → Outcome
-coded_as h code because function = outcome (sent_of h code false (refusal_bytes function code h.xid h.language)) code because
+abbrev pub code_outcome_as : Heading → ℕ → Because → ℕ → Outcome
+code_outcome_as h code because function = outcome (sent_of h code false (refusal_bytes function code h.xid h.language)) code because
 
-abbrev pub coded : Heading → ℕ → Because → Outcome
-coded h code because = option_map_or (coded_as h code because) (reply_function_of h.function) silence
+abbrev pub code_outcome : Heading → ℕ → Because → Outcome
+code_outcome h code because = option_map_or (code_outcome_as h code because) (reply_function_of h.function) silence
 
 -- the denial of a step that knows no more than who decided
-abbrev pub denied : Heading → Decider → Outcome
-denied h d = coded h (code_by d) (by_step d None)
+abbrev pub denial_outcome : Heading → Decider → Outcome
+denial_outcome h d = code_outcome h (code_by d) (by_step d None)
 
 -- ---- bytes that are not a message that is read
 
@@ -63,17 +63,17 @@ decider_of_fault fault.Unknown = None
 decider_of_fault fault.NoMemory = None
 decider_of_fault fault.TooLong = None
 
-abbrev pub faulted : Heading → WireFault → Outcome
-faulted h e = option_map_or (denied h) (decider_of_fault e) silence
+abbrev pub fault_outcome : Heading → WireFault → Outcome
+fault_outcome h e = option_map_or (denial_outcome h) (decider_of_fault e) silence
 
 -- bytes that found no memory, where their header is readable
-abbrev pub refused : Option Heading → Outcome
-refused heading = option_map_or (λ h. denied h decider.Memory) heading silence
+abbrev pub refusal_outcome : Option Heading → Outcome
+refusal_outcome heading = option_map_or (λ h. denial_outcome h decider.Memory) heading silence
 
 -- ---- what was judged
 
-abbrev pub acknowledged : Heading → Judgement → Outcome
-acknowledged h (Accepts c because) = coded h OK because
-acknowledged h Ignores = coded h OK (by_step decider.Nobody None)
-acknowledged h (Denies code because) = coded h code because
-acknowledged h Waits = silence
+abbrev pub acknowledgement_of : Heading → Judgement → Outcome
+acknowledgement_of h (Accepts c because) = code_outcome h OK because
+acknowledgement_of h Ignores = code_outcome h OK (by_step decider.Nobody None)
+acknowledgement_of h (Denies code because) = code_outcome h code because
+acknowledgement_of h Waits = silence

@@ -2,24 +2,24 @@
 use Rattle.std.specs.Prelude.{ℕ, Bool, not, ◌==◌, ◌||◌, List, length, reverse, codes, Option, Some, None, if◌then◌else◌}
 use Rattle.std.specs.List.{list_any, slice_split}
 use Rattle.std.specs.Result.{result_ok}
-use Rattle.slp_text.specs.Key.{key_of, trim_start}
+use Rattle.slp_text.specs.Keys.{key_of, trim_start}
 use Rattle.slp_text.specs.Scopes.{is_comma, scopes_of}
 use Rattle.slp_text.specs.Words.{bytes_eq, is_blank}
 use Rattle.slp_messages.specs.declared.header.Header.{Header}
 use Rattle.slp_messages.specs.declared.message.ServiceRequest.{ServiceRequest}
 use Rattle.service_url.specs.Types.{type_of}
 use Rattle.access_rules.specs.Addresses.{address_text}
-use Rattle.directory_judge.specs.Judging.{is_agent}
+use Rattle.directory_judge.specs.Judgements.{is_agent}
 use Rattle.directory_answers.specs.declared.question.Question.{Question}
 use Rattle.directory_answers.specs.declared.question.Question.TheVariants.{Silent, Unreadable, Asks}
 
 -- without white space at its ends
-abbrev pub trimmed : List ℕ → List ℕ
-trimmed text = reverse (trim_start (reverse (trim_start text)))
+abbrev pub trimmed_text : List ℕ → List ℕ
+trimmed_text text = reverse (trim_start (reverse (trim_start text)))
 
 -- the address is one of those that have answered, which stand between commas
 abbrev pub has_answered : ℕ → List ℕ → Bool
-has_answered own responders = list_any (λ part. bytes_eq (trimmed part) (address_text own)) (slice_split is_comma responders)
+has_answered own responders = list_any (λ part. bytes_eq (trimmed_text part) (address_text own)) (slice_split is_comma responders)
 
 -- `service:service-agent`, which only service agents answer
 abbrev pub other_agent_type : List ℕ
@@ -31,14 +31,14 @@ is_unanswered h q =
     h.flags.multicast || not (length q.responders == 0) || not (is_blank q.predicate) || is_agent (result_ok (type_of q.kind))
 
 -- by the scopes that are read, if they are
-abbrev pub asked_in : Header → List ℕ → Option (List (List ℕ)) → Question
-asked_in h kind None = Unreadable
-asked_in h kind (Some scopes) = Asks (record { kind = kind; scopes = scopes; language = key_of h.language })
+abbrev pub question_in : Header → List ℕ → Option (List (List ℕ)) → Question
+question_in h kind None = Unreadable
+question_in h kind (Some scopes) = Asks (record { kind = kind; scopes = scopes; language = key_of h.language })
 
 -- by the type that is read, if it is
-abbrev pub asked_as : Header → Option (List ℕ) → Option (List (List ℕ)) → Question
-asked_as h None scopes = Unreadable
-asked_as h (Some kind) scopes = if bytes_eq kind other_agent_type then Silent else asked_in h kind scopes
+abbrev pub question_as : Header → Option (List ℕ) → Option (List (List ℕ)) → Question
+question_as h None scopes = Unreadable
+question_as h (Some kind) scopes = if bytes_eq kind other_agent_type then Silent else question_in h kind scopes
 
 abbrev pub question_of : Header → ServiceRequest → Question
-question_of h q = if is_unanswered h q then Silent else asked_as h (result_ok (type_of q.kind)) (result_ok (scopes_of q.scopes))
+question_of h q = if is_unanswered h q then Silent else question_as h (result_ok (type_of q.kind)) (result_ok (scopes_of q.scopes))

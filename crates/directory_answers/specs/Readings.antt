@@ -8,7 +8,7 @@ use Rattle.slp_messages.specs.declared.header.Header.{Header}
 use Rattle.slp_messages.specs.declared.message.Message.{Message}
 use Rattle.slp_messages.specs.declared.message.Message.TheVariants as message
 use Rattle.slp_messages.specs.declared.message.ServiceRequest.{ServiceRequest}
-use Rattle.directory_answers.specs.Answering.{is_change_function, is_change_of}
+use Rattle.directory_answers.specs.Answers.{is_change_function, is_change_of}
 use Rattle.directory_answers.specs.Questions.{question_of}
 use Rattle.directory_answers.specs.declared.question.Question.{Question}
 

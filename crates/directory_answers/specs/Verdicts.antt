@@ -4,9 +4,9 @@ use Rattle.registry_core.specs.Entries.{Entries}
 use Rattle.slp_messages.specs.Messages.{IsMessage}
 use Rattle.slp_messages.specs.declared.message.Message.{Message}
 use Rattle.directory_judge.specs.History.{History, Event, Put, Set, Remove, Withdraw, Sweep, Reload, clock, now}
-use Rattle.directory_judge.specs.Judging.{Grounds, Judgement, Accepts, Ignores, Waits, Denies, judgement}
+use Rattle.directory_judge.specs.Judgements.{Grounds, Judgement, Accepts, Ignores, Waits, Denies, judgement}
 use Rattle.directory_judge.specs.Meaning.{AreLive, rules}
-use Rattle.directory_judge.specs.declared.because.Because.{Because}
+use Rattle.directory_judge.specs.declared.reason.Because.{Because}
 use Rattle.directory_answers.specs.Calls.{Opening}
 
 -- what a message is judged on at a history, where these are the live entries
@@ -52,6 +52,6 @@ change_in Waits = None
 change_in (Denies code because) = None
 
 -- a history followed by a change, if there is one
-abbrev pub followed : Option Event → History → History
-followed None h = h
-followed (Some c) h = c ∷ h
+abbrev pub history_with : Option Event → History → History
+history_with None h = h
+history_with (Some c) h = c ∷ h

@@ -1,11 +1,12 @@
 ghost use Rattle.std.specs.Prelude.{◌≡◌};
-ghost use Rattle.directory_answers.specs.Answering.{is_change_function as asks_change, is_change_of};
+ghost use Rattle.directory_answers.specs.Answers as spec;
+ghost use Rattle.directory_answers.specs.Answers.{is_change_of};
 
 use slp_wire::{function, read_header};
 
 /// Whether a message of a function may change something: a registration or a withdrawal.
 pub fn is_change_function(function: u8) -> bool
-    ensures { result ≡ asks_change function }
+    ensures { result ≡ spec.is_change_function function }
 {
     function == function::REGISTRATION || function == function::WITHDRAWAL
 }

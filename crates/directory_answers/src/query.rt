@@ -1,5 +1,5 @@
 ghost use Rattle.std.specs.Prelude.{◌≡◌};
-ghost use Rattle.directory_answers.specs.declared.query.QueryFault.TheVariants.{NoMemory as Lacking};
+ghost use Rattle.directory_answers.specs.declared.query.QueryFault.TheVariants as fault;
 
 use service_url::ServiceType;
 use slp_text::{Key, NoMemory, ScopeList};
@@ -28,7 +28,7 @@ pub enum QueryFault {
 }
 
 impl From<AllocError> for QueryFault {
-    ghost from_gives = { λ _ e. e ≡ Lacking };
+    ghost from_gives = { λ _ e. e ≡ fault.NoMemory };
 
     fn from(_e: AllocError) -> QueryFault {
         QueryFault::NoMemory
@@ -36,7 +36,7 @@ impl From<AllocError> for QueryFault {
 }
 
 impl<T: Drop> From<AllocFailed<T>> for QueryFault {
-    ghost from_gives = { λ _ e. e ≡ Lacking };
+    ghost from_gives = { λ _ e. e ≡ fault.NoMemory };
 
     fn from(_e: AllocFailed<T>) -> QueryFault {
         QueryFault::NoMemory
@@ -44,7 +44,7 @@ impl<T: Drop> From<AllocFailed<T>> for QueryFault {
 }
 
 impl From<NoMemory> for QueryFault {
-    ghost from_gives = { λ _ e. e ≡ Lacking };
+    ghost from_gives = { λ _ e. e ≡ fault.NoMemory };
 
     fn from(_e: NoMemory) -> QueryFault {
         QueryFault::NoMemory

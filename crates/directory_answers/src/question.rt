@@ -1,6 +1,6 @@
 ghost use Rattle.std.specs.Prelude.{◌≡◌, ◌==◌, ◌||◌, not, length, IfOk, MatchResult, Some};
-ghost use Rattle.slp_text.specs.Words.{is_blank as is_blank_text};
-ghost use Rattle.slp_headers.specs.Headers.{has_flag, heading, heading_of};
+ghost use Rattle.slp_text.specs.Words as spec;
+ghost use Rattle.slp_headers.specs.Headers.{has_flag, heading_in, heading_of};
 ghost use Rattle.slp_headers.specs.declared.flag.TheConstants.{MULTICAST};
 ghost use Rattle.slp_messages.specs.Views.{request_in};
 ghost use Rattle.slp_wire.specs.Reading.{kept_header};
@@ -34,9 +34,9 @@ pub fn asked(
     header: &HeaderView<'_>,
     bytes: &[u8],
 ) -> Result<Result<Question, WireFault>, NoMemory>
-    requires header { heading_of bytes.now ≡ Some (heading header.now) }
+    requires header { heading_of bytes.now ≡ Some (heading_in header.now) }
     requires function { header.now.function ≡ 1 }
-    ensures { IfOk result (λ read. MatchResult read (IsAsked (heading header.now) bytes.now) (IsUnread bytes.now)) }
+    ensures { IfOk result (λ read. MatchResult read (IsAsked (heading_in header.now) bytes.now) (IsUnread bytes.now)) }
 {
     match read_service_request(header, bytes) {
         Ok(request) => Ok(Ok(question_in(alloc, header, &request)?)),
@@ -51,7 +51,7 @@ fn question_in(
     header: &HeaderView<'_>,
     request: &ServiceRequestView<'_>,
 ) -> Result<Question, NoMemory>
-    ensures { IfOk result (λ q. q ≡ question_of (kept_header (heading header.now)) (request_in request.now)) }
+    ensures { IfOk result (λ q. q ≡ question_of (kept_header (heading_in header.now)) (request_in request.now)) }
 {
     let kind = read_kind(alloc, request.kind)?;
     if is_odd(header, request) || is_agent(kind.as_ref()) {
@@ -79,7 +79,7 @@ fn question_in(
 
 // Whether a request is sent to many, or names responders or has a predicate.
 fn is_odd(header: &HeaderView<'_>, request: &ServiceRequestView<'_>) -> bool
-    ensures { result ≡ (has_flag MULTICAST header.now.flags || not (length request.now.responders.now == 0) || not (is_blank_text request.now.predicate.now)) }
+    ensures { result ≡ (has_flag MULTICAST header.now.flags || not (length request.now.responders.now == 0) || not (spec.is_blank request.now.predicate.now)) }
 {
     header.flags & flag::MULTICAST != 0
         || !request.responders.is_empty()

@@ -1,7 +1,7 @@
 ghost use Rattle.std.specs.Prelude.{◌≡◌, true, IfOk, MatchResult, Some};
-ghost use Rattle.slp_headers.specs.Headers.{heading, heading_of};
+ghost use Rattle.slp_headers.specs.Headers.{heading_in, heading_of};
 ghost use Rattle.slp_messages.specs.Views.{message_in};
-ghost use Rattle.directory_answers.specs.Answering.{is_change_of};
+ghost use Rattle.directory_answers.specs.Answers.{is_change_of};
 ghost use Rattle.directory_answers.specs.Readings.{IsRead, IsUnread};
 
 use slp_text::NoMemory;
@@ -25,7 +25,7 @@ pub fn asked_change<'a>(
     header: &HeaderView<'a>,
     bytes: &'a [u8],
 ) -> Result<Result<ChangeView<'a>, WireFault>, NoMemory>
-    requires header { heading_of bytes.now ≡ Some (heading header.now) }
+    requires header { heading_of bytes.now ≡ Some (heading_in header.now) }
     requires change { is_change_of bytes.now ≡ true }
     ensures { IfOk result (λ read. MatchResult read (λ change. IsRead bytes.now (message_in change)) (IsUnread bytes.now)) }
 {

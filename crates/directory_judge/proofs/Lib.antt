@@ -1,6 +1,6 @@
-pub mod Concerned
+pub mod ConcernedEntries
 pub mod Denials
+pub mod LanguageWalks
 pub mod Maps
 pub mod Rulings
 pub mod Steps
-pub mod Walks

@@ -6,17 +6,17 @@ use Rattle.std.specs.Ordering.{eq_by_cmp}
 use Rattle.std.specs.Cmp.{eq_by_cmp_equiv}
 use Rattle.std.specs.FinMap as fin
 use Rattle.registry_core.specs.declared.entry.Entry.{Entry}
-use Rattle.registry_core.specs.Entries.{Pair, Entries, pair_cmp, kept, passing}
-use Rattle.registry_core.proofs.Lists.{pair_total, cmp-pair_eq, pair_eq-true, get-passing}
+use Rattle.registry_core.specs.Entries.{Pair, Entries, pair_cmp, if_kept, passing_entries}
+use Rattle.registry_core.proofs.Lists.{pair_total, cmp-pair_eq, pair_eq-true, get-passing_entries}
 
 -- ---- what is kept of an entry that may be there
 
-pub kept-some : (p : Entry → Bool) (o : Option Entry) (e : Entry) → kept p o ≡ Some e → (o ≡ Some e) × (p e ≡ true)
-kept-some p None e h = absurd (none-some _ h)
-kept-some p (Some x) e h = let k = cond_some (p x) x e h in (ap Some k.1, ap p (sym k.1) ∙ k.0)
+pub if_kept-some : (p : Entry → Bool) (o : Option Entry) (e : Entry) → if_kept p o ≡ Some e → (o ≡ Some e) × (p e ≡ true)
+if_kept-some p None e h = absurd (none-some _ h)
+if_kept-some p (Some x) e h = let k = cond_some (p x) x e h in (ap Some k.1, ap p (sym k.1) ∙ k.0)
 
-pub some-kept : (p : Entry → Bool) (o : Option Entry) (e : Entry) → o ≡ Some e → p e ≡ true → kept p o ≡ Some e
-some-kept p o e is t = ap (kept p) is ∙ ap (λ b. cond b (Some e) None) t
+pub some-if_kept : (p : Entry → Bool) (o : Option Entry) (e : Entry) → o ≡ Some e → p e ≡ true → if_kept p o ≡ Some e
+some-if_kept p o e is t = ap (if_kept p) is ∙ ap (λ b. cond b (Some e) None) t
 
 -- ---- how many entries a part of a map has
 
@@ -77,8 +77,8 @@ len-below (suc n) a b size part =
 pub len-part : (a b : Entries) → IsPart a b → fin.len a ≤ fin.len b
 len-part a b part = len-below (fin.len a) a b refl part
 
-IsPart-passing : (p : Entry → Bool) (m : Entries) → IsPart (passing p m) m
-IsPart-passing p m q e is = (kept-some p (fin.get m q) e (sym (get-passing p m q) ∙ is)).0
+IsPart-passing_entries : (p : Entry → Bool) (m : Entries) → IsPart (passing_entries p m) m
+IsPart-passing_entries p m q e is = (if_kept-some p (fin.get m q) e (sym (get-passing_entries p m q) ∙ is)).0
 
-pub len-passing : (p : Entry → Bool) (m : Entries) → fin.len (passing p m) ≤ fin.len m
-len-passing p m = len-part (passing p m) m (IsPart-passing p m)
+pub len-passing_entries : (p : Entry → Bool) (m : Entries) → fin.len (passing_entries p m) ≤ fin.len m
+len-passing_entries p m = len-part (passing_entries p m) m (IsPart-passing_entries p m)

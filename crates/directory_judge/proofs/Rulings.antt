@@ -7,7 +7,7 @@ use Rattle.std.specs.Ordering.{match_ordering}
 use Rattle.std.specs.declared.cmp.Ordering.TheVariants.{Less, Equal, Greater}
 use Rattle.std.proofs.lemmas.List.{drop_all}
 use Rattle.std.proofs.lemmas.Option.{none-some, same_Some}
-use Rattle.directory_judge.proofs.Concerned.{or_true}
+use Rattle.directory_judge.proofs.ConcernedEntries.{or_true}
 use Rattle.slp_text.specs.Words.{bytes_cmp, texts_eq}
 use Rattle.access_rules.specs.declared.rule.Action.{Action}
 use Rattle.access_rules.specs.declared.rule.Action.TheVariants.{Withdraw}
@@ -15,13 +15,13 @@ use Rattle.access_rules.specs.Deciding.{SiteRules, deciding}
 use Rattle.access_rules.specs.declared.rules.Verdict.{Verdict}
 use Rattle.registry_core.specs.declared.entry.Entry.{Entry}
 use Rattle.registry_core.specs.Entries.{outlives}
-use Rattle.directory_judge.specs.Judging.{Grounds, because_in, by_rule, decider_of, denial_of, earlier, is_denied, is_kept, ruled, ruling_in}
-use Rattle.directory_judge.specs.Walking.{earlier_ruled, entry_in, with_ruled, taken_in, IsRuled, IsDenied, IsRuledWalk, IsVisit}
+use Rattle.directory_judge.specs.Judgements.{Grounds, because_in, by_rule, decider_of, denial_of, earlier_entry, is_denied, is_kept, ruling_on, ruling_in}
+use Rattle.directory_judge.specs.Walks.{earlier_ruling, entry_in, walk_with, first_with, IsRuling, IsDenial, IsRuledWalk, IsVisit}
 use Rattle.directory_judge.proofs.Denials.{find-drop, get-front}
-use Rattle.directory_judge.specs.declared.because.Because.{Because}
+use Rattle.directory_judge.specs.declared.reason.Because.{Because}
 use Rattle.directory_judge.specs.declared.ruling.Ruling.{Ruling}
-use Rattle.directory_judge.specs.declared.withdrawing.Ruled.{Ruled}
-use Rattle.directory_judge.specs.declared.withdrawing.Walk.{Walk}
+use Rattle.directory_judge.specs.declared.withdrawals.RuledEntry.{RuledEntry}
+use Rattle.directory_judge.specs.declared.withdrawals.Walk.{Walk}
 
 pub not-true : (b : Bool) → not b ≡ true → b ≡ false
 not-true true h = cc
@@ -77,27 +77,27 @@ module _ (by : List ℕ → Because) where
   either-none None None is = (refl, refl)
 
 module _ (rules : SiteRules) (asker : ℕ) (action : Action) (kind : List ℕ) (scopes : List (List ℕ)) where
-  pub ruled-none : ruled rules asker action kind scopes ≡ None → (denial_of rules asker action kind scopes ≡ None) × (slice_get scopes 0 ≡ None)
+  pub ruling-none : ruling_on rules asker action kind scopes ≡ None → (denial_of rules asker action kind scopes ≡ None) × (slice_get scopes 0 ≡ None)
   unfolding either
-  ruled-none is = either-none (by_rule rules asker action kind) (denial_of rules asker action kind scopes) (slice_get scopes 0) is
+  ruling-none is = either-none (by_rule rules asker action kind) (denial_of rules asker action kind scopes) (slice_get scopes 0) is
 
-  module _ (r : Ruling) (is : ruled rules asker action kind scopes ≡ Some (ruling_in r)) where
-    pub ruled-denied : r.verdict.allow ≡ false → denial_of rules asker action kind scopes ≡ Some (because_in r)
+  module _ (r : Ruling) (is : ruling_on rules asker action kind scopes ≡ Some (ruling_in r)) where
+    pub ruling-denied : r.verdict.allow ≡ false → denial_of rules asker action kind scopes ≡ Some (because_in r)
     unfolding either
-    ruled-denied h =
+    ruling-denied h =
         either-denied (by_rule rules asker action kind) (denial_of rules asker action kind scopes) (slice_get scopes 0) (ruling_in r) is (allows_of-ruling r ∙ h) ∙ ap Some (because_of-ruling r)
 
-    pub ruled-allowed : r.verdict.allow ≡ true → denial_of rules asker action kind scopes ≡ None
+    pub ruling-allowed : r.verdict.allow ≡ true → denial_of rules asker action kind scopes ≡ None
     unfolding either
-    ruled-allowed h = either-allowed (by_rule rules asker action kind) (denial_of rules asker action kind scopes) (slice_get scopes 0) (ruling_in r) is (allows_of-ruling r ∙ h)
+    ruling-allowed h = either-allowed (by_rule rules asker action kind) (denial_of rules asker action kind scopes) (slice_get scopes 0) (ruling_in r) is (allows_of-ruling r ∙ h)
 
-    pub ruled-first : denial_of rules asker action kind scopes ≡ None → because_in r ≡ by_rule rules asker action kind (unwrap_or (slice_get scopes 0) [])
+    pub ruling-first : denial_of rules asker action kind scopes ≡ None → because_in r ≡ by_rule rules asker action kind (unwrap_or (slice_get scopes 0) [])
     unfolding either
-    ruled-first none = sym (because_of-ruling r) ∙ either-first (by_rule rules asker action kind) (denial_of rules asker action kind scopes) (slice_get scopes 0) (ruling_in r) is none
+    ruling-first none = sym (because_of-ruling r) ∙ either-first (by_rule rules asker action kind) (denial_of rules asker action kind scopes) (slice_get scopes 0) (ruling_in r) is none
 
-pub ruled-some : (rules : SiteRules) (asker : ℕ) (action : Action) (kind : List ℕ) (scopes : List (List ℕ)) (x : Result Because Because) → ruled rules asker action kind scopes ≡ Some x → 0 < length scopes
-ruled-some rules asker action kind [] x is = absurd (none-some x is)
-ruled-some rules asker action kind (s ∷ ss) x is = omega arith
+pub ruling_on-some : (rules : SiteRules) (asker : ℕ) (action : Action) (kind : List ℕ) (scopes : List (List ℕ)) (x : Result Because Because) → ruling_on rules asker action kind scopes ≡ Some x → 0 < length scopes
+ruling_on-some rules asker action kind [] x is = absurd (none-some x is)
+ruling_on-some rules asker action kind (s ∷ ss) x is = omega arith
 
 pub no-scopes : (scopes : List (List ℕ)) → slice_get scopes 0 ≡ None → length scopes ≡ 0
 no-scopes [] is = refl
@@ -119,7 +119,7 @@ or-some None r x = refl
 or-some (Some f) r x = refl
 
 module _ (rules : SiteRules) (asker : ℕ) (action : Action) (kind : List ℕ) (scopes : List (List ℕ)) (first : Option Ruling) (place : ℕ) (so_far : IsAsked rules asker action kind scopes first place) where
-  pub ruled-all : length scopes ≤ place → option_map ruling_in first ≡ ruled rules asker action kind scopes
+  pub ruled-all : length scopes ≤ place → option_map ruling_in first ≡ ruling_on rules asker action kind scopes
   ruled-all all =
       let none : drop place scopes ≡ [] = drop_all place scopes all in
       sym (or-none (option_map ruling_in first)) ∙ ap (λ xs. option_or (option_map ruling_in first) (option_map (λ s. Ok (by_rule rules asker action kind s)) (slice_get xs 0))) (sym none) ∙ so_far.first
@@ -130,7 +130,7 @@ module _ (rules : SiteRules) (asker : ℕ) (action : Action) (kind : List ℕ) (
     by-ruling : because_in r ≡ by_rule rules asker action kind r.scope.now
     by-ruling = λ i. record { decider = decider_of (decided i); kind = Some (of_kind i); scope = Some r.scope.now }
 
-    pub ruled-here : r.verdict.allow ≡ false → Some (ruling_in r) ≡ ruled rules asker action kind scopes
+    pub ruled-here : r.verdict.allow ≡ false → Some (ruling_in r) ≡ ruling_on rules asker action kind scopes
     ruled-here h =
         let found : find (is_denied rules asker action kind) scopes ≡ Some r.scope.now =
         so_far.denied ∙ find-drop (is_denied rules asker action kind) scopes place r.scope.now there
@@ -171,35 +171,35 @@ pub not-kept : (rules : SiteRules) (asker : ℕ) (e : Entry) → is_kept rules a
 not-kept rules asker e h = none-of (denial_of rules asker Withdraw e.kind e.scopes) (sym (is_kept-denial rules asker e) ∙ h)
 
 -- an entry's ruling says whether it may be withdrawn
-kept-ruled : (g : Grounds) (r : Ruled) → IsRuled g r → is_kept g.rules g.asker (entry_in r) ≡ not r.ruling.verdict.allow
-kept-ruled g r is =
+kept-ruling_on : (g : Grounds) (r : RuledEntry) → IsRuling g r → is_kept g.rules g.asker (entry_in r) ≡ not r.ruling.verdict.allow
+kept-ruling_on g r is =
     is_kept-denial g.rules g.asker (entry_in r)
     ∙ (elim (r.ruling.verdict.allow) as (λ b. r.ruling.verdict.allow ≡ b → is_some (denial_of g.rules g.asker Withdraw (entry_in r).kind (entry_in r).scopes) ≡ not b) [
-      | true ↦ λ t. ap is_some (ruled-allowed g.rules g.asker Withdraw (entry_in r).kind (entry_in r).scopes r.ruling is t)
-      | false ↦ λ t. ap is_some (ruled-denied g.rules g.asker Withdraw (entry_in r).kind (entry_in r).scopes r.ruling is t)
+      | true ↦ λ t. ap is_some (ruling-allowed g.rules g.asker Withdraw (entry_in r).kind (entry_in r).scopes r.ruling is t)
+      | false ↦ λ t. ap is_some (ruling-denied g.rules g.asker Withdraw (entry_in r).kind (entry_in r).scopes r.ruling is t)
     ] refl)
 
 -- ---- a walk with one more
 
-earlier-entry : (o : Option Ruled) (r : Ruled) → entry_in (earlier_ruled o r) ≡ earlier (option_map entry_in o) (entry_in r)
-earlier-entry None r = refl
-earlier-entry (Some f) r = elim (bytes_cmp r.entry.now.language f.entry.now.language) as (λ c. entry_in (match_ordering c r f f) ≡ match_ordering c (entry_in r) (entry_in f) (entry_in f)) [
+earlier_entry-entry : (o : Option RuledEntry) (r : RuledEntry) → entry_in (earlier_ruling o r) ≡ earlier_entry (option_map entry_in o) (entry_in r)
+earlier_entry-entry None r = refl
+earlier_entry-entry (Some f) r = elim (bytes_cmp r.entry.now.language f.entry.now.language) as (λ c. entry_in (match_ordering c r f f) ≡ match_ordering c (entry_in r) (entry_in f) (entry_in f)) [
   | Less ↦ refl
   | Equal ↦ refl
   | Greater ↦ refl
 ]
 
-earlier-meets : (P : Ruled → Type 0) (o : Option Ruled) (r : Ruled) → IfSome o P → P r → P (earlier_ruled o r)
-earlier-meets P None r h k = k
-earlier-meets P (Some f) r h k = elim (bytes_cmp r.entry.now.language f.entry.now.language) as (λ c. P (match_ordering c r f f)) [ Less ↦ k | Equal ↦ h | Greater ↦ h ]
+earlier_entry-meets : (P : RuledEntry → Type 0) (o : Option RuledEntry) (r : RuledEntry) → IfSome o P → P r → P (earlier_ruling o r)
+earlier_entry-meets P None r h k = k
+earlier_entry-meets P (Some f) r h k = elim (bytes_cmp r.entry.now.language f.entry.now.language) as (λ c. P (match_ordering c r f f)) [ Less ↦ k | Equal ↦ h | Greater ↦ h ]
 
 or_false : (b : Bool) → (b || false) ≡ b
 or_false true = refl
 or_false false = refl
 
-kept-taken : (allow : Bool) (o : Option Ruled) (r : Ruled) → option_map entry_in (cond allow o (Some (earlier_ruled o r))) ≡ taken_in (not allow) (option_map entry_in o) (entry_in r)
-kept-taken true o r = refl
-kept-taken false o r = ap Some (earlier-entry o r)
+kept-first : (allow : Bool) (o : Option RuledEntry) (r : RuledEntry) → option_map entry_in (cond allow o (Some (earlier_ruling o r))) ≡ first_with (not allow) (option_map entry_in o) (entry_in r)
+kept-first true o r = refl
+kept-first false o r = ap Some (earlier_entry-entry o r)
 
 abbrev alive : Walk → Walk
 alive walk = record { is_live = true; first = walk.first; kept = walk.kept }
@@ -208,32 +208,32 @@ module _ (g : Grounds) (scopes : List (List ℕ)) (walk : Walk) where
   pub IsVisit-dead : (e : Entry) → outlives g.now e ≡ false → IsVisit g scopes e walk walk
   IsVisit-dead e dead = record {
     is_live = sym (ap (λ b. walk.is_live || b) dead ∙ or_false walk.is_live);
-    first = ap (λ b. taken_in (b && texts_eq e.scopes scopes) (option_map entry_in walk.first) e) (sym dead);
-    kept = ap (λ b. taken_in (b && texts_eq e.scopes scopes && is_kept g.rules g.asker e) (option_map entry_in walk.kept) e) (sym dead);
+    first = ap (λ b. first_with (b && texts_eq e.scopes scopes) (option_map entry_in walk.first) e) (sym dead);
+    kept = ap (λ b. first_with (b && texts_eq e.scopes scopes && is_kept g.rules g.asker e) (option_map entry_in walk.kept) e) (sym dead);
   }
 
   pub IsVisit-other : (e : Entry) → outlives g.now e ≡ true → texts_eq e.scopes scopes ≡ false → IsVisit g scopes e walk (alive walk)
   IsVisit-other e lives other = record {
     is_live = sym (ap (λ b. walk.is_live || b) lives ∙ or_true walk.is_live);
-    first = ap₂ (λ b c. taken_in (b && c) (option_map entry_in walk.first) e) (sym lives) (sym other);
-    kept = ap₂ (λ b c. taken_in (b && c && is_kept g.rules g.asker e) (option_map entry_in walk.kept) e) (sym lives) (sym other);
+    first = ap₂ (λ b c. first_with (b && c) (option_map entry_in walk.first) e) (sym lives) (sym other);
+    kept = ap₂ (λ b c. first_with (b && c && is_kept g.rules g.asker e) (option_map entry_in walk.kept) e) (sym lives) (sym other);
   }
 
-  module _ (r : Ruled) (is : IsRuled g r) where
-    pub IsVisit-with : outlives g.now (entry_in r) ≡ true → texts_eq (entry_in r).scopes scopes ≡ true → IsVisit g scopes (entry_in r) walk (with_ruled (alive walk) r)
+  module _ (r : RuledEntry) (is : IsRuling g r) where
+    pub IsVisit-with : outlives g.now (entry_in r) ≡ true → texts_eq (entry_in r).scopes scopes ≡ true → IsVisit g scopes (entry_in r) walk (walk_with (alive walk) r)
     IsVisit-with lives same = record {
       is_live = sym (ap (λ b. walk.is_live || b) lives ∙ or_true walk.is_live);
-      first = ap Some (earlier-entry walk.first r) ∙ ap₂ (λ b c. taken_in (b && c) (option_map entry_in walk.first) (entry_in r)) (sym lives) (sym same);
+      first = ap Some (earlier_entry-entry walk.first r) ∙ ap₂ (λ b c. first_with (b && c) (option_map entry_in walk.first) (entry_in r)) (sym lives) (sym same);
       kept =
-          kept-taken r.ruling.verdict.allow walk.kept r ∙ ap (λ b. taken_in b (option_map entry_in walk.kept) (entry_in r)) (sym (kept-ruled g r is))
-          ∙ ap₂ (λ b c. taken_in (b && c && is_kept g.rules g.asker (entry_in r)) (option_map entry_in walk.kept) (entry_in r)) (sym lives) (sym same);
+          kept-first r.ruling.verdict.allow walk.kept r ∙ ap (λ b. first_with b (option_map entry_in walk.kept) (entry_in r)) (sym (kept-ruling_on g r is))
+          ∙ ap₂ (λ b c. first_with (b && c && is_kept g.rules g.asker (entry_in r)) (option_map entry_in walk.kept) (entry_in r)) (sym lives) (sym same);
     }
 
-    pub IsRuledWalk-with : IsRuledWalk g walk → IsRuledWalk g (with_ruled (alive walk) r)
-    IsRuledWalk-with ruled = record {
-      first = earlier-meets (IsRuled g) walk.first r ruled.first is;
-      kept = elim (r.ruling.verdict.allow) as (λ b. r.ruling.verdict.allow ≡ b → IfSome (cond b walk.kept (Some (earlier_ruled walk.kept r))) (IsDenied g)) [
-        | true ↦ λ t. ruled.kept
-        | false ↦ λ t. earlier-meets (IsDenied g) walk.kept r ruled.kept (ruled-denied g.rules g.asker Withdraw (entry_in r).kind (entry_in r).scopes r.ruling is t)
+    pub IsRuledWalk-with : IsRuledWalk g walk → IsRuledWalk g (walk_with (alive walk) r)
+    IsRuledWalk-with ruling_on = record {
+      first = earlier_entry-meets (IsRuling g) walk.first r ruling_on.first is;
+      kept = elim (r.ruling.verdict.allow) as (λ b. r.ruling.verdict.allow ≡ b → IfSome (cond b walk.kept (Some (earlier_ruling walk.kept r))) (IsDenial g)) [
+        | true ↦ λ t. ruling_on.kept
+        | false ↦ λ t. earlier_entry-meets (IsDenial g) walk.kept r ruling_on.kept (ruling-denied g.rules g.asker Withdraw (entry_in r).kind (entry_in r).scopes r.ruling is t)
       ] refl;
     }

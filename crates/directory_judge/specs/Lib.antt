@@ -1,8 +1,8 @@
 pub mod Attributes
+pub mod Contents
 pub mod History
-pub mod Judging
-pub mod Making
+pub mod Judgements
 pub mod Meaning
 pub mod Sites
-pub mod Walking
-pub mod Withdrawing
+pub mod Walks
+pub mod Withdrawals

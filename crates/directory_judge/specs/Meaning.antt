@@ -10,16 +10,16 @@ use Rattle.registry_core.specs.Entries.{Pair, Entries, pair_of, pair_eq}
 use Rattle.directory_judge.specs.Attributes.{Held}
 use Rattle.directory_judge.specs.History.{Putting, Put, Set, Remove, Withdraw, Sweep, Reload, Event, History, now, last_that}
 
-abbrev pub only : {A : Type 0} → Bool → Option A → Option A
-only true o = o
-only false o = None
+abbrev pub if_true : {A : Type 0} → Bool → Option A → Option A
+if_true true o = o
+if_true false o = None
 
 -- ---- what one event says
 
 -- the registration of a pair that it is
 abbrev pub put_of : Pair → Event → Option Putting
 put_of q c = elim c.act [
-  | Put p ↦ only (pair_eq (p.url, p.language) q) (Some p)
+  | Put p ↦ if_true (pair_eq (p.url, p.language) q) (Some p)
   | Set s ↦ None
   | Remove r ↦ None
   | Withdraw w ↦ None
@@ -41,8 +41,8 @@ withdraws p c = elim c.act [
 -- the deadline of a pair that it sets
 abbrev pub deadline_of : Pair → Event → Option ℕ
 deadline_of q c = elim c.act [
-  | Put p ↦ only (pair_eq (p.url, p.language) q) (Some (c.moment + p.lifetime))
-  | Set s ↦ only (pair_eq (s.url, s.language) q) (Some (c.moment + s.lifetime))
+  | Put p ↦ if_true (pair_eq (p.url, p.language) q) (Some (c.moment + p.lifetime))
+  | Set s ↦ if_true (pair_eq (s.url, s.language) q) (Some (c.moment + s.lifetime))
   | Remove r ↦ None
   | Withdraw w ↦ None
   | Sweep ↦ None
@@ -52,9 +52,9 @@ deadline_of q c = elim c.act [
 -- What it says of a pair's tag: Some of what it gives it, where None is absence. A registration speaks of each tag.
 abbrev pub held_of : Pair → List ℕ → Event → Option (Option Held)
 held_of q tag c = elim c.act [
-  | Put p ↦ only (pair_eq (p.url, p.language) q) (Some (fin.get p.attributes tag))
-  | Set s ↦ only (pair_eq (s.url, s.language) q && is_some (fin.get s.attributes tag)) (Some (fin.get s.attributes tag))
-  | Remove r ↦ only (pair_eq (r.url, r.language) q && selects r.tags tag) (Some None)
+  | Put p ↦ if_true (pair_eq (p.url, p.language) q) (Some (fin.get p.attributes tag))
+  | Set s ↦ if_true (pair_eq (s.url, s.language) q && is_some (fin.get s.attributes tag)) (Some (fin.get s.attributes tag))
+  | Remove r ↦ if_true (pair_eq (r.url, r.language) q && selects r.tags tag) (Some None)
   | Withdraw w ↦ None
   | Sweep ↦ None
   | Reload rs ↦ None

@@ -1,7 +1,7 @@
 ghost use Rattle.std.specs.Prelude.{◌≡◌, nat_le};
 ghost use Rattle.std.specs.Option.{option_copied, option_map};
 ghost use Rattle.std.specs.FinMap as fin;
-ghost use Rattle.directory_judge.specs.Judging.{ruled, ruling_in};
+ghost use Rattle.directory_judge.specs.Judgements.{ruling_on, ruling_in};
 
 use crate::ruling::Ruling;
 use crate::site::Site;
@@ -23,14 +23,15 @@ pub struct Grounds<'a, R: Registry> {
 }
 
 impl<'a, R: Registry> Model for Grounds<'a, R> {
-    ghost use Rattle.registry_core.specs.Entries.{outlives, passing};
-    ghost use Rattle.directory_judge.specs.Judging.{Grounds as Shown, grounds_code};
+    ghost use Rattle.registry_core.specs.Entries.{outlives, passing_entries};
+    ghost use Rattle.directory_judge.specs.Judgements as spec;
+    ghost use Rattle.directory_judge.specs.Judgements.{grounds_code};
 
-    ghost Value = { Shown };
+    ghost Value = { spec.Grounds };
 
     ghost coded = { grounds_code };
 
-    ghost view = { λ g. record { rules = g.rules.now; site = g.site.now; live = passing (outlives g.moment) (R.contents g.registry.now); now = g.moment; asker = g.asker } };
+    ghost view = { λ g. record { rules = g.rules.now; site = g.site.now; live = passing_entries (outlives g.moment) (R.contents g.registry.now); now = g.moment; asker = g.asker } };
 }
 
 impl<'a, R: Registry> Grounds<'a, R> {
@@ -43,7 +44,7 @@ impl<'a, R: Registry> Grounds<'a, R> {
         kind: &'b ServiceType,
         scopes: &'b ScopeList,
     ) -> Option<Ruling<'b>>
-        ensures { option_map ruling_in result ≡ ruled self.now.rules self.now.asker action kind.now scopes.now }
+        ensures { option_map ruling_in result ≡ ruling_on self.now.rules self.now.asker action kind.now scopes.now }
     {
         let mut first = None;
         for place in 0..scopes.len() {

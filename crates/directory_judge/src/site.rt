@@ -1,5 +1,5 @@
 ghost use Rattle.std.specs.Prelude.{◌≡◌, ◌<◌, ◌≤◌, length, IfOk};
-ghost use Rattle.slp_text.specs.Scopes.{printed};
+ghost use Rattle.slp_text.specs.Scopes.{printed_scopes};
 
 use slp_text::{NoMemory, ScopeList};
 use std::alloc::Global;
@@ -15,26 +15,26 @@ pub struct Site {
 }
 
 impl Model for Site {
-    ghost use Rattle.directory_judge.specs.Sites.{Place, place_code, IsPlace};
+    ghost use Rattle.directory_judge.specs.Sites as spec;
 
-    ghost Value = { Place };
+    ghost Value = { spec.Site };
 
-    ghost coded = { place_code };
+    ghost coded = { spec.site_code };
 
     ghost view = { λ s. record { scopes = s.scopes; capacity = s.capacity; boot = s.boot } };
 
-    ghost invariant = { λ s. IsPlace s.scopes s.capacity };
+    ghost invariant = { λ s. spec.IsSite s.scopes s.capacity };
 }
 
 impl Site {
-    ghost use Rattle.directory_judge.specs.Sites.{IsPlace};
+    ghost use Rattle.directory_judge.specs.Sites.{IsSite};
 
     /// A site of 1 to 16 scopes, which have at most 1,024 bytes as a list, and 1 to 65,536 entries. The
     /// boot stamp is in seconds since 1970.
     pub fn new(scopes: ScopeList, capacity: usize, boot: u32) -> Site
         requires some_scope { 0 < length scopes }
         requires few_scopes { length scopes ≤ 16 }
-        requires short_scopes { length (printed scopes) ≤ 1024 }
+        requires short_scopes { length (printed_scopes scopes) ≤ 1024 }
         requires some_entry { 0 < capacity }
         requires few_entries { capacity ≤ 65536 }
         ensures { result ≡ record { scopes = scopes; capacity = capacity; boot = boot } }
@@ -61,7 +61,7 @@ impl Site {
     /// The scopes that are supported.
     pub fn scopes(&self) -> &ScopeList
         ensures value { result.now ≡ self.now.scopes }
-        ensures limits { IsPlace self.now.scopes self.now.capacity }
+        ensures limits { IsSite self.now.scopes self.now.capacity }
     {
         &self.scopes
     }
@@ -69,7 +69,7 @@ impl Site {
     /// The greatest number of entries.
     pub fn capacity(&self) -> usize
         ensures value { result ≡ self.now.capacity }
-        ensures limits { IsPlace self.now.scopes self.now.capacity }
+        ensures limits { IsSite self.now.scopes self.now.capacity }
     {
         self.capacity
     }

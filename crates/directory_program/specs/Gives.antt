@@ -1,14 +1,15 @@
 -- What a run promises of what it read and wrote.
 use Rattle.std.specs.Prelude.{◌⊎◌, ℕ, List, ◌++◌, Option, IfSome, Result, MatchResult, ⊤}
 use Rattle.std.specs.Io.KnownBytes.{Appends, Consumes, IsAtEnd}
-use Rattle.directory_program.specs.Running.{Run, RunsUpTo, RunsPart, RunsWhole}
+use Rattle.directory_program.specs.Worlds.{Run, RunsUpTo, RunsPart, RunsWhole}
 use Rattle.directory_program.specs.declared.fault.RunFault.{RunFault}
-use Rattle.directory_program.specs.declared.fault.RunFault.TheVariants.{Read, Write, Line as AtLine, NoMemory}
+use Rattle.directory_program.specs.declared.fault.RunFault.TheVariants as fault
+use Rattle.directory_program.specs.declared.fault.RunFault.TheVariants.{Read, Write, NoMemory}
 
 -- r and r' are what the reader has left before and after, w and w' what the writer holds
 abbrev pub FaultGives : Option (List ℕ) → Option (List ℕ) → Option (List ℕ) → Option (List ℕ) → RunFault → Type 0
 -- line n is the first at fault whatever follows, or all was read
-FaultGives r r' w w' (AtLine n) = (read out : List ℕ) × Consumes r r' read × Appends w w' out × (((more : List ℕ) → RunsUpTo (read ++ more) n out) ⊎ (IsAtEnd r' × RunsUpTo read n out))
+FaultGives r r' w w' (fault.Line n) = (read out : List ℕ) × Consumes r r' read × Appends w w' out × (((more : List ℕ) → RunsUpTo (read ++ more) n out) ⊎ (IsAtEnd r' × RunsUpTo read n out))
 FaultGives r r' w w' Read = (read out : List ℕ) × Consumes r r' read × Appends w w' out × RunsWhole read out
 FaultGives r r' w w' NoMemory = (read out : List ℕ) × Consumes r r' read × Appends w w' out × RunsPart read out
 FaultGives r r' w w' Write = ⊤
@@ -22,7 +23,7 @@ Gives r r' w w' result = MatchResult result (λ _. Whole r r' w w') (FaultGives 
 
 -- Where it is known what the reader has, that is the script: what a run of it promises.
 abbrev pub KnownFault : List ℕ → Option (List ℕ) → Option (List ℕ) → RunFault → Type 0
-KnownFault script w w' (AtLine n) = (out : List ℕ) × Appends w w' out × RunsUpTo script n out
+KnownFault script w w' (fault.Line n) = (out : List ℕ) × Appends w w' out × RunsUpTo script n out
 KnownFault script w w' Read = ⊤
 KnownFault script w w' Write = ⊤
 KnownFault script w w' NoMemory = ⊤

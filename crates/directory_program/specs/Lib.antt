@@ -1,8 +1,8 @@
-pub mod Feeding
 pub mod Gives
-pub mod Holding
 pub mod Opening
-pub mod Reporting
-pub mod Running
+pub mod Reads
+pub mod Reports
+pub mod Sessions
 pub mod Sites
-pub mod Standing
+pub mod Turns
+pub mod Worlds

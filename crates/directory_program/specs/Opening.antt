@@ -1,15 +1,15 @@
 -- The setup with which a run begins.
 use Rattle.std.specs.Prelude.{false}
 use Rattle.access_rules.specs.Opening.{opening_rules}
-use Rattle.directory_state.specs.State.{beginning}
-use Rattle.directory_program.specs.Running.{new_stream, opening_listen}
+use Rattle.directory_state.specs.State.{opening_state}
+use Rattle.directory_program.specs.Worlds.{new_stream, opening_listen}
 use Rattle.directory_program.specs.Sites.{first_site}
 use Rattle.directory_program.specs.declared.agent.Agent.{Agent}
 use Rattle.directory_program.specs.declared.session.Session.{Session}
 
 -- nothing has happened, it is moment 0, and messages come from 10.0.0.1 to the first loop
 abbrev pub opening_agent : Agent
-opening_agent = record { directory = beginning (record { rules = opening_rules; site = first_site }); listen = opening_listen; loop_index = 0; moment = 0; asker = 167772161 }
+opening_agent = record { directory = opening_state (record { rules = opening_rules; site = first_site }); listen = opening_listen; loop_index = 0; moment = 0; asker = 167772161 }
 
 -- and nothing came on the stream
 abbrev pub opening_session : Session

@@ -1,10 +1,10 @@
 ghost use Rattle.std.specs.Prelude.{◌≡◌, ◌≤◌, [], IfOk, MatchResult};
 ghost use Rattle.std.specs.Option.{option_map_or, option_copied};
 ghost use Rattle.access_rules.specs.Opening.{opening_rules};
-ghost use Rattle.directory_state.specs.Folding.{Fold};
-ghost use Rattle.directory_state.specs.State.{beginning};
-ghost use Rattle.directory_program.specs.Running.{opening_listen, site_in};
-ghost use Rattle.site_config.specs.Configuring.{config_of, IsWithin};
+ghost use Rattle.directory_state.specs.Folds.{Fold};
+ghost use Rattle.directory_state.specs.State.{opening_state};
+ghost use Rattle.directory_program.specs.Worlds.{opening_listen, site_in};
+ghost use Rattle.site_config.specs.Configurations.{config_of, IsWithin};
 ghost use Rattle.site_config.specs.declared.fault.ConfigFault.TheVariants.{Range};
 ghost use Rattle.directory_program.specs.Sites.{first_site};
 
@@ -83,7 +83,7 @@ fn site_of(config: Config) -> (Site, Row<(Addr, u16)>)
 
 // A directory to which nothing happened, with rules that allow everything to everyone.
 fn begin(alloc: Global, site: &Site) -> Result<Directory<ListRegistry>, NoMemory>
-    ensures state { IfOk result (λ d. d ≡ beginning (record { rules = opening_rules; site = site.now })) }
+    ensures state { IfOk result (λ d. d ≡ opening_state (record { rules = opening_rules; site = site.now })) }
     ensures fold { IfOk result (λ d. Fold (record { rules = opening_rules; site = site.now }) [] d) }
 {
     let rules = Arc::new(alloc, Rules::opening(alloc)?)?;
@@ -96,8 +96,8 @@ fn begin(alloc: Global, site: &Site) -> Result<Directory<ListRegistry>, NoMemory
 
 impl Agent {
     ghost use Rattle.directory_program.specs.Opening.{opening_agent};
-    ghost use Rattle.directory_program.specs.Holding.{IsAgent, Takes, ConfiguresTo};
-    ghost use Rattle.directory_program.specs.Running.{World, own_at, swept};
+    ghost use Rattle.directory_program.specs.Sessions.{IsAgent, Takes, ConfiguresTo};
+    ghost use Rattle.directory_program.specs.Worlds.{World, own_at, swept_world};
 
     /// The setup with which a run begins: the scope `DEFAULT`, room for 16 entries, and rules that
     /// allow everything to everyone.
@@ -152,7 +152,7 @@ impl Agent {
 
     /// Sweeps at the moment that was set, or at the clock where that is greater.
     pub fn tidy(&mut self)
-        ensures { (w : World) → IsAgent w self.old → IsAgent (swept w) self.new }
+        ensures { (w : World) → IsAgent w self.old → IsAgent (swept_world w) self.new }
     {
         let now = self.directory.now(self.moment);
         self.directory.apply(Change::Sweep(now));

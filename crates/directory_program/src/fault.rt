@@ -1,5 +1,5 @@
 ghost use Rattle.std.specs.Prelude.{◌≡◌};
-ghost use Rattle.directory_program.specs.declared.fault.RunFault.TheVariants.{NoMemory as Lacking};
+ghost use Rattle.directory_program.specs.declared.fault.RunFault.TheVariants as fault;
 
 use slp_text::NoMemory;
 use std::alloc::AllocError;
@@ -21,7 +21,7 @@ pub enum RunFault {
 }
 
 impl From<NoMemory> for RunFault {
-    ghost from_gives = { λ _ e. e ≡ Lacking };
+    ghost from_gives = { λ _ e. e ≡ fault.NoMemory };
 
     fn from(_e: NoMemory) -> RunFault {
         RunFault::NoMemory
@@ -29,7 +29,7 @@ impl From<NoMemory> for RunFault {
 }
 
 impl From<AllocError> for RunFault {
-    ghost from_gives = { λ _ e. e ≡ Lacking };
+    ghost from_gives = { λ _ e. e ≡ fault.NoMemory };
 
     fn from(_e: AllocError) -> RunFault {
         RunFault::NoMemory

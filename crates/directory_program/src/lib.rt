@@ -3,15 +3,15 @@
 
 mod agent;
 mod fault;
-mod feeding;
-mod meeting;
-mod printing;
+mod line_input;
+mod exchange;
+mod output;
 mod program;
 mod progress;
-mod running;
+mod replay;
 mod session;
-mod streaming;
+mod stream;
 
 pub use fault::RunFault;
 pub use program::replay_run;
-pub use running::Replay;
+pub use replay::Replay;

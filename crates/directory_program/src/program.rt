@@ -1,9 +1,9 @@
 ghost use Rattle.std.specs.Prelude.{◌≡◌, ◌<◌, ◌⊎◌, ◌++◌, ◌∷◌, [], codes, length, IfOk};
 ghost use Rattle.std.specs.Io.KnownBytes.{Appends};
-ghost use Rattle.directory_program.specs.Reporting.{Reports};
+ghost use Rattle.directory_program.specs.Reports.{Reports};
 
 use crate::fault::RunFault;
-use crate::running::Replay;
+use crate::replay::Replay;
 use std::alloc::Global;
 use std::io;
 use std::io::{Read, Write};

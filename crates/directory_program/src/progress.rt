@@ -2,16 +2,16 @@ ghost use Rattle.std.specs.Prelude.{◌≡◌, ◌≤◌, ◌<◌, ◌+◌, ◌^
 ghost use Rattle.std.specs.Io.KnownBytes.{Appends, Keeps};
 ghost use Rattle.std.specs.Option.{option_map, option_copied};
 ghost use Rattle.slp_script.specs.Commands.{longest_line, Single};
-ghost use Rattle.slp_script.specs.declared.command.Block.TheVariants.{Config as Configuration};
-ghost use Rattle.slp_script.specs.declared.command.Order.TheVariants.{Udp as Datagram, Tcp as Piece, Sweep as Sweeping};
-ghost use Rattle.directory_program.specs.Holding.{Acts, fault_told, config_told};
-ghost use Rattle.directory_program.specs.Standing.{Closes, lengthened, TurnsOutside, TurnsInside, OutsideFails, InsideFails, TurnsTo, TurnFails};
-ghost use Rattle.directory_program.specs.declared.fault.RunFault.TheVariants.{Write as Unwritten, NoMemory as Lacking};
+ghost use Rattle.slp_script.specs.declared.command.Block.TheVariants as block;
+ghost use Rattle.slp_script.specs.declared.command.Order.TheVariants as order;
+ghost use Rattle.directory_program.specs.Sessions.{Acts, config_fault_text, config_text};
+ghost use Rattle.directory_program.specs.Turns.{Closes, block_text_with, TurnsOutside, TurnsInside, OutsideFails, InsideFails, TurnsTo, TurnFails};
+ghost use Rattle.directory_program.specs.declared.fault.RunFault.TheVariants as fault;
 
 use crate::fault::RunFault;
-use crate::meeting::meet;
+use crate::exchange::meet;
 use crate::session::{LONGEST_ON_STREAM, LONGEST_REPLY, Session};
-use crate::streaming::take_piece;
+use crate::stream::take_piece;
 use access_rules::Addr;
 use site_config::{ConfigFault, LONGEST_CONFIG};
 use slp_answer::Answer;
@@ -42,7 +42,7 @@ pub struct Progress {
 
 // What is kept of a block's text with one line more.
 fn lengthen_text(text: Option<String>, line: &str) -> Result<Option<String>, NoMemory>
-    ensures { IfOk result (λ t. option_map string_bytes t ≡ lengthened (option_map string_bytes text) line.now) }
+    ensures { IfOk result (λ t. option_map string_bytes t ≡ block_text_with (option_map string_bytes text) line.now) }
 {
     let Some(mut text) = text else {
         return Ok(None);
@@ -57,7 +57,7 @@ fn lengthen_text(text: Option<String>, line: &str) -> Result<Option<String>, NoM
 
 // Writes why a configuration is refused.
 fn print_fault<W: Write>(fault: ConfigFault, writer: &mut W) -> io::Result<()>
-    ensures { OnOk result (Appends (W.contents writer.old) (W.contents writer.new) (fault_told fault)) }
+    ensures { OnOk result (Appends (W.contents writer.old) (W.contents writer.new) (config_fault_text fault)) }
 {
     match fault {
         ConfigFault::Toml => writer.write_all(b"! config 1\n"),
@@ -69,7 +69,7 @@ fn print_fault<W: Write>(fault: ConfigFault, writer: &mut W) -> io::Result<()>
 
 // Writes what came of a configuration.
 fn print_told<W: Write>(told: Result<(), ConfigFault>, writer: &mut W) -> io::Result<()>
-    ensures { OnOk result (Appends (W.contents writer.old) (W.contents writer.new) (config_told told)) }
+    ensures { OnOk result (Appends (W.contents writer.old) (W.contents writer.new) (config_text told)) }
 {
     match told {
         Ok(()) => writer.write_all(b"# config\n"),
@@ -85,8 +85,8 @@ fn close_config<W: Write>(
     writer: &mut W,
 ) -> Result<(), RunFault>
     ensures { MatchResult result
-        (λ _. (now : List ℕ) × Appends (W.contents writer.old) (W.contents writer.new) now × Closes session.old Configuration (option_copied text.entry) now session.new)
-        (λ e. (e ≡ Unwritten) ⊎ ((e ≡ Lacking) × Keeps (W.contents writer.old) (W.contents writer.new))) }
+        (λ _. (now : List ℕ) × Appends (W.contents writer.old) (W.contents writer.new) now × Closes session.old block.Config (option_copied text.entry) now session.new)
+        (λ e. (e ≡ fault.Write) ⊎ ((e ≡ fault.NoMemory) × Keeps (W.contents writer.old) (W.contents writer.new))) }
 {
     let written = if session.late {
         writer.write_all(b"! late\n")
@@ -109,7 +109,7 @@ fn close<W: Write>(
 ) -> Result<(), RunFault>
     ensures { MatchResult result
         (λ _. (now : List ℕ) × Appends (W.contents writer.old) (W.contents writer.new) now × Closes session.old block (option_copied text.entry) now session.new)
-        (λ e. (e ≡ Unwritten) ⊎ ((e ≡ Lacking) × Keeps (W.contents writer.old) (W.contents writer.new))) }
+        (λ e. (e ≡ fault.Write) ⊎ ((e ≡ fault.NoMemory) × Keeps (W.contents writer.old) (W.contents writer.new))) }
 {
     match block {
         Block::Config => close_config(session, alloc, text, writer),
@@ -125,8 +125,8 @@ fn take_datagram<W: Write>(
     writer: &mut W,
 ) -> Result<(), RunFault>
     ensures { MatchResult result
-        (λ _. (now : List ℕ) × Appends (W.contents writer.old) (W.contents writer.new) now × Acts session.old (Single (Datagram bytes)) now session.new)
-        (λ e. e ≡ Unwritten) }
+        (λ _. (now : List ℕ) × Appends (W.contents writer.old) (W.contents writer.new) now × Acts session.old (Single (order.Udp bytes)) now session.new)
+        (λ e. e ≡ fault.Write) }
 {
     session.late = true;
     meet(
@@ -148,8 +148,8 @@ fn take_stream<W: Write>(
     writer: &mut W,
 ) -> Result<(), RunFault>
     ensures { MatchResult result
-        (λ _. (now : List ℕ) × Appends (W.contents writer.old) (W.contents writer.new) now × Acts session.old (Single (Piece bytes)) now session.new)
-        (λ e. (e ≡ Unwritten) ⊎ ((e ≡ Lacking) × Keeps (W.contents writer.old) (W.contents writer.new))) }
+        (λ _. (now : List ℕ) × Appends (W.contents writer.old) (W.contents writer.new) now × Acts session.old (Single (order.Tcp bytes)) now session.new)
+        (λ e. (e ≡ fault.Write) ⊎ ((e ≡ fault.NoMemory) × Keeps (W.contents writer.old) (W.contents writer.new))) }
 {
     session.late = true;
     take_piece(session, alloc, bytes.as_slice(), answer, writer)
@@ -158,8 +158,8 @@ fn take_stream<W: Write>(
 // Drops what is dead, and says so.
 fn sweep<W: Write>(session: &mut Session, writer: &mut W) -> Result<(), RunFault>
     ensures { MatchResult result
-        (λ _. (now : List ℕ) × Appends (W.contents writer.old) (W.contents writer.new) now × Acts session.old (Single Sweeping) now session.new)
-        (λ e. e ≡ Unwritten) }
+        (λ _. (now : List ℕ) × Appends (W.contents writer.old) (W.contents writer.new) now × Acts session.old (Single order.Sweep) now session.new)
+        (λ e. e ≡ fault.Write) }
 {
     session.agent.tidy();
     session.late = true;
@@ -179,7 +179,7 @@ fn carry_out<W: Write>(
 ) -> Result<(), RunFault>
     ensures { MatchResult result
         (λ _. (now : List ℕ) × Appends (W.contents writer.old) (W.contents writer.new) now × Acts session.old (Single order) now session.new)
-        (λ e. (e ≡ Unwritten) ⊎ ((e ≡ Lacking) × Keeps (W.contents writer.old) (W.contents writer.new))) }
+        (λ e. (e ≡ fault.Write) ⊎ ((e ≡ fault.NoMemory) × Keeps (W.contents writer.old) (W.contents writer.new))) }
 {
     match order {
         Order::Blank => {}

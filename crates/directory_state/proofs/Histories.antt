@@ -9,22 +9,22 @@ use Rattle.slp_messages.specs.declared.message.Message.{Message}
 use Rattle.slp_messages.specs.declared.message.UrlEntry.{UrlEntry}
 use Rattle.directory_answers.specs.Calls.{Opening}
 use Rattle.directory_judge.specs.History.{History, Act, Event, Sweep, clock, now}
-use Rattle.directory_judge.specs.Judging.{Judgement, Accepts, Ignores, Waits, Denies, judgement}
-use Rattle.directory_judge.specs.Making.{Content}
+use Rattle.directory_judge.specs.Judgements.{Judgement, Accepts, Ignores, Waits, Denies, judgement}
+use Rattle.directory_judge.specs.Contents.{Content}
 use Rattle.directory_judge.specs.Meaning.{AreLive, Live, rules}
-use Rattle.directory_answers.specs.Asking.{AreItems}
-use Rattle.directory_state.specs.Folding.{Fold, StandFor}
-use Rattle.directory_state.specs.State.{State, after}
-use Rattle.directory_answers.specs.Verdicts.{IsAccepted, IsGrounded, IsLegal, IsVerdict, grounds, change_in, followed}
-use Rattle.directory_state.proofs.Accepting.{possible, accepted}
-use Rattle.directory_state.proofs.Folding.{AreLive-nil, AreLive-unique, Fold-made, Silent, Stands-before, Stands-after}
+use Rattle.directory_answers.specs.Items.{AreItems}
+use Rattle.directory_state.specs.Folds.{Fold, StandFor}
+use Rattle.directory_state.specs.State.{State, state_after_changes}
+use Rattle.directory_answers.specs.Verdicts.{IsAccepted, IsGrounded, IsLegal, IsVerdict, grounds, change_in, history_with}
+use Rattle.directory_state.proofs.AcceptedChanges.{possible, accepted}
+use Rattle.directory_state.proofs.Folds.{AreLive-nil, AreLive-unique, Fold-state_made, Silent, Stands-before, Stands-after}
 
-pub Fold-after : (o : Opening) (h : History) (xs : List Content) → IsLegal o h → StandFor h xs → Fold o h (after o xs)
-Fold-after o [] [] legal stand = record { entries = AreLive-nil; ruled = refl; placed = refl; clocks = refl }
-Fold-after o (c ∷ h) (x ∷ xs) legal stand =
-    Fold-made o h x c (after o xs) (Fold-after o h xs legal.2 stand.1) legal.0 (possible o h c.moment c.act legal.1) stand.0
-Fold-after o [] (x ∷ xs) legal stand = absurd stand
-Fold-after o (c ∷ h) [] legal stand = absurd stand
+pub Fold-state_after_changes : (o : Opening) (h : History) (xs : List Content) → IsLegal o h → StandFor h xs → Fold o h (state_after_changes o xs)
+Fold-state_after_changes o [] [] legal stand = record { entries = AreLive-nil; ruled = refl; placed = refl; clocks = refl }
+Fold-state_after_changes o (c ∷ h) (x ∷ xs) legal stand =
+    Fold-state_made o h x c (state_after_changes o xs) (Fold-state_after_changes o h xs legal.2 stand.1) legal.0 (possible o h c.moment c.act legal.1) stand.0
+Fold-state_after_changes o [] (x ∷ xs) legal stand = absurd stand
+Fold-state_after_changes o (c ∷ h) [] legal stand = absurd stand
 
 pub at_pair : (o : Opening) (h : History) (s : State) (q : Pair) (e : Entry) → Fold o h s → fin.get s.entries q ≡ Some e → (pair_of e ≡ q) × (clock h < e.deadline)
 at_pair o h s q e fold there = let l = (fold.entries q e).0 there in (l.0, omega (arith, l.1.lasts))
@@ -50,7 +50,7 @@ legal_after o h m c act event legal grounded is =
       legal,
     )
 
-pub legal_next : (o : Opening) (h : History) (m asker : ℕ) (sent : Message) (v : Judgement) → IsLegal o h → IsMessage sent → IsVerdict o h m asker sent v → IsLegal o (followed (change_in v) h)
+pub legal_next : (o : Opening) (h : History) (m asker : ℕ) (sent : Message) (v : Judgement) → IsLegal o h → IsMessage sent → IsVerdict o h m asker sent v → IsLegal o (history_with (change_in v) h)
 legal_next o h m asker sent (Accepts c because) legal sound verdict =
     let is : IsAccepted o h c = record { moment = m; asker = asker; sent = sent; sound = sound; because = because; verdict = verdict } in
     elim (accepted (grounds o h verdict.live m asker) sent c because (sym verdict.is)) [

@@ -5,8 +5,8 @@ use Rattle.std.proofs.lemmas.List.Elements.{All-weaker, All-contains, All-contai
 use Rattle.slp_text.proofs.KeySets.{same_ascending}
 use Rattle.registry_core.specs.declared.entry.Entry.{Entry}
 use Rattle.slp_messages.specs.declared.message.UrlEntry.{UrlEntry}
-use Rattle.directory_answers.specs.Asking.{IsItem, AreItems}
-use Rattle.directory_state.proofs.Seen.{here, there}
+use Rattle.directory_answers.specs.Items.{IsItem, AreItems}
+use Rattle.directory_state.proofs.SeenUrls.{here, there}
 
 -- ---- items of the same entries
 

@@ -1,6 +1,6 @@
 pub mod Deadlines
-pub mod Finding
-pub mod Fitting
-pub mod Folding
-pub mod Founding
+pub mod Folds
+pub mod Foundings
+pub mod Fronts
+pub mod Searches
 pub mod State

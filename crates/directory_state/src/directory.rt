@@ -4,22 +4,22 @@ ghost use Rattle.std.specs.Arc.{arc_value};
 ghost use Rattle.std.specs.FinMap as fin;
 ghost use Rattle.slp_messages.specs.Views.{message_in};
 ghost use Rattle.directory_judge.specs.History.{History, Event};
-ghost use Rattle.directory_judge.specs.Judging.{IsChange, Judgement, judged_in, supports};
-ghost use Rattle.directory_judge.specs.Making.{content};
+ghost use Rattle.directory_judge.specs.Judgements.{IsChange, Judgement, judgement_in, supports};
+ghost use Rattle.directory_judge.specs.Contents.{content};
 ghost use Rattle.directory_answers.specs.Calls.{Opening};
-ghost use Rattle.directory_answers.specs.Asking.{AreServices};
-ghost use Rattle.directory_state.specs.Deadlines.{Dated};
-ghost use Rattle.directory_state.specs.Finding.{item_at, cut_in, IsSmall, IsKept};
-ghost use Rattle.directory_state.specs.Fitting.{IsFront, items_in, size_in};
-ghost use Rattle.directory_state.specs.Folding.{Fold, StandsFor};
-ghost use Rattle.directory_state.specs.State.{State, beginning, made};
+ghost use Rattle.directory_answers.specs.Items.{AreServices};
+ghost use Rattle.directory_state.specs.Deadlines.{UrlDeadline};
+ghost use Rattle.directory_state.specs.Searches.{item_at, cut_in, IsSmall, IsKept};
+ghost use Rattle.directory_state.specs.Fronts.{IsFront, items_in, size_in};
+ghost use Rattle.directory_state.specs.Folds.{Fold, StandsFor};
+ghost use Rattle.directory_state.specs.State.{State, opening_state, state_made};
 ghost use Rattle.directory_answers.specs.Verdicts.{IsLegal, IsVerdict};
-ghost use Rattle.directory_state.specs.Folding.{IsJudgedAs};
+ghost use Rattle.directory_state.specs.Folds.{IsJudgedAs};
 
-use crate::finding::{Found, Kept, Room, Search};
+use crate::search::{FoundItems, Shortlist, Room, Search};
 use access_rules::{Addr, Rules};
 use directory_answers::{QueryFault, ServiceQuery};
-use directory_judge::{Change, Decided, Grounds, Judged, Placed, Site, lent};
+use directory_judge::{Change, Decision, Grounds, Judged, Placed, Site, lent};
 use registry_core::Registry;
 use slp_messages::{ChangeView, Message, UrlEntry};
 use slp_text::NoMemory;
@@ -60,7 +60,7 @@ impl<R: Registry + Drop> Directory<R> {
     ) -> Result<Directory<R>, NoMemory>
         requires empty { R.contents registry ≡ fin.empty }
         requires capacity { R.limit registry ≡ site.now.capacity }
-        ensures state { IfOk result (λ d. d ≡ beginning (record { rules = arc_value rules; site = site.now })) }
+        ensures state { IfOk result (λ d. d ≡ opening_state (record { rules = arc_value rules; site = site.now })) }
         ensures fold { IfOk result (λ d. Fold (record { rules = arc_value rules; site = site.now }) [] d) }
     {
         let site = site.copy(alloc)?;
@@ -126,9 +126,9 @@ impl<R: Registry> Directory<R> {
         moment: u32,
         asker: Addr,
         change: &ChangeView<'_>,
-    ) -> Result<Decided, NoMemory>
+    ) -> Result<Decision, NoMemory>
         ensures { (o : Opening) (h : History) → Fold o h self.now → IsLegal o h
-            → IfOk result (λ j. (v : Judgement) × IsVerdict o h moment asker (message_in change.now) v × IsJudgedAs h (judged_in j) v) }
+            → IfOk result (λ j. (v : Judgement) × IsVerdict o h moment asker (message_in change.now) v × IsJudgedAs h (judgement_in j) v) }
     {
         let grounds = Grounds {
             registry: &self.registry,
@@ -142,7 +142,7 @@ impl<R: Registry> Directory<R> {
 
     /// Makes a change: what is dead at its moment is dropped, and the clock raised. It has no answer for want of memory.
     pub fn apply(&mut self, change: Change)
-        ensures made { self.new ≡ made (content change) self.old }
+        ensures state_made { self.new ≡ state_made (content change) self.old }
         ensures fold { (o : Opening) (h : History) (c : Event) → Fold o h self.old → IsLegal o (c ∷ h)
             → StandsFor h (content change) c → Fold o (c ∷ h) self.new }
     {
@@ -173,13 +173,13 @@ impl<R: Registry> Directory<R> {
         asker: Addr,
         query: &ServiceQuery,
         room: Option<Room>,
-    ) -> Result<Kept<'_>, QueryFault>
+    ) -> Result<Shortlist<'_>, QueryFault>
         requires { IsSmall room }
         ensures scope { IsErrOf result QueryFault.Scope ↔ (list_any (supports self.now.site) query.now.scopes ≡ false) }
         ensures faults { IfErr result (λ e. (e ≡ QueryFault.Scope) ⊎ (e ≡ QueryFault.NoMemory)) }
         ensures kept { IfOk result (λ kept. IsKept kept × (kept.room ≡ room)) }
         ensures items { (o : Opening) (h : History) → Fold o h self.now → IsLegal o h
-            → IfOk result (λ kept. (all : List Dated) × AreServices o h moment asker query.now (map (item_at (max moment self.now.clock)) all) × (kept.latest ≡ cut_in room all)) }
+            → IfOk result (λ kept. (all : List UrlDeadline) × AreServices o h moment asker query.now (map (item_at (max moment self.now.clock)) all) × (kept.latest ≡ cut_in room all)) }
     {
         let search = Search {
             query,
@@ -188,7 +188,7 @@ impl<R: Registry> Directory<R> {
             rules: &self.rules,
             site: &self.site,
         };
-        Kept::search(alloc, &self.registry, &search, room)
+        Shortlist::search(alloc, &self.registry, &search, room)
     }
 
     /// The URLs of the live entries that are open to the asker and match the question, in byte order,
@@ -218,7 +218,7 @@ impl<R: Registry> Directory<R> {
         asker: Addr,
         query: &ServiceQuery,
         room: Room,
-    ) -> Result<Found<'_>, QueryFault>
+    ) -> Result<FoundItems<'_>, QueryFault>
         requires small { room.bytes ≤ 65535 }
         requires small_each { room.each ≤ 65535 }
         ensures scope { IsErrOf result QueryFault.Scope ↔ (list_any (supports self.now.site) query.now.scopes ≡ false) }

@@ -6,20 +6,20 @@ ghost use Rattle.registry_core.specs.declared.entry.Entry.{Entry};
 ghost use Rattle.slp_messages.specs.Messages.{IsMessage};
 ghost use Rattle.slp_messages.specs.declared.message.Message.{Message};
 ghost use Rattle.directory_judge.specs.History.{History, Event, Sweep, clock};
-ghost use Rattle.directory_judge.specs.Judging.{Judgement};
-ghost use Rattle.directory_judge.specs.Making.{Content};
+ghost use Rattle.directory_judge.specs.Judgements.{Judgement};
+ghost use Rattle.directory_judge.specs.Contents.{Content};
 ghost use Rattle.directory_judge.specs.Meaning.{Live, Stands};
-ghost use Rattle.directory_answers.specs.Answering.{IsAnswer, IsOpenTo, is_change_of};
+ghost use Rattle.directory_answers.specs.Answers.{IsAnswer, IsOpenTo, is_change_of};
 ghost use Rattle.directory_answers.specs.Calls.{Opening, Call, AreBytes};
 ghost use Rattle.directory_answers.specs.Outcomes.{Outcome};
-ghost use Rattle.directory_answers.specs.Verdicts.{IsLegal, IsVerdict, change_in, followed};
-ghost use Rattle.directory_state.specs.Folding.{Fold, StandsFor, StandFor};
-ghost use Rattle.directory_state.specs.Founding.{IsFoundedAt};
-ghost use Rattle.directory_state.specs.State.{State, after, made, made_by, state_after};
+ghost use Rattle.directory_answers.specs.Verdicts.{IsLegal, IsVerdict, change_in, history_with};
+ghost use Rattle.directory_state.specs.Folds.{Fold, StandsFor, StandFor};
+ghost use Rattle.directory_state.specs.Foundings.{IsFoundedAt};
+ghost use Rattle.directory_state.specs.State.{State, state_after_changes, state_made, state_with, state_after};
 
 /// Changes that stand for the events of a legal history, made one by one, leave its state.
 pub fn changes_leave_their_history()
-    ensures { (o : Opening) (h : History) (changes : List Content) → IsLegal o h → StandFor h changes → Fold o h (after o changes) }
+    ensures { (o : Opening) (h : History) (changes : List Content) → IsLegal o h → StandFor h changes → Fold o h (state_after_changes o changes) }
 {}
 
 /// The events of a legal history, made one by one, leave its state.
@@ -29,8 +29,8 @@ pub fn events_leave_their_history()
 
 /// A change makes what the event makes that it stands for.
 pub fn changes_make_what_their_events_make()
-    ensures each { (o : Opening) (h : History) (c : Event) (change : Content) → IsLegal o (c ∷ h) → StandsFor h change c → made change (state_after o h) ≡ made_by c (state_after o h) }
-    ensures all { (o : Opening) (h : History) (changes : List Content) → IsLegal o h → StandFor h changes → after o changes ≡ state_after o h }
+    ensures each { (o : Opening) (h : History) (c : Event) (change : Content) → IsLegal o (c ∷ h) → StandsFor h change c → state_made change (state_after o h) ≡ state_with c (state_after o h) }
+    ensures all { (o : Opening) (h : History) (changes : List Content) → IsLegal o h → StandFor h changes → state_after_changes o changes ≡ state_after o h }
 {}
 
 /// What is at a pair in the state of a history is of that pair, and is not dead.
@@ -51,9 +51,9 @@ pub fn one_change_founded_what_stands()
 /// What is accepted makes a legal history.
 pub fn accepted_changes_are_legal()
     ensures judged { (o : Opening) (h : History) (m asker : ℕ) (sent : Message) (v : Judgement) → IsLegal o h → IsMessage sent
-        → IsVerdict o h m asker sent v → IsLegal o (followed (change_in v) h) }
+        → IsVerdict o h m asker sent v → IsLegal o (history_with (change_in v) h) }
     ensures told { (o : Opening) (h : History) (c : Call) (r : Outcome) (change : Option Event) → AreBytes c.bytes → IsLegal o h
-        → IsAnswer o h c r change → IsLegal o (followed change h) }
+        → IsAnswer o h c r change → IsLegal o (history_with change h) }
 {}
 
 /// A sweep is not seen at its moment or later: the same is live, the same is told of bytes, and the same change comes

@@ -4,10 +4,10 @@
 
 mod deadlines;
 mod directory;
-mod finding;
+mod search;
 pub mod laws;
 
 pub use deadlines::Deadlines;
 pub use directory::Directory;
 pub use directory_answers::{QueryFault, ServiceQuery};
-pub use finding::{Found, Room};
+pub use search::{FoundItems, Room};

@@ -17,7 +17,7 @@ use Rattle.std.specs.declared.cmp.Ordering.TheVariants.{Less, Equal, Greater}
 use Rattle.std.specs.FinMap as fin
 use Rattle.slp_text.proofs.KeySets.{is_eq-true}
 use Rattle.registry_core.specs.declared.entry.Entry.{Entry}
-use Rattle.registry_core.specs.Entries.{Pair, Entries, pair_cmp, pair_eq, pair_of, is_of, of_list, kept, passing, IsDistinct, IsListing}
+use Rattle.registry_core.specs.Entries.{Pair, Entries, pair_cmp, pair_eq, pair_of, is_of, entries_of_list, if_kept, passing_entries, IsDistinct, IsListing}
 
 -- ---- the order of pairs
 pub pair_total : IsTotalOrder pair_cmp
@@ -48,8 +48,8 @@ find-map : (es : List Entry) (q : Pair) → fin.find pair_cmp q (map (λ e. (pai
 find-map [] q = refl
 find-map (e ∷ es) q = ap₂ (λ b o. cond b (Some e) o) (cmp-pair_eq q (pair_of e)) (find-map es q)
 
-pub get-of_list : (es : List Entry) (q : Pair) → fin.get (of_list es) q ≡ find (is_of q) es
-get-of_list es q = fin.get-from_entries pair_total (map (λ e. (pair_of e, e)) es) q ∙ find-map es q
+pub get-entries_of_list : (es : List Entry) (q : Pair) → fin.get (entries_of_list es) q ≡ find (is_of q) es
+get-entries_of_list es q = fin.get-from_entries pair_total (map (λ e. (pair_of e, e)) es) q ∙ find-map es q
 
 -- an entry takes the place of the one of its pair, or comes last
 pub placed : Entry → List Entry → List Entry
@@ -79,10 +79,10 @@ find-placed e (x ∷ xs) q =
           ∙ swap_conds (is_of q e) (is_of q x) (Some e) (Some x) (find (is_of q) xs) (λ a b. pair_eq-differ (pair_of e) (pair_of x) h (sym (pair_eq-true q (pair_of e) a) ∙ pair_eq-true q (pair_of x) b))
     ] refl
 
-pub of_list-placed : (e : Entry) (es : List Entry) → of_list (placed e es) ≡ fin.insert (of_list es) (pair_of e) e
-of_list-placed e es = fin.same_map pair_total pair_exact _ _ (λ q.
-    get-of_list (placed e es) q ∙ find-placed e es q
-    ∙ sym (fin.get-insert pair_total (of_list es) (pair_of e) e q ∙ ap₂ (λ b o. cond b (Some e) o) (cmp-pair_eq q (pair_of e)) (get-of_list es q)))
+pub entries_of_list-placed : (e : Entry) (es : List Entry) → entries_of_list (placed e es) ≡ fin.insert (entries_of_list es) (pair_of e) e
+entries_of_list-placed e es = fin.same_map pair_total pair_exact _ _ (λ q.
+    get-entries_of_list (placed e es) q ∙ find-placed e es q
+    ∙ sym (fin.get-insert pair_total (entries_of_list es) (pair_of e) e q ∙ ap₂ (λ b o. cond b (Some e) o) (cmp-pair_eq q (pair_of e)) (get-entries_of_list es q)))
 
 pub IsDistinct-placed : (e : Entry) (es : List Entry) → IsDistinct es → IsDistinct (placed e es)
 unfolding placed
@@ -95,40 +95,40 @@ IsDistinct-placed e (x ∷ xs) d =
           (find-placed e xs (pair_of x) ∙ ap₂ (λ b o. cond b (Some e) o) other d.0, IsDistinct-placed e xs d.1)
     ] refl
 
-pub len-of_list : (es : List Entry) → IsDistinct es → fin.len (of_list es) ≡ length es
-len-of_list [] d = fin.len-empty pair_cmp Entry
-len-of_list (e ∷ es) d =
-    fin.len-insert pair_total (of_list es) (pair_of e) e
-    ∙ ap₂ (λ b (n : ℕ). cond b n (n + 1)) (ap is_some (get-of_list es (pair_of e) ∙ d.0)) (len-of_list es d.1) ∙ omega arith
+pub len-entries_of_list : (es : List Entry) → IsDistinct es → fin.len (entries_of_list es) ≡ length es
+len-entries_of_list [] d = fin.len-empty pair_cmp Entry
+len-entries_of_list (e ∷ es) d =
+    fin.len-insert pair_total (entries_of_list es) (pair_of e) e
+    ∙ ap₂ (λ b (n : ℕ). cond b n (n + 1)) (ap is_some (get-entries_of_list es (pair_of e) ∙ d.0)) (len-entries_of_list es d.1) ∙ omega arith
 
 -- ---- what passes a test
 
-kept-cond : (p : Entry → Bool) (o : Option Entry) → cond (is_some (kept p o)) o None ≡ kept p o
-kept-cond p None = refl
-kept-cond p (Some e) = elim (p e) as (λ b. cond (is_some (cond b (Some e) None)) (Some e) None ≡ cond b (Some e) None) [ true ↦ refl | false ↦ refl ]
+if_kept-cond : (p : Entry → Bool) (o : Option Entry) → cond (is_some (if_kept p o)) o None ≡ if_kept p o
+if_kept-cond p None = refl
+if_kept-cond p (Some e) = elim (p e) as (λ b. cond (is_some (cond b (Some e) None)) (Some e) None ≡ cond b (Some e) None) [ true ↦ refl | false ↦ refl ]
 
 -- what passes at a pair is what is there, where it passes
-pub get-passing : (p : Entry → Bool) (m : Entries) (q : Pair) → fin.get (passing p m) q ≡ kept p (fin.get m q)
-get-passing p m q =
-    fin.get-retain_keys m (λ r. is_some (kept p (fin.get m r))) q (λ x tie. ap (λ r. is_some (kept p (fin.get m r))) (sym (pair_exact q x tie)))
-    ∙ kept-cond p (fin.get m q)
+pub get-passing_entries : (p : Entry → Bool) (m : Entries) (q : Pair) → fin.get (passing_entries p m) q ≡ if_kept p (fin.get m q)
+get-passing_entries p m q =
+    fin.get-retain_keys m (λ r. is_some (if_kept p (fin.get m r))) q (λ x tie. ap (λ r. is_some (if_kept p (fin.get m r))) (sym (pair_exact q x tie)))
+    ∙ if_kept-cond p (fin.get m q)
 
-pub passing-is : (p : Entry → Bool) (a b : Entries) → ((q : Pair) → fin.get b q ≡ kept p (fin.get a q)) → b ≡ passing p a
-passing-is p a b each = fin.same_map pair_total pair_exact b (passing p a) (λ q. each q ∙ sym (get-passing p a q))
+pub passing_entries-is : (p : Entry → Bool) (a b : Entries) → ((q : Pair) → fin.get b q ≡ if_kept p (fin.get a q)) → b ≡ passing_entries p a
+passing_entries-is p a b each = fin.same_map pair_total pair_exact b (passing_entries p a) (λ q. each q ∙ sym (get-passing_entries p a q))
 
 -- ---- a filter
 
-pub find-kept : (p : Entry → Bool) (es : List Entry) (q : Pair) → IsDistinct es → find (is_of q) (filter p es) ≡ kept p (find (is_of q) es)
-find-kept p [] q d = refl
-find-kept p (x ∷ xs) q d =
-    elim (p x) as (λ b. p x ≡ b → find (is_of q) (cond b (x ∷ filter p xs) (filter p xs)) ≡ kept p (cond (is_of q x) (Some x) (find (is_of q) xs))) [
-      | true ↦ λ h. elim (is_of q x) as (λ a. cond a (Some x) (find (is_of q) (filter p xs)) ≡ kept p (cond a (Some x) (find (is_of q) xs))) [
+pub find-if_kept : (p : Entry → Bool) (es : List Entry) (q : Pair) → IsDistinct es → find (is_of q) (filter p es) ≡ if_kept p (find (is_of q) es)
+find-if_kept p [] q d = refl
+find-if_kept p (x ∷ xs) q d =
+    elim (p x) as (λ b. p x ≡ b → find (is_of q) (cond b (x ∷ filter p xs) (filter p xs)) ≡ if_kept p (cond (is_of q x) (Some x) (find (is_of q) xs))) [
+      | true ↦ λ h. elim (is_of q x) as (λ a. cond a (Some x) (find (is_of q) (filter p xs)) ≡ if_kept p (cond a (Some x) (find (is_of q) xs))) [
         | true ↦ ap (λ b. cond b (Some x) None) (sym h)
-        | false ↦ find-kept p xs q d.1
+        | false ↦ find-if_kept p xs q d.1
       ]
-      | false ↦ λ h. elim (is_of q x) as (λ a. is_of q x ≡ a → find (is_of q) (filter p xs) ≡ kept p (cond a (Some x) (find (is_of q) xs))) [
-        | true ↦ λ i. find-kept p xs q d.1 ∙ ap (kept p) (ap (λ r. find (is_of r) xs) (pair_eq-true q (pair_of x) i) ∙ d.0) ∙ ap (λ b. cond b (Some x) None) (sym h)
-        | false ↦ λ i. find-kept p xs q d.1
+      | false ↦ λ h. elim (is_of q x) as (λ a. is_of q x ≡ a → find (is_of q) (filter p xs) ≡ if_kept p (cond a (Some x) (find (is_of q) xs))) [
+        | true ↦ λ i. find-if_kept p xs q d.1 ∙ ap (if_kept p) (ap (λ r. find (is_of r) xs) (pair_eq-true q (pair_of x) i) ∙ d.0) ∙ ap (λ b. cond b (Some x) None) (sym h)
+        | false ↦ λ i. find-if_kept p xs q d.1
       ] refl
     ] refl
 
@@ -136,7 +136,7 @@ pub IsDistinct-filter : (p : Entry → Bool) (es : List Entry) → IsDistinct es
 IsDistinct-filter p [] d = tt
 IsDistinct-filter p (x ∷ xs) d =
     elim (p x) as (λ b. IsDistinct (cond b (x ∷ filter p xs) (filter p xs))) [
-      | true ↦ (find-kept p xs (pair_of x) d.1 ∙ ap (kept p) d.0, IsDistinct-filter p xs d.1)
+      | true ↦ (find-if_kept p xs (pair_of x) d.1 ∙ ap (if_kept p) d.0, IsDistinct-filter p xs d.1)
       | false ↦ IsDistinct-filter p xs d.1
     ]
 
@@ -147,10 +147,10 @@ map-filter v p (x ∷ xs) = elim (p (v x)) as (λ b. map v (cond b (x ∷ filter
   | false ↦ map-filter v p xs
 ]
 
-pub len-passing-of_list : (p : Entry → Bool) (es : List Entry) → IsDistinct es → fin.len (passing p (of_list es)) ≡ length (filter p es)
-len-passing-of_list p es d =
-    let left = passing-is p (of_list es) (of_list (filter p es)) (λ q. get-of_list (filter p es) q ∙ find-kept p es q d ∙ ap (kept p) (sym (get-of_list es q))) in
-    ap fin.len (sym left) ∙ len-of_list (filter p es) (IsDistinct-filter p es d)
+pub len-passing_entries-entries_of_list : (p : Entry → Bool) (es : List Entry) → IsDistinct es → fin.len (passing_entries p (entries_of_list es)) ≡ length (filter p es)
+len-passing_entries-entries_of_list p es d =
+    let left = passing_entries-is p (entries_of_list es) (entries_of_list (filter p es)) (λ q. get-entries_of_list (filter p es) q ∙ find-if_kept p es q d ∙ ap (if_kept p) (sym (get-entries_of_list es q))) in
+    ap fin.len (sym left) ∙ len-entries_of_list (filter p es) (IsDistinct-filter p es d)
 
 -- ---- a place
 
@@ -203,11 +203,11 @@ module _ {A : Type 0} (v : A → Entry) where
         | false ↦ λ e h. ltb-false _ _ e
       ] refl
 
-  pub get-at : (q : Pair) (xs : List A) (at : ℕ) (d : A) → Some at ≡ position (λ a. is_of q (v a)) xs → fin.get (of_list (map v xs)) q ≡ Some (v (get_or xs at d))
-  get-at q xs at d h = let k = position-some q xs at h in get-of_list (map v xs) q ∙ find-at v q xs d k.0 ∙ ap (λ n. Some (v (get_or xs n d))) k.1
+  pub get-at : (q : Pair) (xs : List A) (at : ℕ) (d : A) → Some at ≡ position (λ a. is_of q (v a)) xs → fin.get (entries_of_list (map v xs)) q ≡ Some (v (get_or xs at d))
+  get-at q xs at d h = let k = position-some q xs at h in get-entries_of_list (map v xs) q ∙ find-at v q xs d k.0 ∙ ap (λ n. Some (v (get_or xs n d))) k.1
 
-  pub get-none : (q : Pair) (xs : List A) → None ≡ position (λ a. is_of q (v a)) xs → fin.get (of_list (map v xs)) q ≡ None
-  get-none q xs h = get-of_list (map v xs) q ∙ find-none v q xs (position-none q xs h)
+  pub get-none : (q : Pair) (xs : List A) → None ≡ position (λ a. is_of q (v a)) xs → fin.get (entries_of_list (map v xs)) q ≡ None
+  get-none q xs h = get-entries_of_list (map v xs) q ∙ find-none v q xs (position-none q xs h)
 
   pub set-placed : (y : A) (xs : List A) (at : ℕ) → Some at ≡ position (λ a. is_of (pair_of (v y)) (v a)) xs → map v (set xs at y) ≡ placed (v y) (map v xs)
   set-placed y xs at h = let k = position-some (pair_of (v y)) xs at h in ap (λ n. map v (set xs n y)) (sym k.1) ∙ placed-at v y xs k.0
@@ -215,9 +215,9 @@ module _ {A : Type 0} (v : A → Entry) where
   pub push-placed : (y : A) (xs : List A) → None ≡ position (λ a. is_of (pair_of (v y)) (v a)) xs → map v (xs ++ y ∷ []) ≡ placed (v y) (map v xs)
   push-placed y xs h = placed-end v y xs (position-none (pair_of (v y)) xs h)
 
-pub listing : (p : Entry → Bool) (es : List Entry) → IsDistinct es → IsListing p (of_list es) (filter p es)
+pub listing : (p : Entry → Bool) (es : List Entry) → IsDistinct es → IsListing p (entries_of_list es) (filter p es)
 listing p es d = record {
-  each = λ q. find-kept p es q d ∙ ap (kept p) (sym (get-of_list es q));
+  each = λ q. find-if_kept p es q d ∙ ap (if_kept p) (sym (get-entries_of_list es q));
   once = IsDistinct-filter p es d;
 }
 
@@ -229,11 +229,11 @@ filter_here p es i d h t = ap (filter p) (drop-cons es i d h) ∙ ap (λ b. cond
 pub filter_past : (p : Entry → Bool) (es : List Entry) (i : ℕ) (d : Entry) → i < length es → p (get_or es i d) ≡ false → filter p (drop i es) ≡ filter p (drop (i + 1) es)
 filter_past p es i d h t = ap (filter p) (drop-cons es i d h) ∙ ap (λ b. cond b (get_or es i d ∷ filter p (drop (suc i) es)) (filter p (drop (suc i) es))) t ∙ ap (λ n. filter p (drop n es)) (sym (add-one i))
 
-pub listed_len : {A : Type 0} (v : A → Entry) (xs : List A) → IsDistinct (map v xs) → fin.len (of_list (map v xs)) ≡ length xs
-listed_len v xs d = len-of_list (map v xs) d ∙ length-map xs v
+pub listed_len : {A : Type 0} (v : A → Entry) (xs : List A) → IsDistinct (map v xs) → fin.len (entries_of_list (map v xs)) ≡ length xs
+listed_len v xs d = len-entries_of_list (map v xs) d ∙ length-map xs v
 
-pub passing_len : {A : Type 0} (v : A → Entry) (p : Entry → Bool) (xs : List A) → IsDistinct (map v xs) → fin.len (passing p (of_list (map v xs))) ≡ length (filter (λ a. p (v a)) xs)
-passing_len v p xs d = len-passing-of_list p (map v xs) d ∙ ap length (sym (map-filter v p xs)) ∙ length-map (filter (λ a. p (v a)) xs) v
+pub passing_len : {A : Type 0} (v : A → Entry) (p : Entry → Bool) (xs : List A) → IsDistinct (map v xs) → fin.len (passing_entries p (entries_of_list (map v xs))) ≡ length (filter (λ a. p (v a)) xs)
+passing_len v p xs d = len-passing_entries-entries_of_list p (map v xs) d ∙ ap length (sym (map-filter v p xs)) ∙ length-map (filter (λ a. p (v a)) xs) v
 
 -- the element that was read
 pub read_at : {A : Type 0} (v : A → Entry) (xs : List A) (i : ℕ) (x : A) (e : Entry) → i < length xs → x ≡ get_or xs i x → e ≡ v x → e ≡ get_or (map v xs) i e

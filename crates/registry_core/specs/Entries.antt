@@ -44,17 +44,17 @@ abbrev pub entries_code : Coded Entries
 entries_code = fin.code (coded× (coded_list coded_ℕ) (coded_list coded_ℕ)) entry_code
 
 -- the map of listed entries
-abbrev pub of_list : List Entry → Entries
-of_list es = fin.from_entries (map (λ e. (pair_of e, e)) es)
+abbrev pub entries_of_list : List Entry → Entries
+entries_of_list es = fin.from_entries (map (λ e. (pair_of e, e)) es)
 
 -- an entry lives on at a moment
 abbrev pub outlives : ℕ → Entry → Bool
 outlives now e = nat_lt now e.deadline
 
 -- what is kept of one that is there
-abbrev pub kept : (Entry → Bool) → Option Entry → Option Entry
-kept p None = None
-kept p (Some e) = if p e then Some e else None
+abbrev pub if_kept : (Entry → Bool) → Option Entry → Option Entry
+if_kept p None = None
+if_kept p (Some e) = if p e then Some e else None
 
 abbrev pub has_scope : List ℕ → Entry → Bool
 has_scope scope e = list_any (λ s. bytes_eq s scope) e.scopes
@@ -77,8 +77,8 @@ abbrev pub is_registered : List ℕ → List (List ℕ) → Entry → Bool
 is_registered url scopes e = bytes_eq e.url url && texts_eq e.scopes scopes
 
 -- the entries that pass the test
-abbrev pub passing : (Entry → Bool) → Entries → Entries
-passing p m = fin.retain_keys m (λ q. is_some (kept p (fin.get m q)))
+abbrev pub passing_entries : (Entry → Bool) → Entries → Entries
+passing_entries p m = fin.retain_keys m (λ q. is_some (if_kept p (fin.get m q)))
 
 -- it stands in this scope, and is of a type that the given one covers
 abbrev pub is_at_place : List ℕ → Option (List ℕ) → Entry → Bool
@@ -91,5 +91,5 @@ IsDistinct (e ∷ es) = (find (is_of (pair_of e)) es ≡ None) × IsDistinct es
 
 -- the list has each entry of the map that passes the test, once, and no other
 pub record IsListing (p : Entry → Bool) (m : Entries) (es : List Entry) : Type 0 where
-  pub each : (q : Pair) → find (is_of q) es ≡ kept p (fin.get m q)
+  pub each : (q : Pair) → find (is_of q) es ≡ if_kept p (fin.get m q)
   pub once : IsDistinct es

@@ -2,7 +2,7 @@ ghost use Rattle.std.specs.Prelude.{◌≡◌, ◌<◌, ◌≤◌, ◌&&◌, [],
 ghost use Rattle.std.specs.Arc.{arc_value};
 ghost use Rattle.std.specs.FinMap as fin;
 ghost use Rattle.std.specs.Option.{option_copied};
-ghost use Rattle.registry_core.specs.Entries.{is_of, is_at_place, is_of_url, is_within, of_list};
+ghost use Rattle.registry_core.specs.Entries.{is_of, is_at_place, is_of_url, is_within, entries_of_list};
 
 use crate::entry::Entry;
 use crate::registry::{Registry, RegistryFault};
@@ -22,15 +22,15 @@ pub struct ListRegistry {
 impl Model for ListRegistry {
     ghost use Rattle.std.specs.Prelude.{ℕ, List, map};
     ghost use Rattle.std.specs.Arc.{arc_value};
-    ghost use Rattle.registry_core.specs.Listed.{Listed, listed_code, IsListed};
+    ghost use Rattle.registry_core.specs.Lists.{ListState, list_state_code, IsListRegistry};
 
-    ghost Value = { Listed };
+    ghost Value = { ListState };
 
-    ghost coded = { listed_code };
+    ghost coded = { list_state_code };
 
     ghost view = { λ r. record { entries = map arc_value r.entries.items; limit = r.limit } };
 
-    ghost invariant = { λ r. IsListed r.entries r.limit };
+    ghost invariant = { λ r. IsListRegistry r.entries r.limit };
 }
 
 impl ListRegistry {
@@ -41,7 +41,7 @@ impl ListRegistry {
         ensures entries { IfOk result (λ r. r.entries ≡ []) }
         ensures limit { IfOk result (λ r. r.limit ≡ capacity) }
         ensures memory { OnErr result (result ≡ Err RegistryFault.NoMemory) }
-        ensures empty { IfOk result (λ r. of_list r.entries ≡ fin.empty) }
+        ensures empty { IfOk result (λ r. entries_of_list r.entries ≡ fin.empty) }
     {
         let entries = Vec::with_capacity(alloc, capacity).map_err(|_| RegistryFault::NoMemory)?;
         Ok(ListRegistry {
@@ -80,9 +80,9 @@ fn is_here_within(entry: &Entry, scope: &Key, kind: Option<&ServiceType>, bound:
 
 impl Registry for ListRegistry {
     ghost use Rattle.std.specs.Prelude.{filter, drop};
-    ghost use Rattle.registry_core.specs.Entries.{of_list, is_at_place, is_of_url};
+    ghost use Rattle.registry_core.specs.Entries.{entries_of_list, is_at_place, is_of_url};
 
-    ghost contents = { λ r. of_list r.entries };
+    ghost contents = { λ r. entries_of_list r.entries };
 
     ghost limit = { λ r. r.limit };
 

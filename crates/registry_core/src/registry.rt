@@ -2,7 +2,7 @@ ghost use Rattle.std.specs.Prelude.{◌≡◌, ◌<◌, ◌≤◌, ◌∷◌, []
 ghost use Rattle.std.specs.Arc.{arc_value};
 ghost use Rattle.std.specs.FinMap as fin;
 ghost use Rattle.std.specs.Option.{option_copied};
-ghost use Rattle.registry_core.specs.Entries.{Pair, pair_of, outlives, kept, passing, is_at_place, is_of_url, is_within, is_registered, IsListing};
+ghost use Rattle.registry_core.specs.Entries.{Pair, pair_of, outlives, if_kept, passing_entries, is_at_place, is_of_url, is_within, is_registered, IsListing};
 
 use crate::entry::Entry;
 use service_url::{ServiceType, Url};
@@ -53,12 +53,12 @@ pub trait Registry {
 
     /// Drops the entries whose deadline is at most `now`, a moment in seconds.
     fn sweep(&mut self, now: u64)
-        ensures each { (q : Pair) → fin.get (contents self.new) q ≡ kept (outlives now) (fin.get (contents self.old) q) }
+        ensures each { (q : Pair) → fin.get (contents self.new) q ≡ if_kept (outlives now) (fin.get (contents self.old) q) }
         ensures room { limit self.new ≡ limit self.old };
 
     /// Drops the entries of a URL, in every language, whose scopes are exactly these.
     fn remove_url(&mut self, url: &Url, scopes: &ScopeList)
-        ensures each { (q : Pair) → fin.get (contents self.new) q ≡ kept (λ e. not (is_registered url.now scopes.now e)) (fin.get (contents self.old) q) }
+        ensures each { (q : Pair) → fin.get (contents self.new) q ≡ if_kept (λ e. not (is_registered url.now scopes.now e)) (fin.get (contents self.old) q) }
         ensures room { limit self.new ≡ limit self.old };
 
     /// The entry of a URL and a language.
@@ -100,7 +100,7 @@ pub trait Registry {
 
     /// How many entries have a deadline greater than `now`, a moment in seconds.
     fn live(&self, now: u64) -> usize
-        ensures { result ≡ fin.len (passing (outlives now) (contents self.now)) };
+        ensures { result ≡ fin.len (passing_entries (outlives now) (contents self.now)) };
 
     /// How many pairs are held.
     fn len(&self) -> usize

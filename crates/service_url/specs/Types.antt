@@ -1,21 +1,22 @@
 -- Service types (RFC 2609, section 2; RFC 2608, section 4.1).
 use Rattle.std.specs.Prelude.{ℕ, Bool, ◌==◌, ◌-◌, ◌&&◌, ◌||◌, List, [], ◌∷◌, ◌++◌, length, take, drop, slice_index, codes, nat_eq, nat_lt, Option, Some, None, Result, Ok, Err, if◌then◌else◌}
 use Rattle.std.specs.List.{list_all, starts_with, before_first, after_first}
-use Rattle.slp_text.specs.Key.{key_of}
+use Rattle.slp_text.specs.Ascii.{colon, dot, hyphen, plus_sign, underscore}
+use Rattle.slp_text.specs.Keys.{key_of}
 use Rattle.slp_text.specs.Words.{is_plain, bytes_eq}
 use Rattle.service_url.specs.declared.fault.UrlFault.{UrlFault}
 use Rattle.service_url.specs.declared.fault.UrlFault.TheVariants.{BadType}
 
 -- letters, digits, `+`, `-`, `.` and `_`
 abbrev pub is_name_byte : ℕ → Bool
-is_name_byte b = is_plain b || b == 43 || b == 45 || b == 46 || b == 95
+is_name_byte b = is_plain b || b == plus_sign || b == hyphen || b == dot || b == underscore
 
 -- a name of such characters that begins with a letter or a digit
 abbrev pub is_name : List ℕ → Bool
 is_name text = nat_lt 0 (length text) && is_plain (slice_index text 0) && list_all is_name_byte text
 
 abbrev pub is_colon : ℕ → Bool
-is_colon b = b == 58
+is_colon b = b == colon
 
 -- `service:`
 abbrev pub service_word : List ℕ
@@ -37,25 +38,25 @@ abbrev pub is_type : List ℕ → Bool
 is_type text = is_abstract text || is_concrete text || is_name text
 
 -- all but the last byte
-abbrev pub shortened : List ℕ → List ℕ
-shortened text = take (length text - 1) text
+abbrev pub text_without_last : List ℕ → List ℕ
+text_without_last text = take (length text - 1) text
 
 -- `service:A:`, whose last colon means nothing
 abbrev pub is_abstract_with_colon : List ℕ → Bool
-is_abstract_with_colon text = is_colon (slice_index text (length text - 1)) && is_abstract (shortened text)
+is_abstract_with_colon text = is_colon (slice_index text (length text - 1)) && is_abstract (text_without_last text)
 
 -- the type that a text names, by its key
 abbrev pub type_of : List ℕ → Result (List ℕ) UrlFault
 type_of text =
-    if is_abstract_with_colon (key_of text) then Ok (shortened (key_of text))
+    if is_abstract_with_colon (key_of text) then Ok (text_without_last (key_of text))
     else (if is_type (key_of text) then Ok (key_of text) else Err BadType)
 
 -- A type covers itself, and an abstract one each that is made from it.
 abbrev pub covers : List ℕ → List ℕ → Bool
-covers kind other = bytes_eq kind other || (is_abstract kind && starts_with nat_eq other (kind ++ 58 ∷ []))
+covers kind other = bytes_eq kind other || (is_abstract kind && starts_with nat_eq other (kind ++ colon ∷ []))
 
 abbrev pub is_dot : ℕ → Bool
-is_dot b = b == 46
+is_dot b = b == dot
 
 -- A of `service:A` and `service:A:C`, else the whole type
 abbrev pub main_name : List ℕ → List ℕ

@@ -4,18 +4,15 @@ use Rattle.std.specs.List.{list_all, list_any}
 use Rattle.service_url.specs.Types.{is_colon}
 use Rattle.service_url.specs.declared.fault.UrlFault.{UrlFault}
 use Rattle.service_url.specs.declared.fault.UrlFault.TheVariants.{BadUrl, TooLong}
+use Rattle.slp_text.specs.Ascii.{delete, is_letter, space}
 
 -- the bytes of the longest URL
 abbrev pub longest_url : ℕ
 longest_url = 1024
 
--- a letter of ASCII
-abbrev pub is_letter : ℕ → Bool
-is_letter b = (nat_le 65 b && nat_le b 90) || (nat_le 97 b && nat_le b 122)
-
 -- neither white space nor a control character of ASCII
 abbrev pub is_url_byte : ℕ → Bool
-is_url_byte b = nat_lt 0x20 b && not (b == 0x7f)
+is_url_byte b = nat_lt space b && not (b == delete)
 
 -- it begins with a letter and has a colon
 abbrev pub is_url : List ℕ → Bool

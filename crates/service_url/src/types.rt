@@ -2,7 +2,9 @@ ghost use Rattle.std.specs.Prelude.{◌≡◌, ◌&&◌, ◌||◌, ◌∷◌, �
 ghost use Rattle.std.specs.Option.{option_copied};
 ghost use Rattle.std.specs.List.{list_all, starts_with, position_or_len, before_first, after_first};
 ghost use Rattle.service_url.specs.Reading.{IsReading};
-ghost use Rattle.service_url.specs.Types.{is_colon, is_name_byte as is_name_number, is_name as is_name_text, is_service as is_service_text, is_abstract as is_abstract_text, is_concrete as is_concrete_text, is_abstract_with_colon as is_abstract_text_with_colon, covers as covers_it, type_of, is_dot, main_name as main_name_of, authority_of, named_authority};
+ghost use Rattle.slp_text.specs.Ascii.{colon};
+ghost use Rattle.service_url.specs.Types as spec;
+ghost use Rattle.service_url.specs.Types.{is_colon, type_of, is_dot, authority_of, named_authority};
 
 use crate::fault::UrlFault;
 use slp_text::{Key, NoMemory, TextFault, key};
@@ -19,20 +21,21 @@ pub struct ServiceType {
 
 impl Model for ServiceType {
     ghost use Rattle.std.specs.Prelude.{◌≡◌, List, ℕ, string_bytes, IsTrue};
-    ghost use Rattle.service_url.specs.Types.{is_type, is_abstract as is_abstract_text};
+    ghost use Rattle.service_url.specs.Types as spec;
+    ghost use Rattle.service_url.specs.Types.{is_type};
 
     ghost Value = { List ℕ };
 
     ghost view = { λ a. string_bytes a.text };
 
-    ghost invariant = { λ a. IsTrue (is_type (string_bytes a.text)) × (a.is_abstract ≡ is_abstract_text (string_bytes a.text)) };
+    ghost invariant = { λ a. IsTrue (is_type (string_bytes a.text)) × (a.is_abstract ≡ spec.is_abstract (string_bytes a.text)) };
 }
 
 const SERVICE: &[u8] = b"service:";
 
 // Small letters are asked for first, since most are.
 fn is_name_byte(b: u8) -> bool
-    ensures { result ≡ is_name_number b }
+    ensures { result ≡ spec.is_name_byte b }
 {
     (b >= b'a' && b <= b'z')
         || (b >= b'0' && b <= b'9')
@@ -41,13 +44,13 @@ fn is_name_byte(b: u8) -> bool
 }
 
 fn are_name_bytes(bytes: &[u8]) -> bool
-    ensures { result ≡ list_all is_name_number bytes.now }
+    ensures { result ≡ list_all spec.is_name_byte bytes.now }
 {
     bytes.iter().all(|b| is_name_byte(*b))
 }
 
 fn is_name(bytes: &[u8]) -> bool
-    ensures { result ≡ is_name_text bytes.now }
+    ensures { result ≡ spec.is_name bytes.now }
 {
     !bytes.is_empty()
         && matches!(bytes[0], b'0'..=b'9' | b'A'..=b'Z' | b'a'..=b'z')
@@ -55,14 +58,14 @@ fn is_name(bytes: &[u8]) -> bool
 }
 
 fn is_service(bytes: &[u8]) -> bool
-    ensures value { result ≡ is_service_text bytes.now }
+    ensures value { result ≡ spec.is_service bytes.now }
     ensures room { IsTrue result → 8 ≤ length bytes.now }
 {
     bytes.starts_with(SERVICE)
 }
 
 fn is_abstract(bytes: &[u8]) -> bool
-    ensures { result ≡ is_abstract_text bytes.now }
+    ensures { result ≡ spec.is_abstract bytes.now }
 {
     is_service(bytes) && is_name(&bytes[SERVICE.len()..])
 }
@@ -74,27 +77,27 @@ fn colon_at(bytes: &[u8]) -> usize
 }
 
 fn are_two_names(bytes: &[u8]) -> bool
-    ensures { result ≡ (is_name_text (before_first is_colon bytes.now) && is_name_text (after_first is_colon bytes.now)) }
+    ensures { result ≡ (spec.is_name (before_first is_colon bytes.now) && spec.is_name (after_first is_colon bytes.now)) }
 {
     let colon = colon_at(bytes);
     colon < bytes.len() && is_name(&bytes[..colon]) && is_name(&bytes[colon + 1..])
 }
 
 fn is_concrete(bytes: &[u8]) -> bool
-    ensures { result ≡ is_concrete_text bytes.now }
+    ensures { result ≡ spec.is_concrete bytes.now }
 {
     is_service(bytes) && are_two_names(&bytes[SERVICE.len()..])
 }
 
 // Whether a folded text is `service:A:C` or a name, the types that are not `service:A`.
 fn is_made_or_named(bytes: &[u8]) -> bool
-    ensures { result ≡ (is_concrete_text bytes.now || is_name_text bytes.now) }
+    ensures { result ≡ (spec.is_concrete bytes.now || spec.is_name bytes.now) }
 {
     is_concrete(bytes) || is_name(bytes)
 }
 
 fn is_abstract_with_colon(bytes: &[u8]) -> bool
-    ensures { result ≡ is_abstract_text_with_colon bytes.now }
+    ensures { result ≡ spec.is_abstract_with_colon bytes.now }
 {
     match bytes {
         [front @ .., b':'] => is_abstract(front),
@@ -104,7 +107,7 @@ fn is_abstract_with_colon(bytes: &[u8]) -> bool
 
 // Whether a text begins with a front and a colon.
 fn is_followed_by_colon(front: &[u8], text: &[u8]) -> bool
-    ensures { result ≡ starts_with nat_eq text.now (front.now ++ 58 ∷ []) }
+    ensures { result ≡ starts_with nat_eq text.now (front.now ++ colon ∷ []) }
 {
     front.len() < text.len() && text[front.len()] == b':' && front == &text[..front.len()]
 }
@@ -130,7 +133,7 @@ fn after_dot(text: &str) -> &str
 
 // The name A of `service:A` and `service:A:C`, or else the whole type.
 fn main_name(kind: &str) -> &str
-    ensures { result.now ≡ main_name_of kind.now }
+    ensures { result.now ≡ spec.main_name kind.now }
 {
     match kind.strip_prefix("service:") {
         Some(rest) => before_colon(rest),
@@ -174,7 +177,7 @@ impl ServiceType {
     /// memory.
     #[inline]
     pub fn covers(&self, other: &ServiceType) -> bool
-        ensures { result ≡ covers_it self.now other.now }
+        ensures { result ≡ spec.covers self.now other.now }
     {
         let (kind, made) = (self.text.as_bytes(), other.text.as_bytes());
         kind == made || (self.is_abstract && is_followed_by_colon(kind, made))

@@ -4,7 +4,7 @@ use Rattle.std.specs.Option.{option_map, option_and_then}
 use Rattle.toml.specs.Data.{Data, as_array}
 use Rattle.toml.specs.View.{view, items_of, items_view}
 use Rattle.toml.specs.declared.value.Value.{Value}
-use Rattle.site_config.specs.Configuring.{values_of, each_in, array_in}
+use Rattle.site_config.specs.Configurations.{values_of, each_in, array_in}
 
 -- what was read so far, and what is read of the rest
 abbrev pub with_front : {A : Type 0} → List A → Option (List A) → Option (List A)

@@ -2,12 +2,12 @@
 use Rattle.std.proofs.Common.{Option, Some, None, Result, refl, ap}
 use Rattle.std.specs.Option.{option_and_then}
 use Rattle.slp_text.specs.Reading.{read_then}
-use Rattle.site_config.specs.Configuring.{within, IsFault}
+use Rattle.site_config.specs.Configurations.{in_range, IsFault}
 use Rattle.site_config.specs.declared.fault.ConfigFault.{ConfigFault}
 use Rattle.site_config.specs.declared.fault.ConfigFault.TheVariants.{Toml, Missing, Range, NoMemory}
 
 -- a value that is refused is refused under each further test
-pub refused_too : {A B : Type 0} (f : A → Option B) (e : ConfigFault) (o : Option A) → IsFault e (within o) → IsFault e (within (option_and_then f o))
+pub refused_too : {A B : Type 0} (f : A → Option B) (e : ConfigFault) (o : Option A) → IsFault e (in_range o) → IsFault e (in_range (option_and_then f o))
 refused_too f NoMemory o h = tt
 refused_too f Toml None h = absurd cc
 refused_too f Toml (Some x) h = absurd cc

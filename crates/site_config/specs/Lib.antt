@@ -1,2 +1,2 @@
-pub mod Configuring
+pub mod Configurations
 pub mod Tables

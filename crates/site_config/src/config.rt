@@ -1,6 +1,6 @@
 ghost use Rattle.std.specs.Prelude.{◌≡◌, IfOk};
 ghost use Rattle.toml.specs.View.{view};
-ghost use Rattle.site_config.specs.Configuring.{config_in, config_of, IsReading, IsWithin};
+ghost use Rattle.site_config.specs.Configurations.{config_in, config_of, IsReading, IsWithin};
 ghost use Rattle.site_config.specs.Tables.{members_in};
 
 use crate::fault::ConfigFault;
@@ -35,7 +35,7 @@ pub struct Config {
 impl Config {
     /// The configuration that a text of TOML is. Its keys are asked in the order of the fields, and
     /// last that there is no other.
-    #[tactic(auto, unfolding(crate::specs::Configuring::config_of))]
+    #[tactic(auto, unfolding(crate::specs::Configurations::config_of))]
     pub fn from_text(alloc: Global, text: &str) -> Result<Config, ConfigFault>
         ensures reading { IsReading result (config_of text.now) }
         ensures limits { IfOk result IsWithin }
@@ -51,7 +51,7 @@ impl Config {
     }
 
     // The configuration that a table is.
-    #[tactic(auto, using(crate::proofs::Readings::fault_first), unfolding(crate::specs::Configuring::config_in))]
+    #[tactic(auto, using(crate::proofs::Readings::fault_first), unfolding(crate::specs::Configurations::config_in))]
     fn from_table(alloc: Global, table: &Value) -> Result<Config, ConfigFault>
         ensures reading { IsReading result (config_in (members_in (view table.now))) }
         ensures limits { IfOk result IsWithin }

@@ -1,5 +1,5 @@
 ghost use Rattle.std.specs.Prelude.{◌≡◌};
-ghost use Rattle.site_config.specs.declared.fault.ConfigFault.TheVariants.{NoMemory as Lacking};
+ghost use Rattle.site_config.specs.declared.fault.ConfigFault.TheVariants as fault;
 
 use slp_text::NoMemory;
 use std::alloc::{AllocError, AllocFailed};
@@ -23,7 +23,7 @@ pub enum ConfigFault {
 }
 
 impl From<NoMemory> for ConfigFault {
-    ghost from_gives = { λ _ e. e ≡ Lacking };
+    ghost from_gives = { λ _ e. e ≡ fault.NoMemory };
 
     fn from(_e: NoMemory) -> ConfigFault {
         ConfigFault::NoMemory
@@ -31,7 +31,7 @@ impl From<NoMemory> for ConfigFault {
 }
 
 impl From<AllocError> for ConfigFault {
-    ghost from_gives = { λ _ e. e ≡ Lacking };
+    ghost from_gives = { λ _ e. e ≡ fault.NoMemory };
 
     fn from(_e: AllocError) -> ConfigFault {
         ConfigFault::NoMemory
@@ -39,7 +39,7 @@ impl From<AllocError> for ConfigFault {
 }
 
 impl<T: Drop> From<AllocFailed<T>> for ConfigFault {
-    ghost from_gives = { λ _ e. e ≡ Lacking };
+    ghost from_gives = { λ _ e. e ≡ fault.NoMemory };
 
     fn from(_e: AllocFailed<T>) -> ConfigFault {
         ConfigFault::NoMemory

@@ -3,18 +3,19 @@ ghost use Rattle.std.specs.Prelude.{◌≡◌, ◌≤◌, None, [], length, stri
 ghost use Rattle.std.specs.BTreeMap.{keys};
 ghost use Rattle.std.specs.List.{list_all};
 ghost use Rattle.toml.specs.View.{view};
-ghost use Rattle.site_config.specs.Configuring.{scopes_key, listen_key, capacity_key, rules_key, templates_key, are_site_scopes, scopes_in, number_in, are_listening, listen_in, path_in, templates_in, needed, optional, numbers_in, paths_in, is_known as is_known_key, keys_of, IsReading};
+ghost use Rattle.site_config.specs.Configurations as spec;
+ghost use Rattle.site_config.specs.Configurations.{scopes_key, listen_key, capacity_key, rules_key, templates_key, are_site_scopes, scopes_in, number_in, are_listening, listen_in, path_in, templates_in, needed_value, optional_value, numbers_in, paths_in, keys_of, IsReading};
 ghost use Rattle.site_config.specs.Tables.{members_in};
 
 use crate::fault::ConfigFault;
-use crate::{listening, values};
+use crate::{sockets, values};
 use access_rules::Addr;
 use slp_text::{Row, ScopeList, Text};
 use std::alloc::Global;
 use toml::{Table, Value};
 
 pub fn scopes(alloc: Global, table: &Value) -> Result<ScopeList, ConfigFault>
-    ensures value { IsReading result (needed scopes_in scopes_key (members_in (view table.now))) }
+    ensures value { IsReading result (needed_value scopes_in scopes_key (members_in (view table.now))) }
     ensures limits { IfOk result (λ scopes. IsTrue (are_site_scopes scopes)) }
 {
     match table.get("scopes") {
@@ -24,17 +25,17 @@ pub fn scopes(alloc: Global, table: &Value) -> Result<ScopeList, ConfigFault>
 }
 
 pub fn listen(alloc: Global, table: &Value) -> Result<Row<(Addr, u16)>, ConfigFault>
-    ensures value { IsReading result (needed listen_in listen_key (members_in (view table.now))) }
+    ensures value { IsReading result (needed_value listen_in listen_key (members_in (view table.now))) }
     ensures limits { IfOk result (λ sockets. IsTrue (are_listening sockets)) }
 {
     match table.get("listen") {
-        Some(value) => listening::listen(alloc, value),
+        Some(value) => sockets::listen(alloc, value),
         None => Err(ConfigFault::Missing),
     }
 }
 
 fn capacity(table: &Value) -> Result<u32, ConfigFault>
-    ensures value { result ≡ needed (number_in 1 65536) capacity_key (members_in (view table.now)) }
+    ensures value { result ≡ needed_value (number_in 1 65536) capacity_key (members_in (view table.now)) }
     ensures low { IfOk result (λ n. 1 ≤ n) }
     ensures high { IfOk result (λ n. n ≤ 65536) }
 {
@@ -48,7 +49,7 @@ fn capacity(table: &Value) -> Result<u32, ConfigFault>
 fn number(table: &Value, key: &str, usual: u32, high: u32) -> Result<u32, ConfigFault>
     requires low { 1 ≤ usual }
     requires high { usual ≤ high }
-    ensures value { result ≡ optional (number_in 1 high) key.now usual (members_in (view table.now)) }
+    ensures value { result ≡ optional_value (number_in 1 high) key.now usual (members_in (view table.now)) }
     ensures low { IfOk result (λ n. 1 ≤ n) }
     ensures high { IfOk result (λ n. n ≤ high) }
 {
@@ -73,7 +74,7 @@ pub fn numbers(table: &Value) -> Result<(u32, u32, u32), ConfigFault>
 }
 
 fn rules(alloc: Global, table: &Value) -> Result<Option<Text>, ConfigFault>
-    ensures { IsReading result (optional path_in rules_key None (members_in (view table.now))) }
+    ensures { IsReading result (optional_value path_in rules_key None (members_in (view table.now))) }
 {
     match table.get("rules") {
         Some(value) => Ok(Some(values::path(alloc, value)?)),
@@ -82,7 +83,7 @@ fn rules(alloc: Global, table: &Value) -> Result<Option<Text>, ConfigFault>
 }
 
 fn templates(alloc: Global, table: &Value) -> Result<Row<Text>, ConfigFault>
-    ensures value { IsReading result (optional templates_in templates_key [] (members_in (view table.now))) }
+    ensures value { IsReading result (optional_value templates_in templates_key [] (members_in (view table.now))) }
     ensures limit { IfOk result (λ paths. length paths ≤ 256) }
 {
     match table.get("templates") {
@@ -103,7 +104,7 @@ pub fn paths(alloc: Global, table: &Value) -> Result<(Option<Text>, Row<Text>), 
 }
 
 fn is_known(key: &str) -> bool
-    ensures { result ≡ is_known_key key.now }
+    ensures { result ≡ spec.is_known key.now }
 {
     matches!(
         key,
@@ -112,7 +113,7 @@ fn is_known(key: &str) -> bool
 }
 
 fn has_known_keys(table: &Table) -> bool
-    ensures { result ≡ list_all (λ key. is_known_key (string_bytes key)) (keys table.now) }
+    ensures { result ≡ list_all (λ key. spec.is_known (string_bytes key)) (keys table.now) }
 {
     table.keys().all(|key| is_known(key.as_str()))
 }
@@ -120,7 +121,7 @@ fn has_known_keys(table: &Table) -> bool
 /// Whether a table has no key but those of a configuration.
 #[tactic(auto, using(crate::proofs::KeysOfTables::test_keys))]
 pub fn are_known(table: &Value) -> bool
-    ensures { result ≡ list_all is_known_key (keys_of (members_in (view table.now))) }
+    ensures { result ≡ list_all spec.is_known (keys_of (members_in (view table.now))) }
 {
     match table.as_table() {
         Some(table) => has_known_keys(table),

@@ -4,7 +4,7 @@
 mod config;
 mod fault;
 mod keys;
-mod listening;
+mod sockets;
 mod values;
 
 pub use config::{Config, LONGEST_CONFIG};

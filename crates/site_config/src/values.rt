@@ -2,8 +2,9 @@
 ghost use Rattle.std.specs.Prelude.{◌≡◌, ◌≤◌, ◌<◌, ◌^◌, map, length, IfOk, OnErr, IsTrue};
 ghost use Rattle.toml.specs.Data.{as_str};
 ghost use Rattle.toml.specs.View.{view};
-ghost use Rattle.site_config.specs.Configuring.{within, number_in, are_site_scopes as are_within, scopes_in, path_in, each_in, array_in, templates_in, IsReading};
-ghost use Rattle.site_config.specs.declared.fault.ConfigFault.TheVariants.{NoMemory as Lacking};
+ghost use Rattle.site_config.specs.Configurations as spec;
+ghost use Rattle.site_config.specs.Configurations.{in_range, number_in, scopes_in, path_in, each_in, array_in, templates_in, IsReading};
+ghost use Rattle.site_config.specs.declared.fault.ConfigFault.TheVariants as fault;
 
 use crate::fault::ConfigFault;
 use slp_text::{Row, ScopeList, Text, TextFault};
@@ -21,7 +22,7 @@ const MOST_TEMPLATES: usize = 256;
 
 /// The whole number from `low` to `high` that a value is.
 pub fn number(value: &Value, low: u32, high: u32) -> Result<u32, ConfigFault>
-    ensures value { result ≡ within (number_in low high (view value.now)) }
+    ensures value { result ≡ in_range (number_in low high (view value.now)) }
     ensures low { IfOk result (λ n. low ≤ n) }
     ensures high { IfOk result (λ n. n ≤ high) }
 {
@@ -33,8 +34,8 @@ pub fn number(value: &Value, low: u32, high: u32) -> Result<u32, ConfigFault>
 
 // Whether there are 1 to 16 scopes, whose printed list has at most 1,024 bytes.
 fn are_site_scopes(alloc: Global, scopes: &ScopeList) -> Result<bool, ConfigFault>
-    ensures value { IfOk result (λ b. b ≡ are_within scopes.now) }
-    ensures memory { OnErr result (result ≡ Err Lacking) }
+    ensures value { IfOk result (λ b. b ≡ spec.are_site_scopes scopes.now) }
+    ensures memory { OnErr result (result ≡ Err fault.NoMemory) }
 {
     let mut printed = String::new(alloc);
     scopes.print_into(&mut printed)?;
@@ -43,8 +44,8 @@ fn are_site_scopes(alloc: Global, scopes: &ScopeList) -> Result<bool, ConfigFaul
 
 /// The scopes that a value names.
 pub fn scopes(alloc: Global, value: &Value) -> Result<ScopeList, ConfigFault>
-    ensures value { IsReading result (within (scopes_in (view value.now))) }
-    ensures limits { IfOk result (λ scopes. IsTrue (are_within scopes)) }
+    ensures value { IsReading result (in_range (scopes_in (view value.now))) }
+    ensures limits { IfOk result (λ scopes. IsTrue (spec.are_site_scopes scopes)) }
 {
     let Some(text) = value.as_str() else {
         return Err(ConfigFault::Range);
@@ -62,7 +63,7 @@ pub fn scopes(alloc: Global, value: &Value) -> Result<ScopeList, ConfigFault>
 
 /// The path that a value is.
 pub fn path(alloc: Global, value: &Value) -> Result<Text, ConfigFault>
-    ensures { IsReading result (within (as_str (view value.now))) }
+    ensures { IsReading result (in_range (as_str (view value.now))) }
 {
     let Some(path) = value.as_str() else {
         return Err(ConfigFault::Range);
@@ -72,7 +73,7 @@ pub fn path(alloc: Global, value: &Value) -> Result<Text, ConfigFault>
 
 #[tactic(auto, using(crate::proofs::Arrays::read_one, crate::proofs::Arrays::read_none))]
 fn paths(alloc: Global, values: &[Value]) -> Result<Row<Text>, ConfigFault>
-    ensures { IsReading result (within (each_in as_str (map view values.now))) }
+    ensures { IsReading result (in_range (each_in as_str (map view values.now))) }
 {
     let mut paths = Vec::new(alloc);
     for value in values {
@@ -86,7 +87,7 @@ fn paths(alloc: Global, values: &[Value]) -> Result<Row<Text>, ConfigFault>
 
 #[tactic(auto, using(crate::proofs::Arrays::read_array))]
 fn listed(alloc: Global, value: &Value) -> Result<Row<Text>, ConfigFault>
-    ensures { IsReading result (within (array_in as_str (view value.now))) }
+    ensures { IsReading result (in_range (array_in as_str (view value.now))) }
 {
     match value.as_array() {
         Some(values) => paths(alloc, values.as_slice()),
@@ -97,7 +98,7 @@ fn listed(alloc: Global, value: &Value) -> Result<Row<Text>, ConfigFault>
 /// The paths of templates that a value is.
 #[tactic(auto, using(crate::proofs::Readings::refused_too))]
 pub fn templates(alloc: Global, value: &Value) -> Result<Row<Text>, ConfigFault>
-    ensures value { IsReading result (within (templates_in (view value.now))) }
+    ensures value { IsReading result (in_range (templates_in (view value.now))) }
     ensures limit { IfOk result (λ paths. length paths ≤ 256) }
 {
     let paths = listed(alloc, value)?;

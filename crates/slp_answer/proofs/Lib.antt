@@ -1,4 +1,4 @@
-pub mod Lines
+pub mod AnswersTold
+pub mod AuditLines
 pub mod RefusalLines
 pub mod Sizes
-pub mod Tellings

@@ -7,14 +7,15 @@ use Rattle.std.proofs.lemmas.List.{length-append}
 use Rattle.slp_headers.specs.Headers.{Heading, reply_function_of}
 use Rattle.access_rules.specs.declared.rule.Action.{Action}
 use Rattle.access_rules.specs.declared.rule.Action.TheVariants.{Register, Withdraw, See}
-use Rattle.directory_judge.specs.declared.because.Decider.TheVariants.{Memory}
+use Rattle.directory_judge.specs.declared.reason.Decider.TheVariants.{Memory}
 use Rattle.access_rules.specs.Addresses.{address_text}
-use Rattle.slp_answer.specs.Auditing.{action_text, audit_text, line_text}
-use Rattle.directory_judge.specs.Judging.{by_step}
-use Rattle.directory_answers.specs.Outcomes.{coded_as, refused, silence}
+use Rattle.slp_answer.specs.Audits.{action_text, audit_text, line_text}
+use Rattle.directory_judge.specs.Judgements.{by_step}
+use Rattle.directory_answers.specs.Outcomes.{code_outcome_as, refusal_outcome, silence}
 use Rattle.slp_answer.specs.declared.audit.Audit.{Audit}
-use Rattle.slp_answer.specs.Telling.{action_of, line_by, line_of}
-use Rattle.slp_answer.proofs.Lines.{head_length, line_length, tail_length}
+use Rattle.slp_answer.specs.Answers.{action_of, line_by, line_of}
+use Rattle.slp_answer.proofs.AuditLines.{head_length, line_length, tail_length}
+use Rattle.slp_text.specs.Ascii.{dot}
 
 -- what it tells
 abbrev pub lacking : Action → ℕ → Audit
@@ -34,11 +35,11 @@ address_is_short asker small =
     let b = octet_is_short (asker / 65536 % 256) (omega arith) in
     let c = octet_is_short (asker / 256 % 256) (omega arith) in
     let d = octet_is_short (asker % 256) (omega arith) in
-    let two = decimal (asker / 16777216) ++ 46 ∷ decimal (asker / 65536 % 256) in
-    let three = two ++ 46 ∷ decimal (asker / 256 % 256) in
-    let whole : length (address_text asker) ≡ length three + suc (length (decimal (asker % 256))) = length-append three (46 ∷ decimal (asker % 256)) in
-    let of_three : length three ≡ length two + suc (length (decimal (asker / 256 % 256))) = length-append two (46 ∷ decimal (asker / 256 % 256)) in
-    let of_two : length two ≡ length (decimal (asker / 16777216)) + suc (length (decimal (asker / 65536 % 256))) = length-append (decimal (asker / 16777216)) (46 ∷ decimal (asker / 65536 % 256)) in
+    let two = decimal (asker / 16777216) ++ dot ∷ decimal (asker / 65536 % 256) in
+    let three = two ++ dot ∷ decimal (asker / 256 % 256) in
+    let whole : length (address_text asker) ≡ length three + suc (length (decimal (asker % 256))) = length-append three (dot ∷ decimal (asker % 256)) in
+    let of_three : length three ≡ length two + suc (length (decimal (asker / 256 % 256))) = length-append two (dot ∷ decimal (asker / 256 % 256)) in
+    let of_two : length two ≡ length (decimal (asker / 16777216)) + suc (length (decimal (asker / 65536 % 256))) = length-append (decimal (asker / 16777216)) (dot ∷ decimal (asker / 65536 % 256)) in
     omega (arith, a, b, c, d, whole, of_three, of_two)
 
 pub line_is_short : (a : Action) (asker : ℕ) → asker < 2 ^ 32 → length (line_text [] (lacking a asker)) < 128
@@ -54,7 +55,7 @@ line_is_short a asker small =
     omega (arith, whole, head, tail, beginning, word, ten, short_word, short_address)
 
 pub line_is_refused : (asker : ℕ) (h : Heading) (f : ℕ) (a : Action) (line : List ℕ) → Some f ≡ reply_function_of h.function
-    → a ≡ action_of h.function → line ≡ audit_text [] (lacking a asker) → line ≡ line_of [] asker (Some h) (refused (Some h))
+    → a ≡ action_of h.function → line ≡ audit_text [] (lacking a asker) → line ≡ line_of [] asker (Some h) (refusal_outcome (Some h))
 line_is_refused asker h f a line known action written =
     written ∙ ap (λ (x : Action). audit_text [] (lacking x asker)) action
-    ∙ ap (λ (o : Option ℕ). line_by [] asker h (option_map_or (coded_as h 10 (by_step Memory None)) o silence)) known
+    ∙ ap (λ (o : Option ℕ). line_by [] asker h (option_map_or (code_outcome_as h 10 (by_step Memory None)) o silence)) known

@@ -7,13 +7,13 @@ use Rattle.std.proofs.lemmas.Bool.Decides.{nat_tests}
 use Rattle.std.proofs.lemmas.List.{length-append}
 use borrow.Author.Tests.{lt-ltb}
 use Rattle.slp_fields.specs.Spelling.{entry_bytes}
-use Rattle.slp_wire.specs.Spelling.{plain, body_of}
+use Rattle.slp_wire.specs.Spelling.{plain_bytes, body_of}
 use Rattle.slp_headers.specs.Headers.{Heading}
 use Rattle.slp_messages.specs.declared.message.UrlEntry.{UrlEntry}
-use Rattle.directory_answers.specs.Cutting.{IsCut, services_with}
-use Rattle.directory_state.specs.Fitting.{IsFront, size_in}
-use Rattle.directory_state.specs.declared.finding.Room.{Room}
-use Rattle.slp_answer.specs.Listing.{listed_with}
+use Rattle.directory_answers.specs.Cuts.{IsCut, services_with}
+use Rattle.directory_state.specs.Fronts.{IsFront, size_in}
+use Rattle.directory_state.specs.declared.search.Room.{Room}
+use Rattle.slp_answer.specs.ServiceReplies.{service_reply}
 
 -- the bytes of these entries
 abbrev pub size : List UrlEntry → ℕ
@@ -22,7 +22,7 @@ size es = length (flat_map (entry_bytes 0) es)
 size_of_one : (e : UrlEntry) (es : List UrlEntry) → size (e ∷ es) ≡ length (entry_bytes 0 e) + size es
 size_of_one e es = length-append (entry_bytes 0 e) (flat_map (entry_bytes 0) es)
 
-pub reply_size : (h : Heading) (items : List UrlEntry) (k : ℕ) → length (plain (services_with h items k)) ≡ 18 + length h.language + size (take k items)
+pub reply_size : (h : Heading) (items : List UrlEntry) (k : ℕ) → length (plain_bytes (services_with h items k)) ≡ 18 + length h.language + size (take k items)
 reply_size h items k =
     omega (arith, length-append h.language (body_of (services_with h items k)), length-append (flat_map (entry_bytes 0) (take k items)) [])
 
@@ -57,13 +57,13 @@ no_items count number shown le is =
 
 module _ (h : Heading) (room : Room) (all items : List UrlEntry) (is_cut : Bool) (limit : ℕ) (whole : room.bytes + 18 + length h.language ≡ limit) (six : room.each ≡ 6) (front : IsFront room all items is_cut) where
   -- the reply with those for which there is room is the one that is cut to the limit
-  pub front-cut : IsCut (length all) (services_with h all) limit (plain (listed_with h is_cut items))
+  pub front-cut : IsCut (length all) (services_with h all) limit (plain_bytes (service_reply h is_cut items))
   front-cut = record {
     count = front.count;
     within = front.within;
     fits = omega (arith, whole, front.fits, size_in-is room (take front.count all) six, reply_size h all front.count);
     longest = λ other within fits. front.longest other within (omega (arith, whole, fits, size_in-is room (take other all) six, reply_size h all other));
-    spelled = ap₂ (λ (c : Bool) (is : List UrlEntry). plain (listed_with h c is)) front.more front.items_are;
+    spelled = ap₂ (λ (c : Bool) (is : List UrlEntry). plain_bytes (service_reply h c is)) front.more front.items_are;
   }
 
   pub front-empty : (length items == 0 && not is_cut) ≡ (length all == 0)
@@ -72,6 +72,6 @@ module _ (h : Heading) (room : Room) (all items : List UrlEntry) (is_cut : Bool)
       ∙ no_items front.count (length all) (length items) front.within (ap (λ (is : List UrlEntry). length is) front.items_are ∙ length-take-le front.count all front.within)
 
 -- a reply with what there is room for is within the limit
-pub room-short : (h : Heading) (room : Room) (items : List UrlEntry) (is_cut : Bool) (limit : ℕ) → room.bytes + 18 + length h.language ≡ limit → room.each ≡ 6 → size_in room items ≤ room.bytes → length (plain (listed_with h is_cut items)) ≤ limit
+pub room-short : (h : Heading) (room : Room) (items : List UrlEntry) (is_cut : Bool) (limit : ℕ) → room.bytes + 18 + length h.language ≡ limit → room.each ≡ 6 → size_in room items ≤ room.bytes → length (plain_bytes (service_reply h is_cut items)) ≤ limit
 room-short h room items is_cut limit whole six fits =
-    omega (arith, whole, fits, size_in-is room items six, length-append h.language (body_of (listed_with h is_cut items)), length-append (flat_map (entry_bytes 0) items) [])
+    omega (arith, whole, fits, size_in-is room items six, length-append h.language (body_of (service_reply h is_cut items)), length-append (flat_map (entry_bytes 0) items) [])

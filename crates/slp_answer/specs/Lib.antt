@@ -1,3 +1,3 @@
-pub mod Auditing
-pub mod Listing
-pub mod Telling
+pub mod Answers
+pub mod Audits
+pub mod ServiceReplies

@@ -1,19 +1,19 @@
 ghost use Rattle.std.specs.Prelude.{◌≡◌, [], true, IfOk, OnErr, Some, None};
 ghost use Rattle.std.specs.Option.{option_map};
-ghost use Rattle.slp_headers.specs.Headers.{heading};
+ghost use Rattle.slp_headers.specs.Headers.{heading_in};
 ghost use Rattle.slp_messages.specs.Messages.{IsMessage};
 ghost use Rattle.slp_messages.specs.Views.{message_in};
 ghost use Rattle.directory_judge.specs.History.{History};
-ghost use Rattle.directory_judge.specs.Judging.{Judgement, found_in};
-ghost use Rattle.directory_answers.specs.Answering.{is_change_of};
+ghost use Rattle.directory_judge.specs.Judgements.{Judgement, finding_of};
+ghost use Rattle.directory_answers.specs.Answers.{is_change_of};
 ghost use Rattle.directory_answers.specs.Calls.{Opening};
-ghost use Rattle.directory_answers.specs.Outcomes.{acknowledged};
+ghost use Rattle.directory_answers.specs.Outcomes.{acknowledgement_of};
 ghost use Rattle.directory_answers.specs.Verdicts.{IsLegal, IsVerdict, change_in};
-ghost use Rattle.directory_state.specs.Folding.{Fold, HandsOut};
-ghost use Rattle.slp_answer.specs.Telling.{Tells, Acknowledges, told_of};
+ghost use Rattle.directory_state.specs.Folds.{Fold, HandsOut};
+ghost use Rattle.slp_answer.specs.Answers.{Tells, Acknowledges, outcome_of_finding};
 
 use crate::answer::{Answer, Sent};
-use crate::coded::{Headed, answer_code, answer_fault};
+use crate::code_replies::{Headed, answer_code, answer_fault};
 use access_rules::{Addr, Rules};
 use directory_answers::{Call, asked_change};
 use directory_judge::{Change, Finding};
@@ -32,8 +32,8 @@ fn answer_finding(
 ) -> Result<Sent, NoMemory>
     requires no_reply { answer.old.bytes.items ≡ [] }
     requires no_line { answer.old.audit.items ≡ [] }
-    ensures { let head = heading headed.now.header.now in
-        IfOk result (λ what. Tells rules.now headed.now.call.now.asker (Some head) (told_of head (option_map found_in finding.entry)) what answer.new.bytes.items answer.new.audit.items) }
+    ensures { let head = heading_in headed.now.header.now in
+        IfOk result (λ what. Tells rules.now headed.now.call.now.asker (Some head) (outcome_of_finding head (option_map finding_of finding.entry)) what answer.new.bytes.items answer.new.audit.items) }
 {
     match finding {
         Some(finding) => answer_code(rules, headed.call.asker, headed.header, finding, answer),
@@ -54,7 +54,7 @@ fn acknowledge_change<R: Registry>(
     requires no_line { answer.old.audit.items ≡ [] }
     ensures { (o : Opening) (h : History) → Fold o h directory.now → IsLegal o h
         → IfOk result (λ p. (v : Judgement) × IsVerdict o h headed.now.call.now.moment headed.now.call.now.asker (message_in change.now) v
-        × Tells directory.now.rules headed.now.call.now.asker (Some (heading headed.now.header.now)) (acknowledged (heading headed.now.header.now) v) p.0 answer.new.bytes.items answer.new.audit.items
+        × Tells directory.now.rules headed.now.call.now.asker (Some (heading_in headed.now.header.now)) (acknowledgement_of (heading_in headed.now.header.now) v) p.0 answer.new.bytes.items answer.new.audit.items
         × HandsOut o h p.1 (change_in v)) }
 {
     let (rules, call) = (directory.rules(), headed.call);

@@ -2,8 +2,9 @@ ghost use Rattle.std.specs.Prelude.{◌≡◌, ◌≤◌, ◌+◌, [], ◌++◌,
 ghost use Rattle.std.specs.Fmt.{decimal};
 ghost use Rattle.std.specs.Option.{option_copied};
 ghost use Rattle.access_rules.specs.Addresses.{address_text};
-ghost use Rattle.slp_answer.specs.Auditing.{action_text, audit_of, decider_text, rule_named, text_or_dash, beginning_text, ending_text, head_text, tail_text, line_text, audit_text};
-ghost use Rattle.slp_text.specs.Escapes.{written_at, escaped};
+ghost use Rattle.slp_answer.specs.Audits.{action_text, audit_of, decider_text, rule_named, text_or_dash, beginning_text, ending_text, head_text, tail_text, line_text, audit_text};
+ghost use Rattle.slp_text.specs.Ascii.{dot};
+ghost use Rattle.slp_text.specs.Escapes.{written_character, escaped_text};
 ghost use Rattle.slp_text.specs.declared.escapes.Place.TheVariants.{Scope};
 
 use crate::sink::Sink;
@@ -80,9 +81,9 @@ fn put_number<S: Sink>(sink: &mut S, number: u16) -> Result<(), NoMemory>
 }
 
 fn put_dotted<S: Sink>(sink: &mut S, number: u16) -> Result<(), NoMemory>
-    ensures ok { OnOk result (S.written sink.new ≡ S.written sink.old ++ (decimal number ++ 46 ∷ [])) }
-    ensures room { OnOk result (S.room sink.old ≤ S.room sink.new + length (decimal number ++ 46 ∷ [])) }
-    ensures err { OnErr result (S.room sink.old ≤ length (decimal number ++ 46 ∷ [])) }
+    ensures ok { OnOk result (S.written sink.new ≡ S.written sink.old ++ (decimal number ++ dot ∷ [])) }
+    ensures room { OnOk result (S.room sink.old ≤ S.room sink.new + length (decimal number ++ dot ∷ [])) }
+    ensures err { OnErr result (S.room sink.old ≤ length (decimal number ++ dot ∷ [])) }
 {
     put_number(sink, number)?;
     sink.put(".")
@@ -158,9 +159,9 @@ fn put_character<S: Sink>(sink: &mut S, c: char) -> Result<(), NoMemory>
 
 // A character of a scope, as it is written in lists of scopes.
 fn put_written<S: Sink>(sink: &mut S, c: char) -> Result<(), NoMemory>
-    ensures ok { OnOk result (S.written sink.new ≡ S.written sink.old ++ encode_utf8_all (written_at Scope c)) }
-    ensures room { OnOk result (S.room sink.old ≤ S.room sink.new + length (encode_utf8_all (written_at Scope c))) }
-    ensures err { OnErr result (S.room sink.old ≤ length (encode_utf8_all (written_at Scope c))) }
+    ensures ok { OnOk result (S.written sink.new ≡ S.written sink.old ++ encode_utf8_all (written_character Scope c)) }
+    ensures room { OnOk result (S.room sink.old ≤ S.room sink.new + length (encode_utf8_all (written_character Scope c))) }
+    ensures err { OnErr result (S.room sink.old ≤ length (encode_utf8_all (written_character Scope c))) }
 {
     if !is_reserved(Place::Scope, c) {
         return put_character(sink, c);
@@ -173,9 +174,9 @@ fn put_written<S: Sink>(sink: &mut S, c: char) -> Result<(), NoMemory>
 
 // A scope with its escapes.
 fn put_escaped<S: Sink>(sink: &mut S, scope: &str) -> Result<(), NoMemory>
-    ensures ok { OnOk result (S.written sink.new ≡ S.written sink.old ++ encode_utf8_all (escaped Scope (chars scope.now))) }
-    ensures room { OnOk result (S.room sink.old ≤ S.room sink.new + length (encode_utf8_all (escaped Scope (chars scope.now)))) }
-    ensures err { OnErr result (S.room sink.old ≤ length (encode_utf8_all (escaped Scope (chars scope.now)))) }
+    ensures ok { OnOk result (S.written sink.new ≡ S.written sink.old ++ encode_utf8_all (escaped_text Scope (chars scope.now))) }
+    ensures room { OnOk result (S.room sink.old ≤ S.room sink.new + length (encode_utf8_all (escaped_text Scope (chars scope.now)))) }
+    ensures err { OnErr result (S.room sink.old ≤ length (encode_utf8_all (escaped_text Scope (chars scope.now)))) }
 {
     for c in scope.chars() {
         put_written(sink, c)?;
@@ -185,9 +186,9 @@ fn put_escaped<S: Sink>(sink: &mut S, scope: &str) -> Result<(), NoMemory>
 
 // The same, in one piece where it is plain.
 fn put_scope<S: Sink>(sink: &mut S, scope: &str) -> Result<(), NoMemory>
-    ensures ok { OnOk result (S.written sink.new ≡ S.written sink.old ++ encode_utf8_all (escaped Scope (chars scope.now))) }
-    ensures room { OnOk result (S.room sink.old ≤ S.room sink.new + length (encode_utf8_all (escaped Scope (chars scope.now)))) }
-    ensures err { OnErr result (S.room sink.old ≤ length (encode_utf8_all (escaped Scope (chars scope.now)))) }
+    ensures ok { OnOk result (S.written sink.new ≡ S.written sink.old ++ encode_utf8_all (escaped_text Scope (chars scope.now))) }
+    ensures room { OnOk result (S.room sink.old ≤ S.room sink.new + length (encode_utf8_all (escaped_text Scope (chars scope.now)))) }
+    ensures err { OnErr result (S.room sink.old ≤ length (encode_utf8_all (escaped_text Scope (chars scope.now)))) }
 {
     if is_plain(scope.as_bytes()) {
         return sink.put(scope);

@@ -4,7 +4,7 @@
 mod acknowledgements;
 mod answer;
 mod audit;
-mod coded;
+mod code_replies;
 mod listing;
 mod refusals;
 mod replies;

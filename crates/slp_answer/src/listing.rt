@@ -2,17 +2,17 @@
 ghost use Rattle.std.specs.Prelude.{◌≡◌, ◌≤◌, ◌+◌, ◌-◌, ◌++◌, length, vec_len, vec_capacity, IfOk, []};
 ghost use Rattle.std.specs.List.{flat_map};
 ghost use Rattle.slp_fields.specs.Spelling.{entry_bytes};
-ghost use Rattle.slp_headers.specs.Headers.{heading};
-ghost use Rattle.slp_wire.specs.Spelling.{plain};
-ghost use Rattle.directory_state.specs.Fitting.{items_in};
-ghost use Rattle.slp_answer.specs.Listing.{listed_with};
+ghost use Rattle.slp_headers.specs.Headers.{heading_in};
+ghost use Rattle.slp_wire.specs.Spelling.{plain_bytes};
+ghost use Rattle.directory_state.specs.Fronts.{items_in};
+ghost use Rattle.slp_answer.specs.ServiceReplies.{service_reply};
 
-use directory_state::{Found, Room};
+use directory_state::{FoundItems, Room};
 use slp_text::NoMemory;
 use slp_wire::{HeaderView, append, code, flag, function, opening, place, put_entry, two_bytes};
 
 // The bytes of a reply with no item, but for the language tag: a header, a code and a count.
-const EMPTY_REPLY: usize = place::TAG + 2 + 2;
+const EMPTY_REPLY: usize = offset::TAG + 2 + 2;
 
 // The bytes of a URL entry, but for its URL: a reserved byte, a lifetime, a length and a count.
 const EMPTY_ENTRY: usize = 6;
@@ -30,7 +30,7 @@ pub fn room_in(header: &HeaderView<'_>, limit: usize) -> Room
 }
 
 // The bytes of the entries that were found.
-fn entries_length(found: &Found<'_>) -> usize
+fn entries_length(found: &FoundItems<'_>) -> usize
     requires { length (flat_map (entry_bytes 0) (items_in found.now)) ≤ 65535 }
     ensures { result ≡ length (flat_map (entry_bytes 0) (items_in found.now)) }
 {
@@ -42,7 +42,7 @@ fn entries_length(found: &Found<'_>) -> usize
 }
 
 // Appends the entries that were found, for which there is room.
-fn put_entries(bytes: &mut Vec<u8>, found: &Found<'_>)
+fn put_entries(bytes: &mut Vec<u8>, found: &FoundItems<'_>)
     requires room { vec_len bytes.old + length (flat_map (entry_bytes 0) (items_in found.now)) ≤ vec_capacity bytes.old }
     ensures items { bytes.new.items ≡ bytes.old.items ++ flat_map (entry_bytes 0) (items_in found.now) }
 {
@@ -57,12 +57,12 @@ fn put_entries(bytes: &mut Vec<u8>, found: &Found<'_>)
 /// Writes the reply to a service request with what was found.
 pub fn put_found(
     header: &HeaderView<'_>,
-    found: &Found<'_>,
+    found: &FoundItems<'_>,
     bytes: &mut Vec<u8>,
 ) -> Result<(), NoMemory>
     requires empty { bytes.old.items ≡ [] }
-    requires short { length (plain (listed_with (heading header.now) found.now.is_cut (items_in found.now))) ≤ 65535 }
-    ensures { IfOk result (λ _. bytes.new.items ≡ plain (listed_with (heading header.now) found.now.is_cut (items_in found.now))) }
+    requires short { length (plain_bytes (service_reply (heading_in header.now) found.now.is_cut (items_in found.now))) ≤ 65535 }
+    ensures { IfOk result (λ _. bytes.new.items ≡ plain_bytes (service_reply (heading_in header.now) found.now.is_cut (items_in found.now))) }
 {
     let tag = header.language.as_bytes();
     let total = EMPTY_REPLY + tag.len() + entries_length(found);

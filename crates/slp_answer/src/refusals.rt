@@ -1,14 +1,14 @@
 ghost use Rattle.std.specs.Prelude.{◌≡◌, ◌≤◌, [], false, take, None};
-ghost use Rattle.slp_headers.specs.Headers.{heading, heading_of, refusal_bytes};
+ghost use Rattle.slp_headers.specs.Headers.{heading_in, heading_of, refusal_bytes};
 ghost use Rattle.slp_messages.specs.declared.code.TheConstants.{INTERNAL_ERROR};
-ghost use Rattle.directory_judge.specs.Judging.{by_step};
-ghost use Rattle.directory_judge.specs.declared.because.Decider.TheVariants.{Memory};
-ghost use Rattle.slp_answer.specs.Auditing.{audit_text};
-ghost use Rattle.directory_answers.specs.Outcomes.{refused, sent_of};
-ghost use Rattle.slp_answer.specs.Telling.{action_of, line_of};
+ghost use Rattle.directory_judge.specs.Judgements.{by_step};
+ghost use Rattle.directory_judge.specs.declared.reason.Decider.TheVariants.{Memory};
+ghost use Rattle.slp_answer.specs.Audits.{audit_text};
+ghost use Rattle.directory_answers.specs.Outcomes.{refusal_outcome, sent_of};
+ghost use Rattle.slp_answer.specs.Answers.{action_of, line_of};
 
 use crate::audit::{AuditView, write_line};
-use crate::coded::is_unsent;
+use crate::code_replies::is_unsent;
 use crate::sink::ShortLine;
 use access_rules::{Action, Addr};
 use directory_judge::{Decider, Reason};
@@ -26,7 +26,7 @@ pub(crate) fn action_in(function: u8) -> Action
 }
 
 fn put_reply(header: &HeaderView<'_>, function: u8, reply: &mut [u8; 80]) -> usize
-    ensures bytes { take result reply.new ≡ sent_of (heading header.now) INTERNAL_ERROR false (refusal_bytes function INTERNAL_ERROR header.now.xid header.now.language.now) }
+    ensures bytes { take result reply.new ≡ sent_of (heading_in header.now) INTERNAL_ERROR false (refusal_bytes function INTERNAL_ERROR header.now.xid header.now.language.now) }
     ensures room { result ≤ 80 }
 {
     if is_unsent(header, code::INTERNAL_ERROR, false) {
@@ -68,8 +68,8 @@ pub fn refusal(
     reply: &mut [u8; 80],
     line: &mut [u8; 128],
 ) -> (usize, usize)
-    ensures reply { take result.0 reply.new ≡ (refused (heading_of bytes.now)).reply }
-    ensures line { take result.1 line.new ≡ line_of [] asker (heading_of bytes.now) (refused (heading_of bytes.now)) }
+    ensures reply { take result.0 reply.new ≡ (refusal_outcome (heading_of bytes.now)).reply }
+    ensures line { take result.1 line.new ≡ line_of [] asker (heading_of bytes.now) (refusal_outcome (heading_of bytes.now)) }
     ensures room { result.0 ≤ 80 }
     ensures line_room { result.1 ≤ 128 }
 {

@@ -1,29 +1,29 @@
 ghost use Rattle.std.specs.Prelude.{◌≡◌, ◌≤◌, ◌==◌, ◌&&◌, ◌||◌, [], false, if◌then◌else◌, not, length, IfOk, OnErr, Some, None};
-ghost use Rattle.slp_headers.specs.Headers.{heading, heading_of};
-ghost use Rattle.slp_wire.specs.Spelling.{plain};
+ghost use Rattle.slp_headers.specs.Headers.{heading_in, heading_of};
+ghost use Rattle.slp_wire.specs.Spelling.{plain_bytes};
 ghost use Rattle.directory_judge.specs.History.{History};
-ghost use Rattle.directory_judge.specs.Judging.{by_step};
-ghost use Rattle.directory_judge.specs.declared.because.Decider.TheVariants as decider;
-ghost use Rattle.directory_answers.specs.Answering.{is_change_of, sense_asked, IsAnswerTo};
+ghost use Rattle.directory_judge.specs.Judgements.{by_step};
+ghost use Rattle.directory_judge.specs.declared.reason.Decider.TheVariants as decider;
+ghost use Rattle.directory_answers.specs.Answers.{is_change_of, sense_of_question, IsAnswerTo};
 ghost use Rattle.directory_answers.specs.Calls.{Opening, call_in};
 ghost use Rattle.directory_answers.specs.Outcomes.{Outcome, is_to_many, outcome, sent_of};
 ghost use Rattle.directory_answers.specs.Verdicts.{IsLegal};
-ghost use Rattle.directory_answers.specs.declared.question.Question.TheVariants.{Asks as Asked};
-ghost use Rattle.directory_state.specs.Fitting.{items_in};
-ghost use Rattle.directory_state.specs.Folding.{Fold};
-ghost use Rattle.slp_answer.specs.Listing.{listed_with};
-ghost use Rattle.slp_answer.specs.Telling.{Tells, Replies};
-ghost use Rattle.slp_answer.specs.declared.answer.Sent.TheVariants.{Silence as Nothing, Bytes as Code};
+ghost use Rattle.directory_answers.specs.declared.question.Question.TheVariants as question;
+ghost use Rattle.directory_state.specs.Fronts.{items_in};
+ghost use Rattle.directory_state.specs.Folds.{Fold};
+ghost use Rattle.slp_answer.specs.ServiceReplies.{service_reply};
+ghost use Rattle.slp_answer.specs.Answers.{Tells, Replies};
+ghost use Rattle.slp_answer.specs.declared.answer.Sent.TheVariants as sent;
 
 use crate::answer::{Answer, Sent};
 use crate::audit::{AuditView, put_line};
-use crate::coded::{Headed, answer_code, answer_fault, is_unsent};
+use crate::code_replies::{Headed, answer_code, answer_fault, is_unsent};
 use crate::listing::{put_found, room_in};
 use crate::refusals::action_in;
 use access_rules::{Addr, Rules};
 use directory_answers::{Call, QueryFault, Question, ServiceQuery, asked, understood};
 use directory_judge::{Decider, Finding};
-use directory_state::{Directory, Found};
+use directory_state::{Directory, FoundItems};
 use registry_core::Registry;
 use service_url::ServiceType;
 use slp_text::NoMemory;
@@ -33,15 +33,15 @@ use std::alloc::Global;
 // Writes the services that were found, where a reply is sent.
 fn write_found(
     header: &HeaderView<'_>,
-    found: &Found<'_>,
+    found: &FoundItems<'_>,
     answer: &mut Answer,
 ) -> Result<Sent, NoMemory>
-    requires short { length (plain (listed_with (heading header.now) found.now.is_cut (items_in found.now))) ≤ 65535 }
+    requires short { length (plain_bytes (service_reply (heading_in header.now) found.now.is_cut (items_in found.now))) ≤ 65535 }
     requires no_reply { answer.old.bytes.items ≡ [] }
     ensures bytes { let is_empty = length (items_in found.now) == 0 && not found.now.is_cut in
-        IfOk result (λ _. answer.new.bytes.items ≡ sent_of (heading header.now) 0 is_empty (plain (listed_with (heading header.now) found.now.is_cut (items_in found.now)))) }
+        IfOk result (λ _. answer.new.bytes.items ≡ sent_of (heading_in header.now) 0 is_empty (plain_bytes (service_reply (heading_in header.now) found.now.is_cut (items_in found.now)))) }
     ensures sent { let is_empty = length (items_in found.now) == 0 && not found.now.is_cut in
-        IfOk result (λ what. what ≡ (if is_to_many (heading header.now) && (not (0 == 0) || is_empty) then Nothing else Code 0)) }
+        IfOk result (λ what. what ≡ (if is_to_many (heading_in header.now) && (not (0 == 0) || is_empty) then sent.Silence else sent.Bytes 0)) }
     ensures audit { answer.new.audit ≡ answer.old.audit }
 {
     let is_empty = found.latest.is_empty() && !found.is_cut;
@@ -57,14 +57,14 @@ fn send_found(
     rules: &Rules,
     headed: &Headed<'_>,
     kind: &ServiceType,
-    found: &Found<'_>,
+    found: &FoundItems<'_>,
     answer: &mut Answer,
 ) -> Result<Sent, NoMemory>
-    requires short { length (plain (listed_with (heading headed.now.header.now) found.now.is_cut (items_in found.now))) ≤ 65535 }
+    requires short { length (plain_bytes (service_reply (heading_in headed.now.header.now) found.now.is_cut (items_in found.now))) ≤ 65535 }
     requires no_reply { answer.old.bytes.items ≡ [] }
     requires no_line { answer.old.audit.items ≡ [] }
-    ensures { let head = heading headed.now.header.now in
-        let whole = plain (listed_with head found.now.is_cut (items_in found.now)) in
+    ensures { let head = heading_in headed.now.header.now in
+        let whole = plain_bytes (service_reply head found.now.is_cut (items_in found.now)) in
         let is_empty = length (items_in found.now) == 0 && not found.now.is_cut in
         IfOk result (λ what. Tells rules.now headed.now.call.now.asker (Some head) (outcome (sent_of head 0 is_empty whole) 0 (by_step decider.Nobody (Some kind.now))) what answer.new.bytes.items answer.new.audit.items) }
 {
@@ -95,8 +95,8 @@ fn answer_query<R: Registry>(
     requires no_reply { answer.old.bytes.items ≡ [] }
     requires no_line { answer.old.audit.items ≡ [] }
     ensures { (o : Opening) (h : History) → Fold o h directory.now → IsLegal o h
-        → IfOk result (λ what. (r : Outcome) × IsAnswerTo o h (call_in headed.now.call.now) (sense_asked o.site (heading headed.now.header.now) (Asked query.now)) r None
-        × Tells directory.now.rules headed.now.call.now.asker (Some (heading headed.now.header.now)) r what answer.new.bytes.items answer.new.audit.items) }
+        → IfOk result (λ what. (r : Outcome) × IsAnswerTo o h (call_in headed.now.call.now) (sense_of_question o.site (heading_in headed.now.header.now) (question.Asks query.now)) r None
+        × Tells directory.now.rules headed.now.call.now.asker (Some (heading_in headed.now.header.now)) r what answer.new.bytes.items answer.new.audit.items) }
 {
     let Headed { call, header } = *headed;
     let room = room_in(header, call.limit);
@@ -123,7 +123,7 @@ fn answer_request<R: Registry>(
     header: &HeaderView<'_>,
     answer: &mut Answer,
 ) -> Result<Sent, NoMemory>
-    requires header { heading_of call.now.bytes.now ≡ Some (heading header.now) }
+    requires header { heading_of call.now.bytes.now ≡ Some (heading_in header.now) }
     requires function { header.now.function ≡ 1 }
     requires datagram { 1400 ≤ call.now.limit }
     requires stream { call.now.limit ≤ 65535 }

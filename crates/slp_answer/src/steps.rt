@@ -2,8 +2,8 @@ ghost use Rattle.std.specs.Prelude.{◌≡◌, ◌≤◌, [], IfOk, OnErr};
 ghost use Rattle.directory_judge.specs.History.{History};
 ghost use Rattle.directory_answers.specs.Calls.{Opening, call_in};
 ghost use Rattle.directory_answers.specs.Verdicts.{IsLegal};
-ghost use Rattle.directory_state.specs.Folding.{Fold};
-ghost use Rattle.slp_answer.specs.Telling.{Steps};
+ghost use Rattle.directory_state.specs.Folds.{Fold};
+ghost use Rattle.slp_answer.specs.Answers.{Steps};
 
 use crate::acknowledgements::acknowledge;
 use crate::answer::{Answer, Sent};

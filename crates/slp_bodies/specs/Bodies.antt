@@ -15,24 +15,24 @@ use Rattle.slp_messages.specs.declared.message.TypeReply.TheVariants as type_rep
 use Rattle.slp_messages.specs.declared.message.TypeReply.{TypeReply}
 use Rattle.slp_messages.specs.declared.message.TypeRequest.{TypeRequest}
 use Rattle.slp_messages.specs.declared.message.Withdrawal.{Withdrawal}
-use Rattle.slp_fields.specs.Reading.{laid_at}
+use Rattle.slp_fields.specs.Reading.{layout_at}
 use Rattle.slp_fields.specs.declared.fault.WireFault.{WireFault}
 use Rattle.slp_bodies.specs.Replies.{reply_at}
 
 unfoldable pub service_request_at : List ℕ → Result (ServiceRequest × List ℕ) WireFault
-service_request_at bytes = laid_at service_request bytes
+service_request_at bytes = layout_at service_request bytes
 
 unfoldable pub service_reply_at : ℕ → List ℕ → Result (ServiceReply × List ℕ) WireFault
 service_reply_at tail bytes = reply_at services service_reply.Found service_reply.Refused tail bytes
 
 unfoldable pub registration_at : List ℕ → Result (Registration × List ℕ) WireFault
-registration_at bytes = laid_at registration bytes
+registration_at bytes = layout_at registration bytes
 
 unfoldable pub withdrawal_at : List ℕ → Result (Withdrawal × List ℕ) WireFault
-withdrawal_at bytes = laid_at withdrawal bytes
+withdrawal_at bytes = layout_at withdrawal bytes
 
 unfoldable pub attribute_request_at : List ℕ → Result (AttributeRequest × List ℕ) WireFault
-attribute_request_at bytes = laid_at attribute_request bytes
+attribute_request_at bytes = layout_at attribute_request bytes
 
 unfoldable pub attribute_reply_at : ℕ → List ℕ → Result (AttributeReply × List ℕ) WireFault
 attribute_reply_at tail bytes = reply_at attributes attribute_reply.Found attribute_reply.Refused tail bytes
@@ -41,10 +41,10 @@ unfoldable pub directory_advert_at : ℕ → List ℕ → Result (DirectoryAdver
 directory_advert_at tail bytes = reply_at directory_agent directory_advert.Present directory_advert.Refused tail bytes
 
 unfoldable pub type_request_at : List ℕ → Result (TypeRequest × List ℕ) WireFault
-type_request_at bytes = laid_at type_request bytes
+type_request_at bytes = layout_at type_request bytes
 
 unfoldable pub type_reply_at : ℕ → List ℕ → Result (TypeReply × List ℕ) WireFault
 type_reply_at tail bytes = reply_at types type_reply.Found type_reply.Refused tail bytes
 
 unfoldable pub service_agent_at : List ℕ → Result (ServiceAgent × List ℕ) WireFault
-service_agent_at bytes = laid_at service_agent bytes
+service_agent_at bytes = layout_at service_agent bytes

@@ -3,9 +3,9 @@ ghost use Rattle.std.specs.Prelude.{◌≡◌, ◌++◌};
 ghost use Rattle.std.specs.List.{AllByRecursion};
 ghost use Rattle.byteorder.specs.Endian.{big_bytes};
 ghost use Rattle.slp_messages.specs.Layouts as layout;
-ghost use Rattle.slp_messages.specs.Layouts.{IsLaid};
-ghost use Rattle.slp_fields.specs.Reading.{laid_at};
-ghost use Rattle.slp_fields.specs.Spelling.{laid_bytes};
+ghost use Rattle.slp_messages.specs.Layouts.{FitsLayout};
+ghost use Rattle.slp_fields.specs.Reading.{layout_at};
+ghost use Rattle.slp_fields.specs.Spelling.{layout_bytes};
 ghost use Rattle.slp_fields.specs.Steps.{Gives};
 ghost use Rattle.slp_fields.specs.Writing.{fields_bytes, IsField};
 ghost use Rattle.slp_bodies.specs.Bodies.{directory_advert_at, service_agent_at};
@@ -16,7 +16,7 @@ use slp_messages::{DirectoryAdvert, DirectoryAgent, ErrorCode, Kind, ServiceAgen
 use std::alloc::Global;
 
 fn directory_agent_of(alloc: Global, bytes: &[u8]) -> Result<(DirectoryAgent, &[u8]), WireFault>
-    ensures { Gives (λ x. (x.0, x.1.now)) result (laid_at layout.directory_agent bytes.now) }
+    ensures { Gives (λ x. (x.0, x.1.now)) result (layout_at layout.directory_agent bytes.now) }
 {
     let (boot, rest) = long_of(bytes)?;
     let (url, rest) = text_of(alloc, rest)?;
@@ -62,8 +62,8 @@ pub fn directory_advert_of(
 
 /// The fields of an advert of this agent.
 pub fn directory_agent_fields(agent: &DirectoryAgent) -> [Field<'_>; 7]
-    ensures bytes { fields_bytes result ≡ big_bytes 2 0 ++ laid_bytes layout.directory_agent agent.now }
-    ensures sound { AllByRecursion IsField result → IsLaid layout.directory_agent agent.now }
+    ensures bytes { fields_bytes result ≡ big_bytes 2 0 ++ layout_bytes layout.directory_agent agent.now }
+    ensures sound { AllByRecursion IsField result → FitsLayout layout.directory_agent agent.now }
 {
     [
         Field::Number(code::OK),
@@ -95,8 +95,8 @@ pub fn service_agent_of(alloc: Global, bytes: &[u8]) -> Result<(ServiceAgent, &[
 
 /// The fields of an advert of this agent.
 pub fn service_agent_fields(service: &ServiceAgent) -> [Field<'_>; 4]
-    ensures bytes { fields_bytes result ≡ laid_bytes layout.service_agent service.now }
-    ensures sound { AllByRecursion IsField result → IsLaid layout.service_agent service.now }
+    ensures bytes { fields_bytes result ≡ layout_bytes layout.service_agent service.now }
+    ensures sound { AllByRecursion IsField result → FitsLayout layout.service_agent service.now }
 {
     [
         Field::Text(&service.url),

@@ -3,8 +3,8 @@ ghost use Rattle.std.specs.Prelude.{◌≡◌, ◌++◌};
 ghost use Rattle.std.specs.List.{AllByRecursion};
 ghost use Rattle.byteorder.specs.Endian.{big_bytes};
 ghost use Rattle.slp_messages.specs.Layouts as layout;
-ghost use Rattle.slp_messages.specs.Layouts.{IsLaid};
-ghost use Rattle.slp_fields.specs.Spelling.{laid_bytes};
+ghost use Rattle.slp_messages.specs.Layouts.{FitsLayout};
+ghost use Rattle.slp_fields.specs.Spelling.{layout_bytes};
 ghost use Rattle.slp_fields.specs.Steps.{Gives};
 ghost use Rattle.slp_fields.specs.Writing.{fields_bytes, IsField};
 ghost use Rattle.slp_bodies.specs.Bodies.{attribute_request_at, attribute_reply_at};
@@ -39,8 +39,8 @@ pub fn attribute_request_of(
 
 /// The fields of a request.
 pub fn attribute_request_fields(request: &AttributeRequest) -> [Field<'_>; 5]
-    ensures bytes { fields_bytes result ≡ laid_bytes layout.attribute_request request.now }
-    ensures sound { AllByRecursion IsField result → IsLaid layout.attribute_request request.now }
+    ensures bytes { fields_bytes result ≡ layout_bytes layout.attribute_request request.now }
+    ensures sound { AllByRecursion IsField result → FitsLayout layout.attribute_request request.now }
 {
     [
         Field::Text(&request.responders),
@@ -72,8 +72,8 @@ pub fn attribute_reply_of(
 
 /// The fields of a reply with this attribute list.
 pub fn attributes_fields(list: &Text) -> [Field<'_>; 3]
-    ensures bytes { fields_bytes result ≡ big_bytes 2 0 ++ laid_bytes layout.attributes list.now }
-    ensures sound { AllByRecursion IsField result → IsLaid layout.attributes list.now }
+    ensures bytes { fields_bytes result ≡ big_bytes 2 0 ++ layout_bytes layout.attributes list.now }
+    ensures sound { AllByRecursion IsField result → FitsLayout layout.attributes list.now }
 {
     [Field::Number(code::OK), Field::Text(list), Field::NoBlock]
 }

@@ -2,9 +2,9 @@
 ghost use Rattle.std.specs.Prelude.{◌≡◌};
 ghost use Rattle.std.specs.List.{AllByRecursion};
 ghost use Rattle.slp_messages.specs.Layouts as layout;
-ghost use Rattle.slp_messages.specs.Layouts.{IsLaid};
+ghost use Rattle.slp_messages.specs.Layouts.{FitsLayout};
 ghost use Rattle.slp_messages.specs.Views.{registration_in, withdrawal_in};
-ghost use Rattle.slp_fields.specs.Spelling.{laid_bytes};
+ghost use Rattle.slp_fields.specs.Spelling.{layout_bytes};
 ghost use Rattle.slp_fields.specs.Steps.{Gives};
 ghost use Rattle.slp_fields.specs.Writing.{fields_bytes, IsField};
 ghost use Rattle.slp_bodies.specs.Bodies.{registration_at, withdrawal_at};
@@ -42,8 +42,8 @@ pub fn registration_of(alloc: Global, bytes: &[u8]) -> Result<(Registration, &[u
 
 /// The fields of a registration.
 pub fn registration_fields(registration: &Registration) -> [Field<'_>; 5]
-    ensures bytes { fields_bytes result ≡ laid_bytes layout.registration registration.now }
-    ensures sound { AllByRecursion IsField result → IsLaid layout.registration registration.now }
+    ensures bytes { fields_bytes result ≡ layout_bytes layout.registration registration.now }
+    ensures sound { AllByRecursion IsField result → FitsLayout layout.registration registration.now }
 {
     [
         Field::Entry(&registration.entry),
@@ -80,8 +80,8 @@ pub fn withdrawal_of(alloc: Global, bytes: &[u8]) -> Result<(Withdrawal, &[u8]),
 
 /// The fields of a withdrawal.
 pub fn withdrawal_fields(withdrawal: &Withdrawal) -> [Field<'_>; 3]
-    ensures bytes { fields_bytes result ≡ laid_bytes layout.withdrawal withdrawal.now }
-    ensures sound { AllByRecursion IsField result → IsLaid layout.withdrawal withdrawal.now }
+    ensures bytes { fields_bytes result ≡ layout_bytes layout.withdrawal withdrawal.now }
+    ensures sound { AllByRecursion IsField result → FitsLayout layout.withdrawal withdrawal.now }
 {
     [
         Field::Text(&withdrawal.scopes),

@@ -3,9 +3,9 @@ ghost use Rattle.std.specs.Prelude.{◌≡◌, ◌++◌};
 ghost use Rattle.std.specs.List.{AllByRecursion};
 ghost use Rattle.byteorder.specs.Endian.{big_bytes};
 ghost use Rattle.slp_messages.specs.Layouts as layout;
-ghost use Rattle.slp_messages.specs.Layouts.{IsLaid};
+ghost use Rattle.slp_messages.specs.Layouts.{FitsLayout};
 ghost use Rattle.slp_messages.specs.Views.{request_in};
-ghost use Rattle.slp_fields.specs.Spelling.{laid_bytes};
+ghost use Rattle.slp_fields.specs.Spelling.{layout_bytes};
 ghost use Rattle.slp_fields.specs.Steps.{Gives};
 ghost use Rattle.slp_fields.specs.Writing.{fields_bytes, IsField};
 ghost use Rattle.slp_bodies.specs.Bodies.{service_request_at, service_reply_at};
@@ -46,8 +46,8 @@ pub fn service_request_of(alloc: Global, bytes: &[u8]) -> Result<(ServiceRequest
 
 /// The fields of a request.
 pub fn service_request_fields(request: &ServiceRequest) -> [Field<'_>; 5]
-    ensures bytes { fields_bytes result ≡ laid_bytes layout.service_request request.now }
-    ensures sound { AllByRecursion IsField result → IsLaid layout.service_request request.now }
+    ensures bytes { fields_bytes result ≡ layout_bytes layout.service_request request.now }
+    ensures sound { AllByRecursion IsField result → FitsLayout layout.service_request request.now }
 {
     [
         Field::Text(&request.responders),
@@ -78,8 +78,8 @@ pub fn service_reply_of(
 
 /// The fields of a reply with these entries.
 pub fn services_fields(entries: &[UrlEntry]) -> [Field<'_>; 2]
-    ensures bytes { fields_bytes result ≡ big_bytes 2 0 ++ laid_bytes layout.services entries.now }
-    ensures sound { AllByRecursion IsField result → IsLaid layout.services entries.now }
+    ensures bytes { fields_bytes result ≡ big_bytes 2 0 ++ layout_bytes layout.services entries.now }
+    ensures sound { AllByRecursion IsField result → FitsLayout layout.services entries.now }
 {
     [Field::Number(code::OK), Field::Entries(entries)]
 }

@@ -3,8 +3,8 @@ ghost use Rattle.std.specs.Prelude.{◌≡◌, ◌++◌};
 ghost use Rattle.std.specs.List.{AllByRecursion};
 ghost use Rattle.byteorder.specs.Endian.{big_bytes};
 ghost use Rattle.slp_messages.specs.Layouts as layout;
-ghost use Rattle.slp_messages.specs.Layouts.{IsLaid};
-ghost use Rattle.slp_fields.specs.Spelling.{laid_bytes};
+ghost use Rattle.slp_messages.specs.Layouts.{FitsLayout};
+ghost use Rattle.slp_fields.specs.Spelling.{layout_bytes};
 ghost use Rattle.slp_fields.specs.Steps.{Gives};
 ghost use Rattle.slp_fields.specs.Writing.{fields_bytes, IsField};
 ghost use Rattle.slp_bodies.specs.Bodies.{type_request_at, type_reply_at};
@@ -33,8 +33,8 @@ pub fn type_request_of(alloc: Global, bytes: &[u8]) -> Result<(TypeRequest, &[u8
 
 /// The fields of a request.
 pub fn type_request_fields(request: &TypeRequest) -> [Field<'_>; 3]
-    ensures bytes { fields_bytes result ≡ laid_bytes layout.type_request request.now }
-    ensures sound { AllByRecursion IsField result → IsLaid layout.type_request request.now }
+    ensures bytes { fields_bytes result ≡ layout_bytes layout.type_request request.now }
+    ensures sound { AllByRecursion IsField result → FitsLayout layout.type_request request.now }
 {
     [
         Field::Text(&request.responders),
@@ -63,8 +63,8 @@ pub fn type_reply_of(
 
 /// The fields of a reply with these types.
 pub fn types_fields(list: &Text) -> [Field<'_>; 2]
-    ensures bytes { fields_bytes result ≡ big_bytes 2 0 ++ laid_bytes layout.types list.now }
-    ensures sound { AllByRecursion IsField result → IsLaid layout.types list.now }
+    ensures bytes { fields_bytes result ≡ big_bytes 2 0 ++ layout_bytes layout.types list.now }
+    ensures sound { AllByRecursion IsField result → FitsLayout layout.types list.now }
 {
     [Field::Number(code::OK), Field::Text(list)]
 }

@@ -1,6 +1,6 @@
+pub mod EntryLoops
 pub mod Faults
-pub mod Fits
-pub mod Loop
-pub mod Passing
-pub mod Sums
+pub mod ListLengths
+pub mod Room
+pub mod SkippedFields
 pub mod Texts

@@ -7,7 +7,7 @@ use Rattle.slp_messages.specs.Layouts.{Layout}
 use Rattle.slp_messages.specs.declared.kind.Kind.TheVariants.{Number, Long, Text, Entry, Entries, Authority, NoBlock, NoIndex}
 use Rattle.slp_messages.specs.declared.kind.Kind.{Kind}
 use Rattle.slp_messages.specs.declared.message.Authority.TheVariants.{All, Named}
-use Rattle.slp_messages.specs.declared.message.Authority.{Authority as AnyAuthority}
+use Rattle.slp_messages.specs.declared.message.Authority as code
 use Rattle.slp_messages.specs.declared.message.UrlEntry.{UrlEntry}
 use Rattle.slp_fields.specs.Steps.{◌>>=◌}
 use Rattle.slp_fields.specs.declared.fault.WireFault.TheVariants.{Parse, Auth}
@@ -63,7 +63,7 @@ listing_at bytes = do
   entries_at n.0 n.1
 
 -- the greatest length stands for all authorities, and no text follows it
-unfoldable pub authority_at : List ℕ → Result (AnyAuthority × List ℕ) WireFault
+unfoldable pub authority_at : List ℕ → Result (code.Authority × List ℕ) WireFault
 authority_at bytes = do
   n ← number_at bytes
   if n.0 == 65535 then Ok (All, n.1) else (string_at bytes >>= λ text. Ok (Named text.0, text.1))
@@ -86,27 +86,27 @@ reading_at [] bytes made = made tt bytes
 reading_at (k ∷ ks) bytes made = value_at k bytes >>= λ first. reading_at ks first.1 (λ others rest. made (first.0, others) rest)
 
 -- what a layout lays out
-abbrev pub laid_at : {A : Type 0} → Layout A → List ℕ → Result (A × List ℕ) WireFault
-laid_at layout bytes = reading_at layout.kinds bytes (λ values rest. Ok (layout.made values, rest))
+abbrev pub layout_at : {A : Type 0} → Layout A → List ℕ → Result (A × List ℕ) WireFault
+layout_at layout bytes = reading_at layout.kinds bytes (λ values rest. Ok (layout.made values, rest))
 
 -- ---- for their faults alone
 
 -- a field that is not kept
-abbrev pub unkept : {A : Type 0} → Result (A × List ℕ) WireFault → Result (List ℕ) WireFault
-unkept read = read >>= λ x. Ok x.1
+abbrev pub rest_of_reading : {A : Type 0} → Result (A × List ℕ) WireFault → Result (List ℕ) WireFault
+rest_of_reading read = read >>= λ x. Ok x.1
 
 -- a field of a kind that is not kept
-abbrev pub unkept_at : Kind → List ℕ → Result (List ℕ) WireFault
-unkept_at Number bytes = unkept (number_at bytes)
-unkept_at Long bytes = unkept (long_at bytes)
-unkept_at Text bytes = unkept (string_at bytes)
-unkept_at Entry bytes = unkept (entry_at bytes)
-unkept_at Entries bytes = unkept (listing_at bytes)
-unkept_at Authority bytes = unkept (authority_at bytes)
-unkept_at NoBlock bytes = unkept (no_block_at bytes)
-unkept_at NoIndex bytes = unkept (no_index_at bytes)
+abbrev pub rest_of_field_at : Kind → List ℕ → Result (List ℕ) WireFault
+rest_of_field_at Number bytes = rest_of_reading (number_at bytes)
+rest_of_field_at Long bytes = rest_of_reading (long_at bytes)
+rest_of_field_at Text bytes = rest_of_reading (string_at bytes)
+rest_of_field_at Entry bytes = rest_of_reading (entry_at bytes)
+rest_of_field_at Entries bytes = rest_of_reading (listing_at bytes)
+rest_of_field_at Authority bytes = rest_of_reading (authority_at bytes)
+rest_of_field_at NoBlock bytes = rest_of_reading (no_block_at bytes)
+rest_of_field_at NoIndex bytes = rest_of_reading (no_index_at bytes)
 
 -- fields of these kinds, one after the other, that are not kept
-abbrev pub skipped_at : List Kind → List ℕ → Result (List ℕ) WireFault
-skipped_at [] bytes = Ok bytes
-skipped_at (k ∷ ks) bytes = unkept_at k bytes >>= λ rest. skipped_at ks rest
+abbrev pub rest_of_fields_at : List Kind → List ℕ → Result (List ℕ) WireFault
+rest_of_fields_at [] bytes = Ok bytes
+rest_of_fields_at (k ∷ ks) bytes = rest_of_field_at k bytes >>= λ rest. rest_of_fields_at ks rest

@@ -8,7 +8,7 @@ use Rattle.slp_messages.specs.Layouts.{Layout}
 use Rattle.slp_messages.specs.declared.kind.Kind.TheVariants.{Number, Long, Text, Entry, Entries, Authority, NoBlock, NoIndex}
 use Rattle.slp_messages.specs.declared.kind.Kind.{Kind}
 use Rattle.slp_messages.specs.declared.message.Authority.TheVariants.{All, Named}
-use Rattle.slp_messages.specs.declared.message.Authority.{Authority as AnyAuthority}
+use Rattle.slp_messages.specs.declared.message.Authority as code
 use Rattle.slp_messages.specs.declared.message.UrlEntry.{UrlEntry}
 
 -- ---- what is written: 0 in the reserved byte of a URL entry
@@ -21,7 +21,7 @@ entry_bytes reserved e = reserved ∷ big_bytes 2 e.lifetime ++ string e.url ++ 
 abbrev pub listing : List UrlEntry → List ℕ
 listing es = big_bytes 2 (length es) ++ flat_map (entry_bytes 0) es
 
-abbrev pub authority_bytes : AnyAuthority → List ℕ
+abbrev pub authority_bytes : code.Authority → List ℕ
 authority_bytes All = big_bytes 2 65535
 authority_bytes (Named text) = string text
 
@@ -42,8 +42,8 @@ values_bytes [] none = []
 values_bytes (k ∷ ks) values = value_bytes k values.0 ++ values_bytes ks values.1
 
 -- the bytes of what a layout lays out
-abbrev pub laid_bytes : {A : Type 0} → Layout A → A → List ℕ
-laid_bytes layout a = values_bytes layout.kinds (layout.held a)
+abbrev pub layout_bytes : {A : Type 0} → Layout A → A → List ℕ
+layout_bytes layout a = values_bytes layout.kinds (layout.held a)
 
 -- ---- what spells it: the reserved bytes of URL entries may be any
 
@@ -73,5 +73,5 @@ abbrev pub SpellsValues : (ks : List Kind) → List ℕ → Values ks → Type 0
 SpellsValues [] bytes none = bytes ≡ []
 SpellsValues (k ∷ ks) bytes values = (front rest : List ℕ) × (bytes ≡ front ++ rest) × SpellsValue k front values.0 × SpellsValues ks rest values.1
 
-abbrev pub SpellsLaid : {A : Type 0} → Layout A → List ℕ → A → Type 0
-SpellsLaid layout bytes a = SpellsValues layout.kinds bytes (layout.held a)
+abbrev pub SpellsLayout : {A : Type 0} → Layout A → List ℕ → A → Type 0
+SpellsLayout layout bytes a = SpellsValues layout.kinds bytes (layout.held a)

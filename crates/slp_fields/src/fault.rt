@@ -1,5 +1,5 @@
 ghost use Rattle.std.specs.Prelude.{◌≡◌};
-ghost use Rattle.slp_fields.specs.declared.fault.WireFault.TheVariants.{NoMemory as Lacking};
+ghost use Rattle.slp_fields.specs.declared.fault.WireFault.TheVariants as fault;
 
 use slp_text::NoMemory;
 use std::alloc::{AllocError, AllocFailed};
@@ -33,7 +33,7 @@ pub enum WireFault {
 }
 
 impl From<AllocError> for WireFault {
-    ghost from_gives = { λ _ e. e ≡ Lacking };
+    ghost from_gives = { λ _ e. e ≡ fault.NoMemory };
 
     fn from(_e: AllocError) -> WireFault {
         WireFault::NoMemory
@@ -41,7 +41,7 @@ impl From<AllocError> for WireFault {
 }
 
 impl<T: Drop> From<AllocFailed<T>> for WireFault {
-    ghost from_gives = { λ _ e. e ≡ Lacking };
+    ghost from_gives = { λ _ e. e ≡ fault.NoMemory };
 
     fn from(_e: AllocFailed<T>) -> WireFault {
         WireFault::NoMemory
@@ -49,7 +49,7 @@ impl<T: Drop> From<AllocFailed<T>> for WireFault {
 }
 
 impl From<NoMemory> for WireFault {
-    ghost from_gives = { λ _ e. e ≡ Lacking };
+    ghost from_gives = { λ _ e. e ≡ fault.NoMemory };
 
     fn from(_e: NoMemory) -> WireFault {
         WireFault::NoMemory

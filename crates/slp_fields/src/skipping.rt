@@ -1,6 +1,6 @@
 //! Fields that are read for their faults alone. Nothing here takes memory.
 ghost use Rattle.std.specs.Prelude.{◌≡◌};
-ghost use Rattle.slp_fields.specs.Reading.{entry_at, entries_at, listing_at, authority_at, unkept, unkept_at, skipped_at};
+ghost use Rattle.slp_fields.specs.Reading.{entry_at, entries_at, listing_at, authority_at, rest_of_reading, rest_of_field_at, rest_of_fields_at};
 ghost use Rattle.slp_fields.specs.Steps.{Gives};
 
 use crate::fault::WireFault;
@@ -9,7 +9,7 @@ use slp_messages::Kind;
 
 #[tactic(auto, unfolding(crate::specs::Reading::entry_at))]
 fn skip_entry(bytes: &[u8]) -> Result<&[u8], WireFault>
-    ensures { Gives (λ x. x.now) result (unkept (entry_at bytes.now)) }
+    ensures { Gives (λ x. x.now) result (rest_of_reading (entry_at bytes.now)) }
 {
     let (_, rest) = byte_of(bytes)?;
     let (_, rest) = number_of(rest)?;
@@ -18,7 +18,7 @@ fn skip_entry(bytes: &[u8]) -> Result<&[u8], WireFault>
 }
 
 fn skip_entries(count: u16, bytes: &[u8]) -> Result<&[u8], WireFault>
-    ensures { Gives (λ x. x.now) result (unkept (entries_at count bytes.now)) }
+    ensures { Gives (λ x. x.now) result (rest_of_reading (entries_at count bytes.now)) }
 {
     let mut rest = bytes;
     for _ in 0..count {
@@ -29,7 +29,7 @@ fn skip_entries(count: u16, bytes: &[u8]) -> Result<&[u8], WireFault>
 
 #[tactic(auto, unfolding(crate::specs::Reading::listing_at))]
 fn skip_listing(bytes: &[u8]) -> Result<&[u8], WireFault>
-    ensures { Gives (λ x. x.now) result (unkept (listing_at bytes.now)) }
+    ensures { Gives (λ x. x.now) result (rest_of_reading (listing_at bytes.now)) }
 {
     let (count, rest) = number_of(bytes)?;
     skip_entries(count, rest)
@@ -37,7 +37,7 @@ fn skip_listing(bytes: &[u8]) -> Result<&[u8], WireFault>
 
 #[tactic(auto, unfolding(crate::specs::Reading::authority_at))]
 fn skip_authority(bytes: &[u8]) -> Result<&[u8], WireFault>
-    ensures { Gives (λ x. x.now) result (unkept (authority_at bytes.now)) }
+    ensures { Gives (λ x. x.now) result (rest_of_reading (authority_at bytes.now)) }
 {
     let (length, rest) = number_of(bytes)?;
     if length == ALL {
@@ -48,7 +48,7 @@ fn skip_authority(bytes: &[u8]) -> Result<&[u8], WireFault>
 }
 
 fn skip_field(kind: Kind, bytes: &[u8]) -> Result<&[u8], WireFault>
-    ensures { Gives (λ x. x.now) result (unkept_at kind bytes.now) }
+    ensures { Gives (λ x. x.now) result (rest_of_field_at kind bytes.now) }
 {
     match kind {
         Kind::Number => {
@@ -73,7 +73,7 @@ fn skip_field(kind: Kind, bytes: &[u8]) -> Result<&[u8], WireFault>
 
 /// The bytes after fields of these kinds, whose values are not kept.
 pub fn skip_fields<'a>(kinds: &[Kind], bytes: &'a [u8]) -> Result<&'a [u8], WireFault>
-    ensures { Gives (λ x. x.now) result (skipped_at kinds.now bytes.now) }
+    ensures { Gives (λ x. x.now) result (rest_of_fields_at kinds.now bytes.now) }
 {
     let mut rest = bytes;
     for kind in kinds {

@@ -6,7 +6,7 @@ use Rattle.slp_messages.specs.Tags.{is_tag_byte}
 use Rattle.slp_messages.specs.declared.function.TheConstants.{SERVICE_REQUEST, SERVICE_REPLY, REGISTRATION, WITHDRAWAL, ACKNOWLEDGEMENT, ATTRIBUTE_REQUEST, ATTRIBUTE_REPLY, TYPE_REQUEST, TYPE_REPLY}
 use Rattle.slp_messages.specs.declared.header.Flags.{Flags}
 use Rattle.slp_headers.specs.declared.flag.TheConstants.{OVERFLOW, FRESH, MULTICAST}
-use Rattle.slp_headers.specs.declared.place.TheConstants as place
+use Rattle.slp_headers.specs.declared.offset.TheConstants as offset
 use Rattle.slp_headers.specs.declared.view.HeaderView.{HeaderView}
 
 -- ---- flags
@@ -43,29 +43,29 @@ abbrev pub heading_bytes : Heading → List ℕ
 heading_bytes h = h.version ∷ h.function ∷ big_bytes 3 h.length ++ big_bytes 2 h.flags ++ big_bytes 3 h.extension ++ big_bytes 2 h.xid ++ string h.language
 
 -- a message with this body: version 2, no extension, and the length exact
-abbrev pub framed : ℕ → ℕ → ℕ → List ℕ → List ℕ → List ℕ
-framed function flags xid language body =
+abbrev pub frame_bytes : ℕ → ℕ → ℕ → List ℕ → List ℕ → List ℕ
+frame_bytes function flags xid language body =
     heading_bytes (record { version = 2; function = function; length = 14 + length language + length body; flags = flags; extension = 0; xid = xid; language = language }) ++ body
 
 -- the tag that the length at place 12 marks, as far as it is there
 abbrev pub tag_of : List ℕ → List ℕ
-tag_of bytes = take (big_number 2 (drop place.TAG_LENGTH bytes)) (drop place.TAG bytes)
+tag_of bytes = take (big_number 2 (drop offset.TAG_LENGTH bytes)) (drop offset.TAG bytes)
 
 -- a header is readable: 14 bytes are there, and a tag of at most 64 printable characters
 abbrev pub is_readable : List ℕ → Bool
 is_readable bytes =
-    nat_le place.TAG (length bytes) && nat_le (big_number 2 (drop place.TAG_LENGTH bytes)) 64
-    && nat_le (place.TAG + big_number 2 (drop place.TAG_LENGTH bytes)) (length bytes) && list_all is_tag_byte (tag_of bytes)
+    nat_le offset.TAG (length bytes) && nat_le (big_number 2 (drop offset.TAG_LENGTH bytes)) 64
+    && nat_le (offset.TAG + big_number 2 (drop offset.TAG_LENGTH bytes)) (length bytes) && list_all is_tag_byte (tag_of bytes)
 
 -- the fields that stand in front of bytes
 abbrev pub fields_of : List ℕ → Heading
 fields_of bytes = record {
-  version = slice_index bytes place.VERSION;
-  function = slice_index bytes place.FUNCTION;
-  length = big_number 3 (drop place.LENGTH bytes);
-  flags = big_number 2 (drop place.FLAGS bytes);
-  extension = big_number 3 (drop place.EXTENSION bytes);
-  xid = big_number 2 (drop place.XID bytes);
+  version = slice_index bytes offset.VERSION;
+  function = slice_index bytes offset.FUNCTION;
+  length = big_number 3 (drop offset.LENGTH bytes);
+  flags = big_number 2 (drop offset.FLAGS bytes);
+  extension = big_number 3 (drop offset.EXTENSION bytes);
+  xid = big_number 2 (drop offset.XID bytes);
   language = tag_of bytes;
 }
 
@@ -74,8 +74,8 @@ abbrev pub heading_of : List ℕ → Option Heading
 heading_of bytes = if is_readable bytes then Some (fields_of bytes) else None
 
 -- a view of a header, without where its tag lies in memory
-abbrev pub heading : HeaderView → Heading
-heading v = record { version = v.version; function = v.function; length = v.length; flags = v.flags; extension = v.extension; xid = v.xid; language = v.language.now }
+abbrev pub heading_in : HeaderView → Heading
+heading_in v = record { version = v.version; function = v.function; length = v.length; flags = v.flags; extension = v.ext; xid = v.xid; language = v.language.now }
 
 -- the function of the reply to a request, where there is one
 abbrev pub reply_function_of : ℕ → Option ℕ
@@ -88,4 +88,4 @@ reply_function_of f =
 
 -- a reply that ends with its nonzero code: 16 bytes and the request's tag
 abbrev pub refusal_bytes : ℕ → ℕ → ℕ → List ℕ → List ℕ
-refusal_bytes function code xid language = framed function 0 xid language (big_bytes 2 code)
+refusal_bytes function code xid language = frame_bytes function 0 xid language (big_bytes 2 code)

@@ -1,9 +1,9 @@
 //! The numbers that the protocol gives. The functions do nothing: their contracts are the laws, so that
 //! no constant beside them can be another number.
 ghost use Rattle.std.specs.Prelude.{◌≡◌};
-ghost use Rattle.slp_headers.specs.declared.fixed.TheConstants as fixed;
+ghost use Rattle.slp_headers.specs.declared.beginning.TheConstants as fixed;
 ghost use Rattle.slp_headers.specs.declared.flag.TheConstants as flag;
-ghost use Rattle.slp_headers.specs.declared.place.TheConstants as place;
+ghost use Rattle.slp_headers.specs.declared.offset.TheConstants as offset;
 
 /// The version, and the bits of the flags (RFC 2608, section 8).
 pub fn flags_are_numbered()
@@ -11,7 +11,7 @@ pub fn flags_are_numbered()
 {}
 
 /// Where the parts of a header begin (RFC 2608, section 8).
-pub fn places_are_numbered()
-    ensures { (place.VERSION ≡ 0) × (place.FUNCTION ≡ 1) × (place.LENGTH ≡ 2) × (place.FLAGS ≡ 5)
-        × (place.EXTENSION ≡ 7) × (place.XID ≡ 10) × (place.TAG_LENGTH ≡ 12) × (place.TAG ≡ 14) }
+pub fn offsets_are_numbered()
+    ensures { (offset.VERSION ≡ 0) × (offset.FUNCTION ≡ 1) × (offset.LENGTH ≡ 2) × (offset.FLAGS ≡ 5)
+        × (offset.EXTENSION ≡ 7) × (offset.XID ≡ 10) × (offset.TAG_LENGTH ≡ 12) × (offset.TAG ≡ 14) }
 {}

@@ -2,15 +2,15 @@
 //! Nothing here takes memory.
 #![tactic(auto)]
 
-mod fixed;
+mod beginning;
 pub mod flag;
 pub mod laws;
-pub mod place;
+pub mod offset;
 mod reading;
 mod reply;
 mod view;
 
-pub use fixed::{VERSION, opening, two_bytes};
+pub use beginning::{VERSION, opening, two_bytes};
 pub use reading::read_header;
 pub use reply::{error_reply, reply_function};
 pub use view::HeaderView;

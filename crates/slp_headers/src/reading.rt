@@ -1,9 +1,9 @@
 ghost use Rattle.std.specs.Prelude.{◌≡◌, false, true, MatchOption, None, Some};
 ghost use Rattle.std.specs.List.{list_all};
-ghost use Rattle.slp_headers.specs.Headers.{heading, heading_of, is_readable, tag_of};
+ghost use Rattle.slp_headers.specs.Headers.{heading_in, heading_of, is_readable, tag_of};
 ghost use Rattle.slp_messages.specs.Tags.{is_tag_byte};
 
-use crate::place;
+use crate::offset;
 use crate::view::HeaderView;
 use byteorder::{BigEndian, ByteOrder};
 use slp_messages::Tag;
@@ -25,11 +25,11 @@ fn are_printable(bytes: &[u8]) -> bool
 fn tag_in(bytes: &[u8]) -> Option<&str>
     ensures { MatchOption result (is_readable bytes.now ≡ false) (λ s. (is_readable bytes.now ≡ true) × (s.now ≡ tag_of bytes.now)) }
 {
-    if bytes.len() < place::TAG {
+    if bytes.len() < offset::TAG {
         return None;
     }
-    let length = usize::from(BigEndian::read_u16(&bytes[place::TAG_LENGTH..]));
-    let rest = &bytes[place::TAG..];
+    let length = usize::from(BigEndian::read_u16(&bytes[offset::TAG_LENGTH..]));
+    let rest = &bytes[offset::TAG..];
     if length > Tag::LONGEST || rest.len() < length {
         return None;
     }
@@ -46,16 +46,16 @@ fn tag_in(bytes: &[u8]) -> Option<&str>
 /// The header of a message (RFC 2608, section 8), where 14 bytes are there and a tag of at most 64
 /// printable characters.
 pub fn read_header(bytes: &[u8]) -> Option<HeaderView<'_>>
-    ensures { MatchOption result (heading_of bytes.now ≡ None) (λ v. heading_of bytes.now ≡ Some (heading v)) }
+    ensures { MatchOption result (heading_of bytes.now ≡ None) (λ v. heading_of bytes.now ≡ Some (heading_in v)) }
 {
     let language = tag_in(bytes)?;
     Some(HeaderView {
-        version: bytes[place::VERSION],
-        function: bytes[place::FUNCTION],
-        length: BigEndian::read_u24(&bytes[place::LENGTH..]),
-        flags: BigEndian::read_u16(&bytes[place::FLAGS..]),
-        extension: BigEndian::read_u24(&bytes[place::EXTENSION..]),
-        xid: BigEndian::read_u16(&bytes[place::XID..]),
+        version: bytes[offset::VERSION],
+        function: bytes[offset::FUNCTION],
+        length: BigEndian::read_u24(&bytes[offset::LENGTH..]),
+        flags: BigEndian::read_u16(&bytes[offset::FLAGS..]),
+        ext: BigEndian::read_u24(&bytes[offset::EXTENSION..]),
+        xid: BigEndian::read_u16(&bytes[offset::XID..]),
         language,
     })
 }

@@ -1,8 +1,8 @@
 ghost use Rattle.std.specs.Prelude.{◌≡◌, ◌≤◌, ◌+◌, ◌++◌, length, take};
 ghost use Rattle.slp_headers.specs.Headers.{reply_function_of, refusal_bytes};
 
-use crate::fixed::opening;
-use crate::place;
+use crate::beginning::opening;
+use crate::offset;
 use crate::view::HeaderView;
 use slp_messages::function;
 
@@ -38,7 +38,7 @@ pub fn error_reply(header: &HeaderView<'_>, function: u8, code: u16, reply: &mut
     ensures room { result ≤ 80 }
 {
     let tag = header.language.as_bytes();
-    let total = place::TAG + tag.len() + 2;
+    let total = offset::TAG + tag.len() + 2;
     let fixed = opening(function, total, 0, header.xid, tag.len());
     let end = put(reply, 0, &fixed);
     let end = put(reply, end, tag);

@@ -10,7 +10,7 @@ pub struct HeaderView<'a> {
     /// All flags, reserved ones too.
     pub flags: u16,
     /// Where the first extension begins, in bytes from the message's first. 0 is none.
-    pub extension: u32,
+    pub ext: u32,
     pub xid: u16,
     pub language: &'a str,
     ghost readable: { IsTag language.now },

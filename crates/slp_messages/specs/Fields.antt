@@ -4,7 +4,7 @@ use Rattle.std.specs.Prelude.{ℕ, ◌^◌, ◌<◌, List, length, IsUtf8, [], �
 use Rattle.slp_messages.specs.declared.kind.Kind.TheVariants.{Number, Long, Text, Entry, Entries, Authority, NoBlock, NoIndex}
 use Rattle.slp_messages.specs.declared.kind.Kind.{Kind}
 use Rattle.slp_messages.specs.declared.message.Authority.TheVariants.{All, Named}
-use Rattle.slp_messages.specs.declared.message.Authority.{Authority as AnyAuthority}
+use Rattle.slp_messages.specs.declared.message.Authority as code
 use Rattle.slp_messages.specs.declared.message.UrlEntry.{UrlEntry}
 
 -- ---- what fields hold
@@ -16,7 +16,7 @@ Value Long = ℕ
 Value Text = List ℕ
 Value Entry = UrlEntry
 Value Entries = List UrlEntry
-Value Authority = AnyAuthority
+Value Authority = code.Authority
 Value NoBlock = Unit {0}
 Value NoIndex = Unit {0}
 
@@ -45,7 +45,7 @@ pub record IsAuthorityName (text : List ℕ) : Type 0 where
   pub utf8 : IsUtf8 text
   pub short : length text < 65535
 
-abbrev pub IsAuthority : AnyAuthority → Type 0
+abbrev pub IsAuthority : code.Authority → Type 0
 IsAuthority All = Unit {0}
 IsAuthority (Named text) = IsAuthorityName text
 

@@ -27,8 +27,8 @@ pub record Layout (A : Type 0) : Type 0 where
   pub made : Values kinds → A
 
 -- each field holds what its place can
-abbrev pub IsLaid : {A : Type 0} → Layout A → A → Type 0
-IsLaid layout a = AreFit layout.kinds (layout.held a)
+abbrev pub FitsLayout : {A : Type 0} → Layout A → A → Type 0
+FitsLayout layout a = AreFit layout.kinds (layout.held a)
 
 -- ---- requests and adverts
 
@@ -90,7 +90,7 @@ pub data Reply (A : Type 0) : Type 0 where
 
 -- each field of what was found holds what its place can, or the code is not 0
 abbrev pub IsReply : {A : Type 0} → Layout A → Reply A → Type 0
-IsReply layout (Found a) = IsLaid layout a
+IsReply layout (Found a) = FitsLayout layout a
 IsReply layout (Refused code) = IsRefusal code
 
 abbrev pub services : Layout (List UrlEntry)

@@ -1,6 +1,6 @@
 -- Messages: their headers, their functions, and what of them the wire can hold (RFC 2608, sections 8 to 10).
 use Rattle.std.specs.Prelude.{ℕ, ◌^◌, ◌<◌}
-use Rattle.slp_messages.specs.Layouts.{IsLaid, IsReply, service_request, registration, withdrawal, acknowledgement, attribute_request, type_request, service_agent, services, attributes, directory_agent, types, of_services, of_attributes, of_directory_agent, of_types}
+use Rattle.slp_messages.specs.Layouts.{FitsLayout, IsReply, service_request, registration, withdrawal, acknowledgement, attribute_request, type_request, service_agent, services, attributes, directory_agent, types, of_services, of_attributes, of_directory_agent, of_types}
 use Rattle.slp_messages.specs.Tags.{IsTag}
 use Rattle.slp_messages.specs.declared.function.TheConstants.{SERVICE_REQUEST, SERVICE_REPLY, REGISTRATION, WITHDRAWAL, ACKNOWLEDGEMENT, ATTRIBUTE_REQUEST, ATTRIBUTE_REPLY, DIRECTORY_ADVERT, TYPE_REQUEST, TYPE_REPLY, SERVICE_ADVERT}
 use Rattle.slp_messages.specs.declared.header.Header.{Header}
@@ -40,17 +40,17 @@ pub record IsHeader (h : Header) : Type 0 where
   pub language : IsTag h.language
 
 abbrev pub IsBody : Message → Type 0
-IsBody (message.ServiceRequest h q) = IsLaid service_request q
+IsBody (message.ServiceRequest h q) = FitsLayout service_request q
 IsBody (message.ServiceReply h r) = IsReply services (of_services r)
-IsBody (message.Registration h r) = IsLaid registration r
-IsBody (message.Withdrawal h w) = IsLaid withdrawal w
-IsBody (message.Acknowledgement h code) = IsLaid acknowledgement code
-IsBody (message.AttributeRequest h q) = IsLaid attribute_request q
+IsBody (message.Registration h r) = FitsLayout registration r
+IsBody (message.Withdrawal h w) = FitsLayout withdrawal w
+IsBody (message.Acknowledgement h code) = FitsLayout acknowledgement code
+IsBody (message.AttributeRequest h q) = FitsLayout attribute_request q
 IsBody (message.AttributeReply h r) = IsReply attributes (of_attributes r)
 IsBody (message.DirectoryAdvert h a) = IsReply directory_agent (of_directory_agent a)
-IsBody (message.TypeRequest h q) = IsLaid type_request q
+IsBody (message.TypeRequest h q) = FitsLayout type_request q
 IsBody (message.TypeReply h r) = IsReply types (of_types r)
-IsBody (message.ServiceAdvert h a) = IsLaid service_agent a
+IsBody (message.ServiceAdvert h a) = FitsLayout service_agent a
 
 -- the fields of a message hold what their places on the wire can
 pub record IsMessage (m : Message) : Type 0 where

@@ -1,3 +1,3 @@
-pub mod OneByOne
-pub mod Unique
+pub mod Fronts
+pub mod OneReading
 pub mod Words

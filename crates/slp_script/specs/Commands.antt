@@ -44,8 +44,8 @@ abbrev pub tcp_word : List ℕ
 tcp_word = codes "tcp "
 
 -- what the line that is this word alone stands for
-abbrev pub alone : {A : Type 0} → List ℕ → A → Line → Option A
-alone word x l = if pointwise ◌==◌ l word then Some x else None
+abbrev pub if_alone : {A : Type 0} → List ℕ → A → Line → Option A
+if_alone word x l = if pointwise ◌==◌ l word then Some x else None
 
 abbrev pub at_word : List ℕ
 at_word = codes "at "
@@ -63,12 +63,12 @@ sweep_line = codes "sweep"
 abbrev pub word_of : Block → Line
 word_of Config = codes "config"
 
-abbrev pub dot : Line
-dot = codes "."
+abbrev pub block_end : Line
+block_end = codes "."
 
 -- the block that a line begins, if it begins one
 abbrev pub block_of : Line → Option Block
-block_of l = alone (word_of Config) Config l
+block_of l = if_alone (word_of Config) Config l
 
 -- the order that a line is, if it is one
 unfoldable pub order_of : Line → Option Order
@@ -82,28 +82,28 @@ order_of l =
     (option_or
     (option_and_then (λ text. within_datagram (decode_of text)) (rest_after udp_word l))
     (option_or
-    (alone open_line Open l)
+    (if_alone open_line Open l)
     (option_or
-    (alone sweep_line Sweep l)
+    (if_alone sweep_line Sweep l)
     (option_and_then (λ text. as_piece (decode_of text)) (rest_after tcp_word l))))))
 
 -- a line that may stand in a block
 pub record IsBodyLine (l : Line) : Type 0 where
   pub short : length l ≤ longest_line
   pub utf8 : IsUtf8 l
-  pub no_dot : l ≢ dot
+  pub no_dot : l ≢ block_end
 
 abbrev pub IsBody : List Line → Type 0
 IsBody body = AllByRecursion IsBodyLine body
 
 -- the first line of a block, and some of its lines
-abbrev pub opened : Block → List Line → List Line
-opened block body = word_of block ∷ body
+abbrev pub block_start : Block → List Line → List Line
+block_start block body = word_of block ∷ body
 
 -- these lines are this command
 abbrev pub Spells : List Line → Command → Type 0
 Spells ls (Single order) = (l : Line) × (ls ≡ l ∷ []) × (order_of l ≡ Some order)
-Spells ls (Text block body) = (ls ≡ opened block body ++ dot ∷ []) × IsBody body
+Spells ls (Text block body) = (ls ≡ block_start block body ++ block_end ∷ []) × IsBody body
 
 -- these lines are these commands, one after the other
 abbrev pub Reads : List Line → List Command → Type 0
@@ -115,9 +115,9 @@ pub data IsStuck (ls : List Line) (k : ℕ) : Type 0 where
   -- the line is not an order, and begins no block
   AtLine : (l : Line) (rest : List Line) → ls ≡ l ∷ rest → order_of l ≡ None → block_of l ≡ None → k ≡ 1 → IsStuck ls k
   -- a line of a block is too long or not text
-  AtBody : (block : Block) (body : List Line) (l : Line) (rest : List Line) → ls ≡ opened block body ++ l ∷ rest → IsBody body → ¬ ((length l ≤ longest_line) × IsUtf8 l) → k ≡ length body + 2 → IsStuck ls k
+  AtBody : (block : Block) (body : List Line) (l : Line) (rest : List Line) → ls ≡ block_start block body ++ l ∷ rest → IsBody body → ¬ ((length l ≤ longest_line) × IsUtf8 l) → k ≡ length body + 2 → IsStuck ls k
   -- the lines end within a block
-  AtEnd : (block : Block) (body : List Line) → ls ≡ opened block body → IsBody body → k ≡ 1 → IsStuck ls k
+  AtEnd : (block : Block) (body : List Line) → ls ≡ block_start block body → IsBody body → k ≡ 1 → IsStuck ls k
 
 -- the lines spell these commands, and then the n-th line of all, counted from 1, is the first at fault
 pub record StopsAt (ls : List Line) (cs : List Command) (n : ℕ) : Type 0 where
@@ -125,6 +125,6 @@ pub record StopsAt (ls : List Line) (cs : List Command) (n : ℕ) : Type 0 where
   pub stuck : List Line
   pub all : ls ≡ before ++ stuck
   pub reads : Reads before cs
-  pub place : ℕ
-  pub is_stuck : IsStuck stuck place
-  pub number : n ≡ length before + place
+  pub line : ℕ
+  pub is_stuck : IsStuck stuck line
+  pub number : n ≡ length before + line

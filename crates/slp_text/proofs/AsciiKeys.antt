@@ -8,7 +8,7 @@ use Rattle.std.proofs.lemmas.Str.{chars-IsAscii}
 use Rattle.std.proofs.lemmas.Str.Ascii.{IsAscii-nil, IsAscii-cons, IsAscii-map, All-from_ascii, encodes-IsAscii}
 use Rattle.caseless.specs.Caseless.{default_case_fold}
 use Rattle.caseless.proofs.CaselessLemmas.{default_case_fold-ascii}
-use Rattle.slp_text.specs.Key.{is_white, is_word_byte, squeeze, squeeze_from, key_of}
+use Rattle.slp_text.specs.Keys.{is_white, is_word_byte, squeezed_text, squeezed_rest, key_of}
 
 below : (b : ℕ) → is_word_byte b ≡ true → b < 128
 below b h = grind (arith, nat_tests)
@@ -25,24 +25,24 @@ is_ascii (b ∷ bs) h =
     let both = and_parts (is_word_byte b) (list_all is_word_byte bs) h in
     IsAscii-cons b bs (below b both.0) (is_ascii bs both.1)
 
-stays_from : (text : List ℕ) → list_all is_word_byte text ≡ true → squeeze_from false (map to_ascii_lowercase text) ≡ map to_ascii_lowercase text
+stays_from : (text : List ℕ) → list_all is_word_byte text ≡ true → squeezed_rest false (map to_ascii_lowercase text) ≡ map to_ascii_lowercase text
 stays_from [] h = refl
 stays_from (b ∷ bs) h =
     let both = and_parts (is_word_byte b) (list_all is_word_byte bs) h in
     rw (not_white b both.0) (ap (λ cs. to_ascii_lowercase b ∷ cs) (stays_from bs both.1))
 
-stays : (text : List ℕ) → list_all is_word_byte text ≡ true → squeeze (map to_ascii_lowercase text) ≡ map to_ascii_lowercase text
+stays : (text : List ℕ) → list_all is_word_byte text ≡ true → squeezed_text (map to_ascii_lowercase text) ≡ map to_ascii_lowercase text
 stays [] h = refl
 stays (b ∷ bs) h =
     let both = and_parts (is_word_byte b) (list_all is_word_byte bs) h in
     rw (not_white b both.0) (stays_from (b ∷ bs) h)
 
 -- the key of a text of ASCII
-key-ascii : (text : List ℕ) → IsAscii text → key_of text ≡ encode_utf8_all (squeeze (map to_ascii_lowercase text))
+key-ascii : (text : List ℕ) → IsAscii text → key_of text ≡ encode_utf8_all (squeezed_text (map to_ascii_lowercase text))
 unfolding key_of
 key-ascii text a =
-    ap (λ cs. encode_utf8_all (squeeze (default_case_fold cs))) (chars-IsAscii text a)
-    ∙ ap (λ cs. encode_utf8_all (squeeze cs)) (default_case_fold-ascii text (All-from_ascii text a))
+    ap (λ cs. encode_utf8_all (squeezed_text (default_case_fold cs))) (chars-IsAscii text a)
+    ∙ ap (λ cs. encode_utf8_all (squeezed_text cs)) (default_case_fold-ascii text (All-from_ascii text a))
 
 -- the key of one without white space
 pub key-word : (text : List ℕ) → list_all is_word_byte text ≡ true → key_of text ≡ map to_ascii_lowercase text

@@ -3,8 +3,8 @@ use Rattle.std.proofs.Common.{◌≡◌, [], ◌∷◌, ◌++◌, Ok, length, re
 use Rattle.std.specs.Prelude.{codes}
 use Rattle.std.specs.Str.{chars}
 use Rattle.caseless.proofs.Computing.{caseless}
-use Rattle.slp_text.specs.Key.{key_of}
-use Rattle.slp_text.specs.Scopes.{printed, scopes_of}
+use Rattle.slp_text.specs.Keys.{key_of}
+use Rattle.slp_text.specs.Scopes.{printed_scopes, scopes_of}
 
 -- white space at the ends, and a run of it inside
 default_key : key_of (codes "  DEFAULT " ++ 9 ∷ codes " x ") ≡ codes "default x"
@@ -22,6 +22,6 @@ unfolding scopes_of key_of caseless chars lib.Utf8.encode
 default_scopes = refl
 
 -- it has the bytes of `default` where it is written
-pub default_length : length (printed (key_of (codes "DEFAULT") ∷ [])) ≡ 7
+pub default_length : length (printed_scopes (key_of (codes "DEFAULT") ∷ [])) ≡ 7
 unfolding key_of caseless chars lib.Utf8.encode
 default_length = refl

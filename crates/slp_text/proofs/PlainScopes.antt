@@ -8,13 +8,13 @@ use Rattle.std.proofs.lemmas.Bool.{and_parts}
 use Rattle.std.proofs.lemmas.Bool.Decides.{nat_tests}
 use Rattle.std.proofs.lemmas.Str.{chars-IsAscii, scalars-chars, IsUtf8-from_ascii}
 use Rattle.std.proofs.lemmas.Str.Ascii.{encodes-IsAscii}
-use Rattle.slp_text.specs.Escapes.{is_reserved, escaped}
-use Rattle.slp_text.specs.Key.{is_word_byte, key_of}
+use Rattle.slp_text.specs.Escapes.{is_reserved, escaped_text}
+use Rattle.slp_text.specs.Keys.{is_word_byte, key_of}
 use Rattle.slp_text.specs.Scopes.{is_plain_byte, is_plain_text, is_some_text, scopes_of}
 use Rattle.slp_text.specs.Sets.{set_of}
 use Rattle.slp_text.specs.declared.escapes.Place.TheVariants.{Scope}
 use Rattle.slp_text.proofs.AsciiKeys.{is_ascii, key-word}
-use Rattle.slp_text.proofs.Reprinting.{none-read, written-read}
+use Rattle.slp_text.proofs.PrintedScopes.{none-read, written-read}
 
 in_word : (b : ℕ) → is_plain_byte b ≡ true → is_word_byte b ≡ true
 in_word b h = grind (arith, nat_tests)
@@ -28,16 +28,16 @@ plain_word (b ∷ bs) h =
     let both = and_parts (is_plain_byte b) (is_plain_text bs) h in
     ap₂ (λ p q. p && q) (in_word b both.0) (plain_word bs both.1)
 
-escaped-plain : (text : List ℕ) → is_plain_text text ≡ true → escaped Scope text ≡ text
-escaped-plain [] h = refl
-escaped-plain (b ∷ bs) h =
+escaped_text-plain : (text : List ℕ) → is_plain_text text ≡ true → escaped_text Scope text ≡ text
+escaped_text-plain [] h = refl
+escaped_text-plain (b ∷ bs) h =
     let both = and_parts (is_plain_byte b) (is_plain_text bs) h in
-    rw (not_reserved b both.0) (ap (λ cs. b ∷ cs) (escaped-plain bs both.1))
+    rw (not_reserved b both.0) (ap (λ cs. b ∷ cs) (escaped_text-plain bs both.1))
 
-pub written-plain : (text : List ℕ) → is_plain_text text ≡ true → encode_utf8_all (escaped Scope (chars text)) ≡ text
+pub written-plain : (text : List ℕ) → is_plain_text text ≡ true → encode_utf8_all (escaped_text Scope (chars text)) ≡ text
 written-plain text h =
     let a = is_ascii text (plain_word text h) in
-    ap (λ cs. encode_utf8_all (escaped Scope cs)) (chars-IsAscii text a) ∙ ap encode_utf8_all (escaped-plain text h) ∙ encodes-IsAscii text a
+    ap (λ cs. encode_utf8_all (escaped_text Scope cs)) (chars-IsAscii text a) ∙ ap encode_utf8_all (escaped_text-plain text h) ∙ encodes-IsAscii text a
 
 scopes-plain : (text : List ℕ) → is_plain_text text ≡ true → scopes_of text ≡ Ok (set_of (filter is_some_text (key_of text ∷ [])))
 unfolding key_of

@@ -1,9 +1,10 @@
+pub mod Ascii
 pub mod Escapes
-pub mod Key
-pub mod Named
+pub mod Keys
 pub mod Parts
 pub mod Reading
 pub mod Runs
+pub mod ScopeNames
 pub mod Scopes
 pub mod Sets
 pub mod Steps

@@ -2,8 +2,9 @@
 use Rattle.std.specs.Prelude.{◌≡◌, ℕ, Bool, true, ◌==◌, ◌||◌, nat_lt, List, [], ◌∷◌, ◌++◌, map, filter, chars, encode_utf8_all, length, IsUtf8, Result}
 use Rattle.std.specs.List.{AllByRecursion, list_all, list_any, slice_split}
 use Rattle.caseless.specs.Caseless.{default_case_fold}
-use Rattle.slp_text.specs.Escapes.{unescaped_at, escaped}
-use Rattle.slp_text.specs.Key.{squeeze, key_of}
+use Rattle.slp_text.specs.Ascii.{comma, dot, hyphen, underscore}
+use Rattle.slp_text.specs.Escapes.{unescaped_text_at, escaped_text}
+use Rattle.slp_text.specs.Keys.{squeezed_text, key_of}
 use Rattle.slp_text.specs.Reading.{read_map, read_all}
 use Rattle.slp_text.specs.Sets.{set_of}
 use Rattle.slp_text.specs.Words.{bytes_eq, is_plain, IsAscending}
@@ -11,23 +12,23 @@ use Rattle.slp_text.specs.declared.escapes.Place.TheVariants.{Scope}
 use Rattle.slp_text.specs.declared.faults.TextFault.{TextFault}
 
 abbrev pub is_comma : ℕ → Bool
-is_comma c = c == 44
+is_comma c = c == comma
 
 -- it is not empty
 abbrev pub is_some_text : {A : Type 0} → List A → Bool
 is_some_text t = nat_lt 0 (length t)
 
 -- the key of characters
-abbrev pub folded : List ℕ → List ℕ
-folded cs = encode_utf8_all (squeeze (default_case_fold cs))
+abbrev pub folded_text : List ℕ → List ℕ
+folded_text cs = encode_utf8_all (squeezed_text (default_case_fold cs))
 
 -- The scopes that a text names: its parts between commas, unescaped and made keys, without the empty ones, as a set.
 unfoldable pub scopes_of : List ℕ → Result (List (List ℕ)) TextFault
-scopes_of text = read_map (λ parts. set_of (filter is_some_text (map folded parts))) (read_all (unescaped_at Scope) (slice_split is_comma (chars text)))
+scopes_of text = read_map (λ parts. set_of (filter is_some_text (map folded_text parts))) (read_all (unescaped_text_at Scope) (slice_split is_comma (chars text)))
 
 -- a letter or a digit of ASCII, `-`, `.` or `_`, which are written in lists of scopes as they are
 abbrev pub is_plain_byte : ℕ → Bool
-is_plain_byte b = is_plain b || b == 45 || b == 46 || b == 95
+is_plain_byte b = is_plain b || b == hyphen || b == dot || b == underscore
 
 abbrev pub is_plain_text : List ℕ → Bool
 is_plain_text = list_all is_plain_byte
@@ -44,15 +45,15 @@ pub record AreScopes (ks : List (List ℕ)) : Type 0 where
   pub ascending : IsAscending ks
 
 -- texts with a comma between each two
-abbrev pub joined : List (List ℕ) → List ℕ
-joined [] = []
-joined (t ∷ []) = t
-joined (t ∷ u ∷ ts) = t ++ 44 ∷ joined (u ∷ ts)
+abbrev pub comma_list : List (List ℕ) → List ℕ
+comma_list [] = []
+comma_list (t ∷ []) = t
+comma_list (t ∷ u ∷ ts) = t ++ comma ∷ comma_list (u ∷ ts)
 
 -- scopes as they are written
-abbrev pub printed : List (List ℕ) → List ℕ
-printed ks = joined (map (λ k. encode_utf8_all (escaped Scope (chars k))) ks)
+abbrev pub printed_scopes : List (List ℕ) → List ℕ
+printed_scopes ks = comma_list (map (λ k. encode_utf8_all (escaped_text Scope (chars k))) ks)
 
 -- what stands in both sets
-abbrev pub common_of : List (List ℕ) → List (List ℕ) → List (List ℕ)
-common_of ks others = filter (λ k. list_any (λ o. bytes_eq o k) others) ks
+abbrev pub common_scopes : List (List ℕ) → List (List ℕ) → List (List ℕ)
+common_scopes ks others = filter (λ k. list_any (λ o. bytes_eq o k) others) ks

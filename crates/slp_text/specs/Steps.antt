@@ -1,7 +1,8 @@
 -- Reading of escapes, one character or byte at a time.
 use Rattle.std.specs.Prelude.{◌≡◌, ℕ, List, [], ◌++◌, ◌+◌, ◌*◌, ◌<◌, Bool, ◌==◌, Result, Ok, Err, if◌then◌else◌}
 use Rattle.std.specs.Option.{option_map_or}
-use Rattle.slp_text.specs.Escapes.{Point, Plain, Slash, Digit, digit_of, is_escapable, is_refused, unescaped_from}
+use Rattle.slp_text.specs.Ascii.{backslash}
+use Rattle.slp_text.specs.Escapes.{digit_of, is_escapable, is_refused, unescaped_text_from}
 use Rattle.slp_text.specs.declared.escapes.Place.{Place}
 use Rattle.slp_text.specs.declared.escapes.Stage.{Stage}
 use Rattle.slp_text.specs.declared.escapes.Stage.TheVariants as stage
@@ -10,24 +11,19 @@ use Rattle.slp_text.specs.declared.escapes.Step.TheVariants.{Within, Read}
 use Rattle.slp_text.specs.declared.faults.TextFault.{TextFault}
 use Rattle.slp_text.specs.declared.faults.TextFault.TheVariants.{BadEscape, Reserved}
 
-abbrev pub point_of : Stage → Point
-point_of stage.Plain = Plain
-point_of stage.Slash = Slash
-point_of (stage.Digit d) = Digit d
-
 -- what an escape of two digits gives, where it may stand for what is allowed
-abbrev pub escape_of : (ℕ → Bool) → ℕ → ℕ → Result (Step ℕ) TextFault
-escape_of allowed d e = if allowed (16 * d + e) then Ok (Read (16 * d + e)) else Err BadEscape
+abbrev pub escape_with : (ℕ → Bool) → ℕ → ℕ → Result (Step ℕ) TextFault
+escape_with allowed d e = if allowed (16 * d + e) then Ok (Read (16 * d + e)) else Err BadEscape
 
 -- what one character or byte more gives, which may be refused raw
 abbrev pub step_of : (ℕ → Bool) → Bool → Stage → ℕ → Result (Step ℕ) TextFault
-step_of allowed refused stage.Plain c = if c == 92 then Ok (Within stage.Slash) else (if refused then Err Reserved else Ok (Read c))
+step_of allowed refused stage.Plain c = if c == backslash then Ok (Within stage.Slash) else (if refused then Err Reserved else Ok (Read c))
 step_of allowed refused stage.Slash c = option_map_or (λ d. Ok (Within (stage.Digit d))) (digit_of c) (Err BadEscape)
-step_of allowed refused (stage.Digit d) c = option_map_or (escape_of allowed d) (digit_of c) (Err BadEscape)
+step_of allowed refused (stage.Digit d) c = option_map_or (escape_with allowed d) (digit_of c) (Err BadEscape)
 
 -- what the end of a part of a list reads as at a stage
 abbrev pub part_end : Place → Stage → Result (List ℕ) TextFault
-part_end place s = unescaped_from is_escapable (is_refused place) (point_of s) []
+part_end place s = unescaped_text_from is_escapable (is_refused place) s []
 
 -- a first digit is below 16
 abbrev pub IsStage : Stage → Type 0

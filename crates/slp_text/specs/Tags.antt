@@ -1,9 +1,10 @@
 -- Lists of tags, in which `*` stands for any run of characters (RFC 2608, section 10.3).
-use Rattle.std.specs.Prelude.{ℕ, Bool, true, false, ◌==◌, ◌&&◌, List, [], ◌∷◌, map, filter, flat_map, chars, encode_utf8, Option, Some, None, Result, if◌then◌else◌}
+use Rattle.std.specs.Prelude.{ℕ, Bool, true, false, ◌==◌, ◌&&◌, List, [], ◌∷◌, ◌++◌, map, filter, flat_map, chars, encode_utf8, Option, Some, None, Result}
 use Rattle.std.specs.List.{list_any, slice_split}
 use Rattle.caseless.specs.Caseless.{default_case_fold}
-use Rattle.slp_text.specs.Escapes.{unescaped_at}
-use Rattle.slp_text.specs.Key.{squeeze}
+use Rattle.slp_text.specs.Ascii.{asterisk, space}
+use Rattle.slp_text.specs.Escapes.{unescaped_text_at}
+use Rattle.slp_text.specs.Keys.{is_white, squeezed_by}
 use Rattle.slp_text.specs.Reading.{read_map, read_all}
 use Rattle.slp_text.specs.Scopes.{is_comma, is_some_text}
 use Rattle.slp_text.specs.declared.escapes.Place.TheVariants.{Tag}
@@ -14,25 +15,37 @@ abbrev pub Part : Type 0
 Part = List (Option ℕ)
 
 abbrev pub is_star : ℕ → Bool
-is_star c = c == 42
+is_star c = c == asterisk
 
--- what stands for a raw `*` among characters: a number past the last of them
-abbrev pub wild : ℕ
-wild = 0x110000
+-- a character, or `None` for a raw `*`
+abbrev pub Sign : Type 0
+Sign = Option ℕ
 
-abbrev pub starred : ℕ → ℕ
-starred c = if is_star c then wild else c
+abbrev pub is_white_sign : Sign → Bool
+is_white_sign None = false
+is_white_sign (Some c) = is_white c
 
-abbrev pub part_bytes : ℕ → Part
-part_bytes c = if c == wild then None ∷ [] else map Some (encode_utf8 c)
+-- the signs of pieces of a text, with a raw `*` between each two
+abbrev pub signs_of : List (List ℕ) → List Sign
+signs_of [] = []
+signs_of (p ∷ []) = map Some p
+signs_of (p ∷ q ∷ ps) = map Some p ++ None ∷ signs_of (q ∷ ps)
 
--- The part of unescaped characters, folded and squeezed as a whole: white space goes at its two ends alone.
-abbrev pub part_of : List ℕ → Part
-part_of cs = flat_map part_bytes (squeeze (default_case_fold cs))
+abbrev pub sign_bytes : Sign → Part
+sign_bytes None = None ∷ []
+sign_bytes (Some c) = map Some (encode_utf8 c)
+
+-- The part of the pieces between its raw `*`s, folded and squeezed as a whole: white space goes at its two ends alone.
+abbrev pub part_of : List (List ℕ) → Part
+part_of pieces = flat_map sign_bytes (squeezed_by is_white_sign (Some space) (signs_of (map default_case_fold pieces)))
+
+-- the pieces of a part between its raw `*`s, unescaped
+abbrev pub pieces_of : List ℕ → Result (List (List ℕ)) TextFault
+pieces_of part = read_all (unescaped_text_at Tag) (slice_split is_star part)
 
 -- The parts of a list of tags, in their order: what stands between commas, unescaped, without the empty parts.
 unfoldable pub tags_of : List ℕ → Result (List Part) TextFault
-tags_of text = read_map (λ parts. filter is_some_text (map part_of parts)) (read_all (unescaped_at Tag) (slice_split is_comma (map starred (chars text))))
+tags_of text = read_map (λ parts. filter is_some_text (map part_of parts)) (read_all pieces_of (slice_split is_comma (chars text)))
 
 -- all that a text ends with
 abbrev pub ends_of : List ℕ → List (List ℕ)

@@ -1,11 +1,12 @@
 -- Words on texts, which are lists of bytes.
-use Rattle.std.specs.Prelude.{ℕ, Bool, ◌==◌, ◌&&◌, ◌||◌, nat_le, List, [], ◌∷◌, ◌≡◌, ◌≢◌}
+use Rattle.std.specs.Prelude.{ℕ, Bool, ◌==◌, ◌||◌, List, [], ◌∷◌, ◌≡◌, ◌≢◌}
 use Rattle.std.specs.List.{AllByRecursion, list_all}
 use Rattle.std.specs.Cmp.Lexicographic.{slice_cmp, pointwise}
 use Rattle.std.specs.Ordering.{nat_cmp}
 use Rattle.std.specs.declared.cmp.Ordering.{Ordering}
 use Rattle.std.specs.declared.cmp.Ordering.TheVariants.{Less}
-use Rattle.slp_text.specs.Key.{is_white}
+use Rattle.slp_text.specs.Ascii.{is_digit, is_letter}
+use Rattle.slp_text.specs.Keys.{is_white}
 
 -- no byte of this value
 abbrev pub Lacks : ℕ → List ℕ → Type 0
@@ -13,7 +14,7 @@ Lacks b l = AllByRecursion (λ x. x ≢ b) l
 
 -- a letter or a digit of ASCII
 abbrev pub is_plain : ℕ → Bool
-is_plain b = (nat_le 48 b && nat_le b 57) || (nat_le 65 b && nat_le b 90) || (nat_le 97 b && nat_le b 122)
+is_plain b = is_digit b || is_letter b
 
 -- the same bytes
 abbrev pub bytes_eq : List ℕ → List ℕ → Bool

@@ -1,8 +1,8 @@
 //! Keys of words of ASCII: their case folding is their lower case, and they have nothing to squeeze.
 ghost use Rattle.std.specs.Prelude.{◌≡◌, true, IfOk, OnErr};
 ghost use Rattle.std.specs.List.{list_all};
-ghost use Rattle.slp_text.specs.Key.{is_word_byte, key_of};
-ghost use Rattle.slp_text.specs.declared.faults.TextFault.TheVariants.{NoMemory as Lacking};
+ghost use Rattle.slp_text.specs.Keys.{is_word_byte, key_of};
+ghost use Rattle.slp_text.specs.declared.faults.TextFault.TheVariants as fault;
 
 use crate::faults::TextFault;
 use crate::keys::Key;
@@ -19,7 +19,7 @@ pub fn is_word(text: &[u8]) -> bool
 pub fn word_key(alloc: Global, text: &str) -> Result<Key, TextFault>
     requires { list_all is_word_byte text.now ≡ true }
     ensures value { IfOk result (λ k. k ≡ key_of text.now) }
-    ensures memory { OnErr result (result ≡ Err Lacking) }
+    ensures memory { OnErr result (result ≡ Err fault.NoMemory) }
 {
     let mut folded = String::from_str(alloc, text)?;
     folded.make_ascii_lowercase();

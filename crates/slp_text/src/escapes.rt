@@ -1,8 +1,9 @@
 ghost use Rattle.std.specs.Prelude.{◌≡◌, ◌≢◌, ◌<◌, true, false, ◌++◌, IfOk, IfErr, OnErr, chars, string_bytes, encode_utf8_all};
-ghost use Rattle.slp_text.specs.Escapes.{is_reserved as is_reserved_number, is_refused as is_refused_number, is_escapable as is_escapable_number, digit_of, capital_digit as capital_number, written_at, unescaped, unescaped_any, escaped};
+ghost use Rattle.slp_text.specs.Escapes as spec;
+ghost use Rattle.slp_text.specs.Escapes.{digit_of, written_character, unescaped_text, unescaped_bytes, escaped_text};
 ghost use Rattle.slp_text.specs.Reading.{read_map, IsReading, IsByteReading};
 ghost use Rattle.slp_text.specs.declared.faults.TextFault.TheVariants.{NotUtf8};
-ghost use Rattle.slp_text.specs.Steps.{IsStage, IsWithinStage, BeginsWith, escape_of as escape_of_digits, step_of};
+ghost use Rattle.slp_text.specs.Steps.{IsStage, IsWithinStage, BeginsWith, escape_with, step_of};
 
 use crate::faults::{NoMemory, TextFault};
 use crate::folding::is_white_space;
@@ -36,7 +37,7 @@ pub enum Step<T> {
 
 /// Whether a character is written as an escape at a place.
 pub fn is_reserved(place: Place, c: char) -> bool
-    ensures { result ≡ is_reserved_number place c }
+    ensures { result ≡ spec.is_reserved place c }
 {
     let everywhere = c < ' '
         || c == '\u{7f}'
@@ -58,13 +59,13 @@ pub fn is_reserved(place: Place, c: char) -> bool
 
 /// Whether a character may not stand raw at a place.
 pub fn is_refused(place: Place, c: char) -> bool
-    ensures { result ≡ is_refused_number place c }
+    ensures { result ≡ spec.is_refused place c }
 {
     is_reserved(place, c) && !is_white_space(c)
 }
 
 fn is_escapable(c: char) -> bool
-    ensures { result ≡ is_escapable_number c }
+    ensures { result ≡ spec.is_escapable c }
 {
     is_reserved(Place::Value, c) || c == ';' || c == '*' || c == '+' || c == '_'
 }
@@ -82,7 +83,7 @@ fn digit(c: char) -> Option<u8>
 
 // What an escape of two digits stands for in lists.
 fn escape_of(d: u8, e: u8) -> Result<Step<char>, TextFault>
-    ensures { result ≡ escape_of_digits is_escapable_number d e }
+    ensures { result ≡ escape_with spec.is_escapable d e }
 {
     match char::from_u32(16 * u32::from(d) + u32::from(e)) {
         Some(c) if is_escapable(c) => Ok(Step::Read(c)),
@@ -92,7 +93,7 @@ fn escape_of(d: u8, e: u8) -> Result<Step<char>, TextFault>
 
 /// Reads one character more of a text with the escapes of lists, where a raw one may be refused.
 pub fn read_step(stage: Stage, c: char, refused: bool) -> Result<Step<char>, TextFault>
-    ensures { result ≡ step_of is_escapable_number refused stage c }
+    ensures { result ≡ step_of spec.is_escapable refused stage c }
 {
     match stage {
         Stage::Plain => {
@@ -118,7 +119,7 @@ pub fn read_step(stage: Stage, c: char, refused: bool) -> Result<Step<char>, Tex
 /// A text with its list escapes read: those of reserved characters, in any place. Another escape is
 /// `BadEscape`.
 pub fn unescape(alloc: Global, text: &str) -> Result<String, TextFault>
-    ensures { IsReading (read_map string_bytes result) (read_map encode_utf8_all (unescaped (chars text.now))) }
+    ensures { IsReading (read_map string_bytes result) (read_map encode_utf8_all (unescaped_text (chars text.now))) }
 {
     let mut read = String::new(alloc);
     let mut stage = Stage::Plain;
@@ -165,7 +166,7 @@ fn read_byte(stage: Stage, b: u8) -> Result<Step<u8>, TextFault>
 
 // The bytes of a text with its escapes of any byte read.
 fn unescaped_bytes(alloc: Global, text: &str) -> Result<Vec<u8>, TextFault>
-    ensures value { IsReading (read_map (λ v. v.items) result) (unescaped_any text.now) }
+    ensures value { IsReading (read_map (λ v. v.items) result) (unescaped_bytes text.now) }
     ensures fault { IfErr result (λ e. e ≢ NotUtf8) }
 {
     let mut read = Vec::new(alloc);
@@ -188,7 +189,7 @@ fn unescaped_bytes(alloc: Global, text: &str) -> Result<Vec<u8>, TextFault>
 /// A text with its escapes of any byte read. What then is not UTF-8 is `NotUtf8`; a bad escape is
 /// answered first.
 pub fn unescape_any(alloc: Global, text: &str) -> Result<String, TextFault>
-    ensures { IsByteReading (read_map string_bytes result) (unescaped_any text.now) }
+    ensures { IsByteReading (read_map string_bytes result) (unescaped_bytes text.now) }
 {
     match String::from_utf8(unescaped_bytes(alloc, text)?) {
         Ok(read) => Ok(read),
@@ -199,7 +200,7 @@ pub fn unescape_any(alloc: Global, text: &str) -> Result<String, TextFault>
 /// A digit of an escape, in capitals.
 pub fn capital_digit(d: u8) -> char
     requires { d < 16 }
-    ensures { result ≡ capital_number d }
+    ensures { result ≡ spec.capital_digit d }
 {
     if d < 10 {
         char::from(d + 48)
@@ -210,7 +211,7 @@ pub fn capital_digit(d: u8) -> char
 
 // Appends a character as it is written at a place.
 fn push_written(c: char, place: Place, out: &mut String) -> Result<(), NoMemory>
-    ensures ok { IfOk result (λ _. string_bytes out.new ≡ string_bytes out.old ++ encode_utf8_all (written_at place c)) }
+    ensures ok { IfOk result (λ _. string_bytes out.new ≡ string_bytes out.old ++ encode_utf8_all (written_character place c)) }
     ensures err { BeginsWith (string_bytes out.old) (string_bytes out.new) }
 {
     if is_reserved(place, c) {
@@ -226,7 +227,7 @@ fn push_written(c: char, place: Place, out: &mut String) -> Result<(), NoMemory>
 
 // The same of all characters; where memory runs out some of it may stand after what was there.
 fn append_escaped(text: &str, place: Place, out: &mut String) -> Result<(), NoMemory>
-    ensures ok { IfOk result (λ _. string_bytes out.new ≡ string_bytes out.old ++ encode_utf8_all (escaped place (chars text.now))) }
+    ensures ok { IfOk result (λ _. string_bytes out.new ≡ string_bytes out.old ++ encode_utf8_all (escaped_text place (chars text.now))) }
     ensures err { BeginsWith (string_bytes out.old) (string_bytes out.new) }
 {
     for c in text.chars() {
@@ -238,7 +239,7 @@ fn append_escaped(text: &str, place: Place, out: &mut String) -> Result<(), NoMe
 /// Appends a text as it is written at a place: what is reserved there as an escape, in capitals. Where
 /// memory runs out nothing is appended.
 pub fn escape_into(text: &str, place: Place, out: &mut String) -> Result<(), NoMemory>
-    ensures ok { IfOk result (λ _. string_bytes out.new ≡ string_bytes out.old ++ encode_utf8_all (escaped place (chars text.now))) }
+    ensures ok { IfOk result (λ _. string_bytes out.new ≡ string_bytes out.old ++ encode_utf8_all (escaped_text place (chars text.now))) }
     ensures err { OnErr result (string_bytes out.new ≡ string_bytes out.old) }
 {
     let before = out.len();

@@ -1,5 +1,5 @@
 ghost use Rattle.std.specs.Prelude.{◌≡◌};
-ghost use Rattle.slp_text.specs.declared.faults.TextFault.TheVariants.{NoMemory as Lacking};
+ghost use Rattle.slp_text.specs.declared.faults.TextFault.TheVariants as fault;
 
 use std::alloc::{AllocError, AllocFailed};
 use thiserror::Error;
@@ -38,7 +38,7 @@ pub enum TextFault {
 }
 
 impl From<AllocError> for TextFault {
-    ghost from_gives = { λ _ e. e ≡ Lacking };
+    ghost from_gives = { λ _ e. e ≡ fault.NoMemory };
 
     fn from(_e: AllocError) -> TextFault {
         TextFault::NoMemory
@@ -46,7 +46,7 @@ impl From<AllocError> for TextFault {
 }
 
 impl<T: Drop> From<AllocFailed<T>> for TextFault {
-    ghost from_gives = { λ _ e. e ≡ Lacking };
+    ghost from_gives = { λ _ e. e ≡ fault.NoMemory };
 
     fn from(_e: AllocFailed<T>) -> TextFault {
         TextFault::NoMemory
@@ -54,7 +54,7 @@ impl<T: Drop> From<AllocFailed<T>> for TextFault {
 }
 
 impl From<NoMemory> for TextFault {
-    ghost from_gives = { λ _ e. e ≡ Lacking };
+    ghost from_gives = { λ _ e. e ≡ fault.NoMemory };
 
     fn from(_e: NoMemory) -> TextFault {
         TextFault::NoMemory

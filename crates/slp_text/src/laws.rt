@@ -1,8 +1,8 @@
 //! What holds of every text. The functions do nothing: their contracts are the laws.
 ghost use Rattle.std.specs.Prelude.{◌≡◌, ◌↔◌, ℕ, List, Contains, IsUtf8, Ok};
-ghost use Rattle.slp_text.specs.Escapes.{unescaped, unescaped_at, escaped};
-ghost use Rattle.slp_text.specs.Key.{key_of};
-ghost use Rattle.slp_text.specs.Scopes.{scopes_of, common_of, printed, AreScopes};
+ghost use Rattle.slp_text.specs.Escapes.{unescaped_text, unescaped_text_at, escaped_text};
+ghost use Rattle.slp_text.specs.Keys.{key_of};
+ghost use Rattle.slp_text.specs.Scopes.{scopes_of, common_scopes, printed_scopes, AreScopes};
 ghost use Rattle.slp_text.specs.Sets.{set_of};
 ghost use Rattle.slp_text.specs.Words.{IsAscending};
 ghost use Rattle.slp_text.specs.declared.escapes.Place.{Place};
@@ -11,8 +11,8 @@ use crate::scopes::ScopeList;
 
 /// What is written at a place is read there as the same characters.
 pub fn what_is_escaped_is_read_again()
-    ensures there { (place : Place) (cs : List ℕ) → unescaped_at place (escaped place cs) ≡ Ok cs }
-    ensures anywhere { (place : Place) (cs : List ℕ) → unescaped (escaped place cs) ≡ Ok cs }
+    ensures there { (place : Place) (cs : List ℕ) → unescaped_text_at place (escaped_text place cs) ≡ Ok cs }
+    ensures anywhere { (place : Place) (cs : List ℕ) → unescaped_text (escaped_text place cs) ≡ Ok cs }
 {}
 
 /// A set has just the keys that it is made of, in key order.
@@ -29,17 +29,17 @@ pub fn keys_are_their_own_keys()
 /// What is read as scopes are some, and so is what stands in two lists of them.
 pub fn what_is_read_are_scopes()
     ensures read { (text : List ℕ) (ks : List (List ℕ)) → IsUtf8 text → scopes_of text ≡ Ok ks → AreScopes ks }
-    ensures common { (ks others : List (List ℕ)) → AreScopes ks → AreScopes (common_of ks others) }
+    ensures common { (ks others : List (List ℕ)) → AreScopes ks → AreScopes (common_scopes ks others) }
 {}
 
 /// Scopes that are printed are read again as the same scopes.
 pub fn printed_scopes_are_read_again()
-    ensures { (ks : List (List ℕ)) → AreScopes ks → scopes_of (printed ks) ≡ Ok ks }
+    ensures { (ks : List (List ℕ)) → AreScopes ks → scopes_of (printed_scopes ks) ≡ Ok ks }
 {}
 
 /// The same of each list that there is.
 pub fn each_list_is_read_again(scopes: &ScopeList)
-    ensures { scopes_of (printed scopes.now) ≡ Ok scopes.now }
+    ensures { scopes_of (printed_scopes scopes.now) ≡ Ok scopes.now }
 {
     // What `len` ensures says that they are scopes.
     let _ = scopes.len();

@@ -3,17 +3,18 @@ ghost use Rattle.std.specs.List.{list_any};
 ghost use Rattle.std.specs.Option.{option_copied};
 ghost use Rattle.std.proofs.Common.{rules};
 ghost use Rattle.std.specs.Cmp.Rules.{comparing};
-ghost use Rattle.slp_text.specs.Key.{key_of};
-ghost use Rattle.slp_text.specs.Named.{named_of, scope_written};
+ghost use Rattle.slp_text.specs.Keys.{key_of};
+ghost use Rattle.slp_text.specs.ScopeNames.{scope_names_of, written_scope};
 ghost use Rattle.slp_text.specs.Reading.{read_map, IsFault, IsReading};
-ghost use Rattle.slp_text.specs.Scopes.{is_some_text, is_plain_byte as is_plain_number, is_plain_text, scopes_of, common_of, printed, AreScopes};
+ghost use Rattle.slp_text.specs.Scopes as spec;
+ghost use Rattle.slp_text.specs.Scopes.{is_some_text, is_plain_text, scopes_of, common_scopes, printed_scopes, AreScopes};
 ghost use Rattle.slp_text.specs.Sets.{set_of};
-ghost use Rattle.slp_text.specs.Escapes.{escaped};
+ghost use Rattle.slp_text.specs.Escapes.{escaped_text};
 ghost use Rattle.slp_text.specs.Steps.{BeginsWith, part_end};
 ghost use Rattle.slp_text.specs.Words.{bytes_eq, texts_eq};
 ghost use Rattle.slp_text.specs.declared.escapes.Place.TheVariants.{Scope};
 ghost use Rattle.slp_text.specs.declared.escapes.Stage.TheVariants.{Plain};
-ghost use Rattle.slp_text.specs.declared.faults.TextFault.TheVariants.{NoMemory as Lacking};
+ghost use Rattle.slp_text.specs.declared.faults.TextFault.TheVariants as fault;
 
 use crate::ascii::word_key;
 use crate::escapes::{Place, Stage, Step, escape_into, is_refused, read_step};
@@ -68,7 +69,7 @@ fn take_part(alloc: Global, stage: Stage, part: &str, keys: &mut Vec<Key>) -> Re
 
 // The keys of the parts of a text between its commas, in their order, without the empty ones.
 fn named(alloc: Global, text: &str) -> Result<Vec<Key>, TextFault>
-    ensures { IsReading (read_map (λ v. v.items) result) (named_of text.now) }
+    ensures { IsReading (read_map (λ v. v.items) result) (scope_names_of text.now) }
 {
     let mut keys = Vec::new(alloc);
     let mut part = String::new(alloc);
@@ -94,7 +95,7 @@ fn named(alloc: Global, text: &str) -> Result<Vec<Key>, TextFault>
 
 // Small letters are asked for first, since most are.
 fn is_plain_byte(b: u8) -> bool
-    ensures { result ≡ is_plain_number b }
+    ensures { result ≡ spec.is_plain_byte b }
 {
     (b >= b'a' && b <= b'z')
         || (b >= b'A' && b <= b'Z')
@@ -108,7 +109,7 @@ fn is_plain_byte(b: u8) -> bool
 /// a text is written as it is.
 pub fn is_plain(text: &[u8]) -> bool
     ensures value { result ≡ is_plain_text text.now }
-    ensures written { IsTrue result → encode_utf8_all (escaped Scope (chars text.now)) ≡ text.now }
+    ensures written { IsTrue result → encode_utf8_all (escaped_text Scope (chars text.now)) ≡ text.now }
 {
     text.iter().all(|b| is_plain_byte(*b))
 }
@@ -117,7 +118,7 @@ pub fn is_plain(text: &[u8]) -> bool
 fn single(alloc: Global, text: &str) -> Result<Vec<Key>, TextFault>
     requires { is_plain_text text.now ≡ true }
     ensures value { IfOk result (λ v. scopes_of text.now ≡ Ok v.items) }
-    ensures memory { OnErr result (result ≡ Err Lacking) }
+    ensures memory { OnErr result (result ≡ Err fault.NoMemory) }
 {
     if text.is_empty() {
         return Ok(Vec::new(alloc));
@@ -130,7 +131,7 @@ fn single(alloc: Global, text: &str) -> Result<Vec<Key>, TextFault>
 // The keys in key order, each once.
 fn settled(keys: Vec<Key>) -> Result<Vec<Key>, TextFault>
     ensures value { IfOk result (λ v. v.items ≡ set_of keys.items) }
-    ensures memory { OnErr result (result ≡ Err Lacking) }
+    ensures memory { OnErr result (result ≡ Err fault.NoMemory) }
 {
     let mut set = keys;
     set.sort()?;
@@ -140,7 +141,7 @@ fn settled(keys: Vec<Key>) -> Result<Vec<Key>, TextFault>
 
 // The keys that another list has too.
 fn shared(alloc: Global, keys: &[Key], other: &ScopeList) -> Result<Vec<Key>, NoMemory>
-    ensures { IfOk result (λ v. v.items ≡ common_of keys.now other.now) }
+    ensures { IfOk result (λ v. v.items ≡ common_scopes keys.now other.now) }
 {
     let mut found = Vec::new(alloc);
     for k in keys {
@@ -153,7 +154,7 @@ fn shared(alloc: Global, keys: &[Key], other: &ScopeList) -> Result<Vec<Key>, No
 
 // Appends one key more, after a comma if others have begun.
 fn append_scope(k: &Key, begun: bool, out: &mut String) -> Result<(), NoMemory>
-    ensures ok { IfOk result (λ _. string_bytes out.new ≡ string_bytes out.old ++ scope_written begun k.now) }
+    ensures ok { IfOk result (λ _. string_bytes out.new ≡ string_bytes out.old ++ written_scope begun k.now) }
     ensures start { BeginsWith (string_bytes out.old) (string_bytes out.new) }
 {
     if begun {
@@ -164,7 +165,7 @@ fn append_scope(k: &Key, begun: bool, out: &mut String) -> Result<(), NoMemory>
 
 // Appends the keys; where memory runs out some of them may stand after what was there.
 fn append_printed(keys: &[Key], out: &mut String) -> Result<(), NoMemory>
-    ensures ok { IfOk result (λ _. string_bytes out.new ≡ string_bytes out.old ++ printed keys.now) }
+    ensures ok { IfOk result (λ _. string_bytes out.new ≡ string_bytes out.old ++ printed_scopes keys.now) }
     ensures start { BeginsWith (string_bytes out.old) (string_bytes out.new) }
 {
     let mut begun = false;
@@ -192,7 +193,7 @@ impl ScopeList {
 
     /// What stands in both. It takes time for the product of the lengths.
     pub fn common(&self, alloc: Global, other: &ScopeList) -> Result<ScopeList, NoMemory>
-        ensures { IfOk result (λ l. l ≡ common_of self.now other.now) }
+        ensures { IfOk result (λ l. l ≡ common_scopes self.now other.now) }
     {
         let keys = shared(alloc, &self.keys, other)?;
         Ok(ScopeList { keys })
@@ -201,7 +202,7 @@ impl ScopeList {
     /// Those of the scopes that stand in another list too. It takes time for the product of the lengths,
     /// and no memory.
     pub fn within(self, other: &ScopeList) -> ScopeList
-        ensures { result ≡ common_of other.now self }
+        ensures { result ≡ common_scopes other.now self }
     {
         let others = &other.keys;
         let mut keys = self.keys;
@@ -212,7 +213,7 @@ impl ScopeList {
     /// Appends the scopes in key order, with escapes and a comma between each two. Where memory runs
     /// out nothing is appended.
     pub fn print_into(&self, out: &mut String) -> Result<(), NoMemory>
-        ensures ok { IfOk result (λ _. string_bytes out.new ≡ string_bytes out.old ++ printed self.now) }
+        ensures ok { IfOk result (λ _. string_bytes out.new ≡ string_bytes out.old ++ printed_scopes self.now) }
         ensures err { OnErr result (string_bytes out.new ≡ string_bytes out.old) }
     {
         let before = out.len();

@@ -1,14 +1,14 @@
-ghost use Rattle.std.specs.Prelude.{◌≡◌, ◌↔◌, ◌++◌, ℕ, List, [], ◌∷◌, filter, map, IfOk, IfErr, IsTrue};
+ghost use Rattle.std.specs.Prelude.{◌≡◌, ◌↔◌, ◌++◌, List, [], ◌∷◌, filter, map, IfOk, IfErr, IsTrue};
 ghost use Rattle.std.specs.List.{list_any};
-ghost use Rattle.ucd_case.specs.CaseFolding.{full_fold, full_folding as folding_number};
-ghost use Rattle.slp_text.specs.Escapes.{is_escapable, is_refused as is_refused_number};
-ghost use Rattle.slp_text.specs.Key.{is_white};
-ghost use Rattle.slp_text.specs.Parts.{sign_of, step_of_sign, grown};
+ghost use Rattle.std.specs.Option.{option_map_or};
+ghost use Rattle.ucd_case.specs.CaseFolding as case_folding;
+ghost use Rattle.slp_text.specs.Parts.{sign_step, folded_sign, part_with};
 ghost use Rattle.slp_text.specs.Reading.{read_map, IsFault, IsReading};
 ghost use Rattle.slp_text.specs.Runs.{run_of, IsRunWithin};
 ghost use Rattle.slp_text.specs.Scopes.{is_some_text};
-ghost use Rattle.slp_text.specs.Steps.{part_end, step_of};
-ghost use Rattle.slp_text.specs.Tags.{starred, part_bytes, tags_of, ends_of, is_match, selects as selects_tag};
+ghost use Rattle.slp_text.specs.Steps.{part_end};
+ghost use Rattle.slp_text.specs.Tags as spec;
+ghost use Rattle.slp_text.specs.Tags.{Sign, sign_bytes, tags_of, ends_of, is_match};
 ghost use Rattle.slp_text.specs.declared.escapes.Place.TheVariants.{Tag};
 ghost use Rattle.slp_text.specs.declared.escapes.Stage.TheVariants.{Plain};
 
@@ -38,7 +38,7 @@ impl Model for TagList {
 
 // Reads one character more of a list of tags, where a raw `*` is `None`.
 fn read_sign(stage: Stage, c: char) -> Result<Step<Option<char>>, TextFault>
-    ensures { read_map step_of_sign result ≡ step_of is_escapable (is_refused_number Tag (starred c)) stage (starred c) }
+    ensures { result ≡ sign_step stage c }
 {
     if c == '*' {
         return match stage {
@@ -53,7 +53,7 @@ fn read_sign(stage: Stage, c: char) -> Result<Step<Option<char>>, TextFault>
 }
 
 fn is_white_sign(sign: Option<char>) -> bool
-    ensures { result ≡ is_white (sign_of sign) }
+    ensures { result ≡ spec.is_white_sign sign }
 {
     match sign {
         Some(c) => is_white_space(c),
@@ -63,7 +63,7 @@ fn is_white_sign(sign: Option<char>) -> bool
 
 // What a sign folds to, which is empty where that is itself.
 fn folding_of(sign: Option<char>) -> &'static [char]
-    ensures { result.now ≡ folding_number (sign_of sign) }
+    ensures { result.now ≡ option_map_or case_folding.full_folding sign [] }
 {
     match sign {
         Some(c) => full_folding(c),
@@ -73,7 +73,7 @@ fn folding_of(sign: Option<char>) -> &'static [char]
 
 // Appends the bytes of a character.
 fn push_character(c: char, part: &mut Vec<Option<u8>>) -> Result<(), NoMemory>
-    ensures { IfOk result (λ _. part.new.items ≡ part.old.items ++ part_bytes c) }
+    ensures { IfOk result (λ _. part.new.items ≡ part.old.items ++ sign_bytes (Some c)) }
 {
     let mut buffer = [0; 4];
     for b in c.encode_utf8(&mut buffer).as_bytes() {
@@ -84,7 +84,7 @@ fn push_character(c: char, part: &mut Vec<Option<u8>>) -> Result<(), NoMemory>
 
 // Appends what a sign stands for.
 fn push_sign(sign: Option<char>, part: &mut Vec<Option<u8>>) -> Result<(), NoMemory>
-    ensures { IfOk result (λ _. part.new.items ≡ part.old.items ++ part_bytes (sign_of sign)) }
+    ensures { IfOk result (λ _. part.new.items ≡ part.old.items ++ sign_bytes sign) }
 {
     match sign {
         Some(c) => push_character(c, part)?,
@@ -96,7 +96,7 @@ fn push_sign(sign: Option<char>, part: &mut Vec<Option<u8>>) -> Result<(), NoMem
 // Appends a folded sign, after a space if white space came since the last one. White space itself is
 // put off; whether it was is answered.
 fn add_sign(sign: Option<char>, gap: bool, part: &mut Vec<Option<u8>>) -> Result<bool, NoMemory>
-    ensures { IfOk result (λ now. (rest : List ℕ) → grown now part.new.items rest ≡ grown gap part.old.items (sign_of sign ∷ rest)) }
+    ensures { IfOk result (λ now. (rest : List Sign) → part_with now part.new.items rest ≡ part_with gap part.old.items (sign ∷ rest)) }
 {
     if is_white_sign(sign) {
         return Ok(true);
@@ -110,7 +110,7 @@ fn add_sign(sign: Option<char>, gap: bool, part: &mut Vec<Option<u8>>) -> Result
 
 // The same of what a sign folds to.
 fn add_folded(sign: Option<char>, gap: bool, part: &mut Vec<Option<u8>>) -> Result<bool, NoMemory>
-    ensures { IfOk result (λ now. (rest : List ℕ) → grown now part.new.items rest ≡ grown gap part.old.items (full_fold (sign_of sign) ++ rest)) }
+    ensures { IfOk result (λ now. (rest : List Sign) → part_with now part.new.items rest ≡ part_with gap part.old.items (folded_sign sign ++ rest)) }
 {
     let folding = folding_of(sign);
     if folding.is_empty() {
@@ -268,7 +268,7 @@ impl TagList {
     /// Whether a part matches the tag, or there is no part. It takes no memory, and at most time for
     /// the product of the lengths of each part and the tag.
     pub fn selects(&self, tag: &Key) -> bool
-        ensures { result ≡ selects_tag self.now tag.now }
+        ensures { result ≡ spec.selects self.now tag.now }
     {
         self.is_empty() || some_part_matches(&self.parts, tag.as_str().as_bytes())
     }

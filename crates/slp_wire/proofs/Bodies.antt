@@ -15,8 +15,8 @@ use Rattle.slp_bodies.specs.Bodies.{service_request_at, service_reply_at, regist
 use Rattle.slp_wire.specs.Bodies.{as_message, body_at}
 use Rattle.slp_bodies.specs.Replies.{SpellsReply}
 use Rattle.slp_wire.specs.Spelling.{SpellsBody, body_of}
-use Rattle.slp_wire.proofs.Coded.{reply_takes, found_again, refused_again, reply_is_spelled}
-use Rattle.slp_wire.proofs.Lawful.{laid_takes, laid_again, service_request_lawful, registration_lawful, withdrawal_lawful, acknowledgement_lawful, attribute_request_lawful, type_request_lawful, service_agent_lawful, services_lawful, attributes_lawful, directory_agent_lawful, types_lawful}
+use Rattle.slp_wire.proofs.Replies.{reply_takes, found_again, refused_again, reply_is_spelled}
+use Rattle.slp_wire.proofs.Layouts.{laid_takes, laid_again, service_request_lawful, registration_lawful, withdrawal_lawful, acknowledgement_lawful, attribute_request_lawful, type_request_lawful, service_agent_lawful, services_lawful, attributes_lawful, directory_agent_lawful, types_lawful}
 use Rattle.slp_wire.proofs.Steps.{IsBytes, Takes, bind_ok, chosen, from_ok}
 use Rattle.slp_wire.proofs.Values.{values_are_spelled}
 

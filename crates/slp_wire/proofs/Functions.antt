@@ -8,7 +8,7 @@ use Rattle.slp_messages.specs.declared.message.Message.{Message}
 use Rattle.slp_messages.specs.declared.message.Message.TheVariants as message
 use Rattle.slp_fields.specs.declared.fault.WireFault.{WireFault}
 use Rattle.slp_wire.specs.Bodies.{as_message, body_at}
-use Rattle.slp_wire.specs.Reading.{tail_of, kept_header, body_part, ends_at, ended, reading_after, reading}
+use Rattle.slp_wire.specs.Reading.{tail_of, kept_header, body_part, ends_at, reading_to_end, reading_after, reading}
 use Rattle.slp_wire.proofs.Steps.{bind_ok, chosen, from_ok}
 
 -- this function, or another one
@@ -36,8 +36,8 @@ body_function function tail h bytes x =
     (or_next 11 function x (message.ServiceAdvert h) _ _ (λ a. refl)
     (λ wrong. absurd cc)))))))))))
 
-ended_function : (h : Heading) (m : Message) (bytes : List ℕ) → ended h (body_at h.function (tail_of h) (kept_header h) bytes) ≡ Ok m → function_of m ≡ h.function
-unfolding ended
+ended_function : (h : Heading) (m : Message) (bytes : List ℕ) → reading_to_end h (body_at h.function (tail_of h) (kept_header h) bytes) ≡ Ok m → function_of m ≡ h.function
+unfolding reading_to_end
 ended_function h m bytes e =
     let d = bind_ok (body_at h.function (tail_of h) (kept_header h) bytes) _ m e in
     let f = bind_ok (ends_at h.extension h.length d.0.1) _ m d.2 in

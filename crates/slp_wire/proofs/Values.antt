@@ -9,7 +9,7 @@ use Rattle.slp_messages.specs.declared.kind.Kind.{Kind}
 use Rattle.slp_messages.specs.declared.kind.Kind.TheVariants.{Number, Long, Text, Entry, Entries, Authority, NoBlock, NoIndex}
 use Rattle.slp_messages.specs.declared.message.Authority.TheVariants.{All, Named}
 use Rattle.slp_messages.specs.declared.message.UrlEntry.{UrlEntry}
-use Rattle.slp_fields.specs.Reading.{value_at, reading_at, unkept, unkept_at, skipped_at}
+use Rattle.slp_fields.specs.Reading.{value_at, reading_at, rest_of_reading, rest_of_field_at, rest_of_fields_at}
 use Rattle.slp_fields.specs.Spelling.{entry_bytes, authority_bytes, value_bytes, values_bytes, SpellsEntries, SpellsValue, SpellsValues}
 use Rattle.slp_fields.specs.declared.fault.WireFault.{WireFault}
 use Rattle.slp_wire.proofs.Authorities.{authority_takes, authority_again}
@@ -58,7 +58,7 @@ reading_takes (k ∷ ks) bytes made y fits e =
     let b = reading_takes ks a.0.1 (λ others rest. made (a.0.0, others) rest) y t.1.rest_fits a.2 in
     ((a.0.0, b.0), b.1, one_more k ks bytes a.0.1 b.1 a.0.0 b.0 t b.2, b.3)
 
-unkept_is : (k : Kind) (bytes : List ℕ) → unkept_at k bytes ≡ unkept (value_at k bytes)
+unkept_is : (k : Kind) (bytes : List ℕ) → rest_of_field_at k bytes ≡ rest_of_reading (value_at k bytes)
 unkept_is Number bytes = refl
 unkept_is Long bytes = refl
 unkept_is Text bytes = refl
@@ -69,19 +69,19 @@ unkept_is NoBlock bytes = refl
 unkept_is NoIndex bytes = refl
 
 -- the value of a field that was not kept
-unkept_ok : (k : Kind) (bytes rest : List ℕ) → unkept_at k bytes ≡ Ok rest → (v : Value k) × (value_at k bytes ≡ Ok (v, rest))
+unkept_ok : (k : Kind) (bytes rest : List ℕ) → rest_of_field_at k bytes ≡ Ok rest → (v : Value k) × (value_at k bytes ≡ Ok (v, rest))
 unkept_ok k bytes rest e =
     let d = bind_ok (value_at k bytes) (λ x. Ok x.1) rest (sym (unkept_is k bytes) ∙ e) in
     let same : d.0.1 ≡ rest = ok_is d.0.1 rest d.2 in
     let pair : List ℕ → Result (Value k × List ℕ) WireFault = λ (r : List ℕ). Ok (d.0.0, r) in
     (d.0.0, d.1 ∙ ap pair same)
 
-pub skipped_takes : (ks : List Kind) (bytes rest : List ℕ) → IsBytes bytes → skipped_at ks bytes ≡ Ok rest → (values : Values ks) × Taken ks bytes values rest
+pub skipped_takes : (ks : List Kind) (bytes rest : List ℕ) → IsBytes bytes → rest_of_fields_at ks bytes ≡ Ok rest → (values : Values ks) × Taken ks bytes values rest
 skipped_takes [] bytes rest fits e =
     let same : bytes ≡ rest = ok_is bytes rest e in
     (tt, record { text = []; takes = record { parts = same; rest_fits = subst IsBytes same fits }; spells = refl; fit = tt })
 skipped_takes (k ∷ ks) bytes rest fits e =
-    let a = bind_ok (unkept_at k bytes) (λ b. skipped_at ks b) rest e in
+    let a = bind_ok (rest_of_field_at k bytes) (λ b. rest_of_fields_at ks b) rest e in
     let v = unkept_ok k bytes a.0 a.1 in
     let t = value_takes k bytes v.0 a.0 fits v.1 in
     let b = skipped_takes ks a.0 rest t.1.rest_fits a.2 in
@@ -110,15 +110,15 @@ reading_again (k ∷ ks) text rest values made spells fit =
     ∙ bind_is (value_at k (front ++ (back ++ rest))) (λ first. reading_at ks first.1 (λ others r. made (first.0, others) r)) (values.0, back ++ rest) (value_again k front values.0 (back ++ rest) spells.3 fit.0)
     ∙ reading_again ks back rest values.1 (λ others r. made (values.0, others) r) spells.4 fit.1
 
-pub skipped_again : (ks : List Kind) (text rest : List ℕ) (values : Values ks) → SpellsValues ks text values → AreFit ks values → skipped_at ks (text ++ rest) ≡ Ok rest
-skipped_again [] text rest values spells fit = ap (λ (t : List ℕ). skipped_at [] (t ++ rest)) spells
+pub skipped_again : (ks : List Kind) (text rest : List ℕ) (values : Values ks) → SpellsValues ks text values → AreFit ks values → rest_of_fields_at ks (text ++ rest) ≡ Ok rest
+skipped_again [] text rest values spells fit = ap (λ (t : List ℕ). rest_of_fields_at [] (t ++ rest)) spells
 skipped_again (k ∷ ks) text rest values spells fit =
     let front = spells.0 in
     let back = spells.1 in
     let regrouped : text ++ rest ≡ front ++ (back ++ rest) = ap (λ (t : List ℕ). t ++ rest) spells.2 ∙ append_assoc front back rest in
-    let first : unkept_at k (front ++ (back ++ rest)) ≡ Ok (back ++ rest) = unkept_is k (front ++ (back ++ rest)) ∙ ap unkept (value_again k front values.0 (back ++ rest) spells.3 fit.0) in
-    ap (λ (b : List ℕ). skipped_at (k ∷ ks) b) regrouped
-    ∙ bind_is (unkept_at k (front ++ (back ++ rest))) (λ b. skipped_at ks b) (back ++ rest) first
+    let first : rest_of_field_at k (front ++ (back ++ rest)) ≡ Ok (back ++ rest) = unkept_is k (front ++ (back ++ rest)) ∙ ap rest_of_reading (value_again k front values.0 (back ++ rest) spells.3 fit.0) in
+    ap (λ (b : List ℕ). rest_of_fields_at (k ∷ ks) b) regrouped
+    ∙ bind_is (rest_of_field_at k (front ++ (back ++ rest))) (λ b. rest_of_fields_at ks b) (back ++ rest) first
     ∙ skipped_again ks back rest values.1 spells.4 fit.1
 
 -- ---- what is written is spelled

@@ -5,7 +5,7 @@ use Rattle.slp_messages.specs.declared.function.TheConstants.{SERVICE_REQUEST, S
 use Rattle.slp_messages.specs.declared.header.Header.{Header}
 use Rattle.slp_messages.specs.declared.message.Message.TheVariants as message
 use Rattle.slp_messages.specs.declared.message.Message.{Message}
-use Rattle.slp_fields.specs.Reading.{laid_at}
+use Rattle.slp_fields.specs.Reading.{layout_at}
 use Rattle.slp_fields.specs.Steps.{◌>>=◌}
 use Rattle.slp_fields.specs.declared.fault.WireFault.TheVariants.{Unknown}
 use Rattle.slp_fields.specs.declared.fault.WireFault.{WireFault}
@@ -22,7 +22,7 @@ body_at function tail h bytes =
     else (if function == SERVICE_REPLY then as_message (message.ServiceReply h) (service_reply_at tail bytes)
     else (if function == REGISTRATION then as_message (message.Registration h) (registration_at bytes)
     else (if function == WITHDRAWAL then as_message (message.Withdrawal h) (withdrawal_at bytes)
-    else (if function == ACKNOWLEDGEMENT then as_message (message.Acknowledgement h) (laid_at acknowledgement bytes)
+    else (if function == ACKNOWLEDGEMENT then as_message (message.Acknowledgement h) (layout_at acknowledgement bytes)
     else (if function == ATTRIBUTE_REQUEST then as_message (message.AttributeRequest h) (attribute_request_at bytes)
     else (if function == ATTRIBUTE_REPLY then as_message (message.AttributeReply h) (attribute_reply_at tail bytes)
     else (if function == DIRECTORY_ADVERT then as_message (message.DirectoryAdvert h) (directory_advert_at tail bytes)

@@ -5,8 +5,8 @@ use Rattle.slp_messages.specs.declared.function.TheConstants.{SERVICE_REQUEST, S
 use Rattle.slp_messages.specs.declared.header.Header.{Header}
 use Rattle.slp_messages.specs.declared.message.Message.{Message}
 use Rattle.slp_headers.specs.Headers.{Heading, flags_of, heading_of}
-use Rattle.slp_headers.specs.declared.fixed.TheConstants.{VERSION}
-use Rattle.slp_headers.specs.declared.place.TheConstants as place
+use Rattle.slp_headers.specs.declared.beginning.TheConstants.{VERSION}
+use Rattle.slp_headers.specs.declared.offset.TheConstants as offset
 use Rattle.slp_fields.specs.Steps.{◌>>=◌}
 use Rattle.slp_fields.specs.declared.fault.WireFault.TheVariants.{NoHeader, Version, Parse, Unknown}
 use Rattle.slp_fields.specs.declared.fault.WireFault.{WireFault}
@@ -23,7 +23,7 @@ kept_header h = record { flags = flags_of h.flags; xid = h.xid; language = h.lan
 
 -- what stands after the header, as far as the length field marks it
 abbrev pub body_part : Heading → List ℕ → List ℕ
-body_part h bytes = drop (place.TAG + length h.language) (take h.length bytes)
+body_part h bytes = drop (offset.TAG + length h.language) (take h.length bytes)
 
 -- how many bytes of the message the header gives to extensions
 abbrev pub tail_of : Heading → ℕ
@@ -35,8 +35,8 @@ ends_at extension total rest =
     if extension == 0 then (if length rest == 0 then Ok tt else Err Parse)
     else (if extension + length rest == total then extensions_at (length rest) extension rest else Err Parse)
 
-unfoldable pub ended : Heading → Result (Message × List ℕ) WireFault → Result Message WireFault
-ended h read = do
+unfoldable pub reading_to_end : Heading → Result (Message × List ℕ) WireFault → Result Message WireFault
+reading_to_end h read = do
   m ← read
   _ ← ends_at h.extension h.length m.1
   Ok m.0
@@ -45,8 +45,8 @@ unfoldable pub reading_after : Heading → List ℕ → Result Message WireFault
 reading_after h bytes =
     if is_known h.function then
     (if h.version == VERSION then
-    (if nat_lt h.length (place.TAG + length h.language) || nat_lt (length bytes) h.length then Err Parse
-    else ended h (body_at h.function (tail_of h) (kept_header h) (body_part h bytes)))
+    (if nat_lt h.length (offset.TAG + length h.language) || nat_lt (length bytes) h.length then Err Parse
+    else reading_to_end h (body_at h.function (tail_of h) (kept_header h) (body_part h bytes)))
     else Err Version)
     else Err Unknown
 
@@ -56,5 +56,5 @@ unfoldable pub reading : List ℕ → Result Message WireFault
 reading bytes = elim (heading_of bytes) [ None ↦ Err NoHeader | Some h ↦ reading_after h bytes ]
 
 -- the front of the bytes that the length field marks
-abbrev pub marked : List ℕ → List ℕ
-marked bytes = take (big_number 3 (drop place.LENGTH bytes)) bytes
+abbrev pub marked_bytes : List ℕ → List ℕ
+marked_bytes bytes = take (big_number 3 (drop offset.LENGTH bytes)) bytes

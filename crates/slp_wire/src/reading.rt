@@ -1,18 +1,19 @@
 ghost use Rattle.std.specs.Prelude.{◌≡◌, ◌<◌, ◌^◌, ◌⊎◌, IfOk, IfErr, Some, Ok, Err};
 ghost use Rattle.slp_messages.specs.declared.message.Message.TheVariants as message;
-ghost use Rattle.slp_messages.specs.declared.message.Message.{Message as AnyMessage};
-ghost use Rattle.slp_messages.specs.Views.{header_in as kept_in, message_in, request_in};
-ghost use Rattle.slp_headers.specs.Headers.{flags_of, heading, heading_of};
+ghost use Rattle.slp_messages.specs.declared.message.Message as code;
+ghost use Rattle.slp_messages.specs.Views as views;
+ghost use Rattle.slp_messages.specs.Views.{message_in, request_in};
+ghost use Rattle.slp_headers.specs.Headers.{flags_of, heading_in, heading_of};
 ghost use Rattle.slp_fields.specs.Steps.{Gives};
 ghost use Rattle.slp_wire.specs.Bodies.{body_at};
-ghost use Rattle.slp_wire.specs.Reading.{is_known, kept_header, tail_of, ends_at, ended, reading_after, reading, marked};
+ghost use Rattle.slp_wire.specs.Reading.{is_known, kept_header, tail_of, ends_at, reading_to_end, reading_after, reading, marked_bytes};
 ghost use Rattle.slp_wire.specs.Spelling.{Spells};
 
 use crate::body::body_of;
 use crate::extensions::skip_extensions;
 use slp_bodies::{registration_view_of, service_request_view_of, withdrawal_view_of};
 use slp_fields::WireFault;
-use slp_headers::{HeaderView, VERSION, flag, place, read_header};
+use slp_headers::{HeaderView, VERSION, flag, offset, read_header};
 use slp_messages::{
     ChangeView, Flags, Header, KeptHeader, Message, ServiceRequestView, Tag, function,
 };
@@ -36,7 +37,7 @@ fn flags_in(word: u16) -> Flags
 
 // What a message keeps of its header, lent.
 fn kept<'a>(view: &HeaderView<'a>) -> KeptHeader<'a>
-    ensures { kept_in result ≡ kept_header (heading view.now) }
+    ensures { views.header_in result ≡ kept_header (heading_in view.now) }
 {
     KeptHeader {
         flags: flags_in(view.flags),
@@ -46,7 +47,7 @@ fn kept<'a>(view: &HeaderView<'a>) -> KeptHeader<'a>
 }
 
 fn header_in(alloc: Global, view: &HeaderView<'_>) -> Result<Header, WireFault>
-    ensures { Gives (λ h. h) result (Ok (kept_header (heading view.now))) }
+    ensures { Gives (λ h. h) result (Ok (kept_header (heading_in view.now))) }
 {
     let language = Tag::new(alloc, view.language)?;
     Ok(Header {
@@ -58,12 +59,12 @@ fn header_in(alloc: Global, view: &HeaderView<'_>) -> Result<Header, WireFault>
 
 // How many bytes of the message the header gives to extensions.
 fn tail_in(view: &HeaderView<'_>) -> usize
-    ensures { result ≡ tail_of (heading view.now) }
+    ensures { result ≡ tail_of (heading_in view.now) }
 {
-    if view.extension == 0 {
+    if view.ext == 0 {
         return 0;
     }
-    (view.length as usize).saturating_sub(view.extension as usize)
+    (view.length as usize).saturating_sub(view.ext as usize)
 }
 
 // Whether a body that leaves these bytes ends a message of so many, whose extensions begin there.
@@ -86,17 +87,17 @@ fn check_end(extension: usize, total: usize, rest: &[u8]) -> Result<(), WireFaul
 }
 
 // These bytes are what the length field marks after the header.
-#[tactic(auto, unfolding(crate::specs::Reading::ended))]
+#[tactic(auto, unfolding(crate::specs::Reading::reading_to_end))]
 fn whole_body(
     alloc: Global,
     view: &HeaderView<'_>,
     header: Header,
     bytes: &[u8],
 ) -> Result<Message, WireFault>
-    ensures { Gives (λ m. m) result (ended (heading view.now) (body_at view.now.function (tail_of (heading view.now)) header bytes.now)) }
+    ensures { Gives (λ m. m) result (reading_to_end (heading_in view.now) (body_at view.now.function (tail_of (heading_in view.now)) header bytes.now)) }
 {
     let (message, rest) = body_of(alloc, view.function, tail_in(view), header, bytes)?;
-    match check_end(view.extension as usize, view.length as usize, rest) {
+    match check_end(view.ext as usize, view.length as usize, rest) {
         Ok(()) => Ok(message),
         Err(fault) => {
             drop(message);
@@ -108,8 +109,8 @@ fn whole_body(
 // What stands after the header, where a message of this header may be read.
 #[tactic(auto, unfolding(crate::specs::Reading::reading_after))]
 fn body_after<'a>(view: &HeaderView<'_>, bytes: &'a [u8]) -> Result<&'a [u8], WireFault>
-    ensures ok { IfOk result (λ body. reading_after (heading view.now) bytes.now ≡ ended (heading view.now) (body_at view.now.function (tail_of (heading view.now)) (kept_header (heading view.now)) body.now)) }
-    ensures err { IfErr result (λ e. reading_after (heading view.now) bytes.now ≡ Err e) }
+    ensures ok { IfOk result (λ body. reading_after (heading_in view.now) bytes.now ≡ reading_to_end (heading_in view.now) (body_at view.now.function (tail_of (heading_in view.now)) (kept_header (heading_in view.now)) body.now)) }
+    ensures err { IfErr result (λ e. reading_after (heading_in view.now) bytes.now ≡ Err e) }
 {
     if !is_read(view.function) {
         return Err(WireFault::Unknown);
@@ -118,7 +119,7 @@ fn body_after<'a>(view: &HeaderView<'_>, bytes: &'a [u8]) -> Result<&'a [u8], Wi
         return Err(WireFault::Version);
     }
     let length = view.length as usize;
-    let start = place::TAG + view.language.len();
+    let start = offset::TAG + view.language.len();
     if length < start || bytes.len() < length {
         return Err(WireFault::Parse);
     }
@@ -126,7 +127,7 @@ fn body_after<'a>(view: &HeaderView<'_>, bytes: &'a [u8]) -> Result<&'a [u8], Wi
 }
 
 fn message_after(alloc: Global, view: &HeaderView<'_>, bytes: &[u8]) -> Result<Message, WireFault>
-    ensures { Gives (λ m. m) result (reading_after (heading view.now) bytes.now) }
+    ensures { Gives (λ m. m) result (reading_after (heading_in view.now) bytes.now) }
 {
     let body = body_after(view, bytes)?;
     let header = header_in(alloc, view)?;
@@ -134,37 +135,37 @@ fn message_after(alloc: Global, view: &HeaderView<'_>, bytes: &[u8]) -> Result<M
 }
 
 /// The service request in front of the bytes, whose header was read from them. Its texts are lent.
-#[tactic(auto, unfolding(crate::specs::Reading::reading, crate::specs::Reading::ended, crate::specs::Bodies::body_at))]
+#[tactic(auto, unfolding(crate::specs::Reading::reading, crate::specs::Reading::reading_to_end, crate::specs::Bodies::body_at))]
 pub fn read_service_request<'a>(
     view: &HeaderView<'_>,
     bytes: &'a [u8],
 ) -> Result<ServiceRequestView<'a>, WireFault>
-    requires header { heading_of bytes.now ≡ Some (heading view.now) }
+    requires header { heading_of bytes.now ≡ Some (heading_in view.now) }
     requires function { view.now.function ≡ 1 }
-    ensures { Gives (λ r. message.ServiceRequest (kept_header (heading view.now)) (request_in r)) result (reading bytes.now) }
+    ensures { Gives (λ r. message.ServiceRequest (kept_header (heading_in view.now)) (request_in r)) result (reading bytes.now) }
 {
     let body = body_after(view, bytes)?;
     let (request, rest) = service_request_view_of(body)?;
-    check_end(view.extension as usize, view.length as usize, rest)?;
+    check_end(view.ext as usize, view.length as usize, rest)?;
     Ok(request)
 }
 
 /// The registration or the withdrawal in front of the bytes, whose header was read from them. Its texts
 /// are lent.
-#[tactic(auto, unfolding(crate::specs::Reading::reading, crate::specs::Reading::ended, crate::specs::Bodies::body_at))]
+#[tactic(auto, unfolding(crate::specs::Reading::reading, crate::specs::Reading::reading_to_end, crate::specs::Bodies::body_at))]
 pub fn read_change<'a>(view: &HeaderView<'a>, bytes: &'a [u8]) -> Result<ChangeView<'a>, WireFault>
-    requires header { heading_of bytes.now ≡ Some (heading view.now) }
+    requires header { heading_of bytes.now ≡ Some (heading_in view.now) }
     requires function { (view.now.function ≡ 3) ⊎ (view.now.function ≡ 4) }
     ensures { Gives message_in result (reading bytes.now) }
 {
     let body = body_after(view, bytes)?;
     if view.function == function::REGISTRATION {
         let (registration, rest) = registration_view_of(body)?;
-        check_end(view.extension as usize, view.length as usize, rest)?;
+        check_end(view.ext as usize, view.length as usize, rest)?;
         return Ok(ChangeView::Registration(kept(view), registration));
     }
     let (withdrawal, rest) = withdrawal_view_of(body)?;
-    check_end(view.extension as usize, view.length as usize, rest)?;
+    check_end(view.ext as usize, view.length as usize, rest)?;
     Ok(ChangeView::Withdrawal(kept(view), withdrawal))
 }
 
@@ -183,9 +184,9 @@ fn message_of(alloc: Global, bytes: &[u8]) -> Result<Message, WireFault>
 /// copied once.
 pub fn decode(alloc: Global, bytes: &[u8]) -> Result<Message, WireFault>
     // What is read is spelled so.
-    ensures found { IfOk result (λ m. Spells (marked bytes.now) m) }
+    ensures found { IfOk result (λ m. Spells (marked_bytes bytes.now) m) }
     // What is spelled so is read, unless memory runs out.
-    ensures only { (m : AnyMessage) → Spells (marked bytes.now) m → Gives (λ n. n) result (Ok m) }
+    ensures only { (m : code.Message) → Spells (marked_bytes bytes.now) m → Gives (λ n. n) result (Ok m) }
     // Which fault it is.
     ensures exact { Gives (λ n. n) result (reading bytes.now) }
 {

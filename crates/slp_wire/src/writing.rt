@@ -1,8 +1,8 @@
 ghost use Rattle.std.specs.Prelude.{◌≡◌, ◌≤◌, ◌<◌, ◌+◌, ◌↔◌, ◌⊎◌, ◌++◌, length, min, vec_len, vec_capacity, OnOk, OnErr, IfErr, IsErrOf};
 ghost use Rattle.slp_messages.specs.Messages.{IsMessage, IsBody, header_of, function_of};
 ghost use Rattle.slp_headers.specs.Headers.{word_of};
-ghost use Rattle.slp_fields.specs.declared.fault.WireFault.TheVariants.{NoMemory as Lacking, TooLong as Long};
-ghost use Rattle.slp_wire.specs.Spelling.{plain, body_of, longest};
+ghost use Rattle.slp_fields.specs.declared.fault.WireFault.TheVariants as fault;
+ghost use Rattle.slp_wire.specs.Spelling.{plain_bytes, body_of, longest};
 
 use slp_bodies::{
     attribute_request_fields, attributes_fields, directory_agent_fields, refusal_fields,
@@ -10,7 +10,7 @@ use slp_bodies::{
     type_request_fields, types_fields, withdrawal_fields,
 };
 use slp_fields::{Field, LONGEST, WireFault, append, put_fields, with_fields};
-use slp_headers::{flag, opening, place};
+use slp_headers::{flag, opening, offset};
 use slp_messages::{
     AttributeReply, DirectoryAdvert, Flags, Header, Message, ServiceReply, TypeReply, function,
 };
@@ -131,19 +131,19 @@ fn word_in(flags: Flags) -> u16
 }
 
 fn message_length(message: &Message) -> usize
-    ensures length { result ≡ min (length (plain message.now)) 65536 }
+    ensures length { result ≡ min (length (plain_bytes message.now)) 65536 }
     ensures sound { result ≤ longest → IsMessage message.now }
 {
     let header = header_in(message);
     let _xid = header.xid;
     let tag = header.language.as_str();
-    with_body(place::TAG + tag.len(), message)
+    with_body(offset::TAG + tag.len(), message)
 }
 
 fn put_message(bytes: &mut Vec<u8>, message: &Message, total: usize)
-    requires length { total ≡ length (plain message.now) }
+    requires length { total ≡ length (plain_bytes message.now) }
     requires room { vec_len bytes.old + total ≤ vec_capacity bytes.old }
-    ensures { bytes.new.items ≡ bytes.old.items ++ plain message.now }
+    ensures { bytes.new.items ≡ bytes.old.items ++ plain_bytes message.now }
 {
     let header = header_in(message);
     let tag = header.language.as_str().as_bytes();
@@ -164,10 +164,10 @@ fn put_message(bytes: &mut Vec<u8>, message: &Message, total: usize)
 /// authentication block, and 0 in each reserved place. A refusal leaves the bytes as they were.
 /// Memory is taken once, before the first byte is written.
 pub fn encode(message: &Message, bytes: &mut Vec<u8>) -> Result<(), WireFault>
-    ensures ok { OnOk result (bytes.new.items ≡ bytes.old.items ++ plain message.now) }
+    ensures ok { OnOk result (bytes.new.items ≡ bytes.old.items ++ plain_bytes message.now) }
     ensures sound { OnOk result (IsMessage message.now) }
-    ensures long { IsErrOf result Long ↔ (longest < length (plain message.now)) }
-    ensures faults { IfErr result (λ e. (e ≡ Lacking) ⊎ (e ≡ Long)) }
+    ensures long { IsErrOf result fault.TooLong ↔ (longest < length (plain_bytes message.now)) }
+    ensures faults { IfErr result (λ e. (e ≡ fault.NoMemory) ⊎ (e ≡ fault.TooLong)) }
     ensures err { OnErr result (bytes.new.items ≡ bytes.old.items) }
 {
     let total = message_length(message);

@@ -4,7 +4,7 @@
 ghost use Rattle.std.specs.Prelude.{◌≡◌, ◌<◌, ◌⊎◌, ◌++◌, ◌∷◌, [], codes, length};
 ghost use Rattle.std.specs.Io.KnownBytes.{Appends};
 ghost use Rattle.std.specs.Process.{exit_status};
-ghost use Rattle.directory_program.specs.Reporting.{Reports};
+ghost use Rattle.directory_program.specs.Reports.{Reports};
 
 use directory_program::replay_run;
 use std::alloc::Global;

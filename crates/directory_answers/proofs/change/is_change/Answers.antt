@@ -2,7 +2,7 @@ use Rattle.std.proofs.Common.{ap, sym, ◌∙◌, false}
 use Rattle.std.specs.Prelude.{◌==◌, ◌||◌}
 use Rattle.std.specs.Option.{option_map_or}
 use Rattle.slp_headers.specs.Headers.{Heading}
-use Rattle.directory_answers.specs.Answering.{is_change_of}
+use Rattle.directory_answers.specs.Answers.{is_change_of}
 use Rattle.directory_answers.proofs.change.is_change.Goals as goal
 
 pub returns-in-Some : goal.returns-in-Some

@@ -4,8 +4,8 @@ use Rattle.std.specs.Option.{option_map_or}
 use Rattle.std.proofs.lemmas.Bool.Decides.{nat_tests}
 use Rattle.slp_messages.specs.Views.{message_in}
 use Rattle.slp_headers.specs.Headers.{Heading}
-use Rattle.slp_wire.proofs.Whole.{answer_is_found}
-use Rattle.directory_answers.specs.Answering.{is_change_of}
+use Rattle.slp_wire.proofs.Messages.{answer_is_found}
+use Rattle.directory_answers.specs.Answers.{is_change_of}
 use Rattle.directory_answers.proofs.Readings.{is_read}
 use Rattle.directory_answers.proofs.reading.asked_change.Goals as goal
 

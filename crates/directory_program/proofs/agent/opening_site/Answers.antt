@@ -1,7 +1,7 @@
 use Rattle.std.proofs.Common.{◌≡◌, ◌≢◌, List, ℕ, [], ◌∷◌, Ok, length, refl, rules, ap, ◌∙◌, arith, codes}
-use Rattle.slp_text.specs.Key.{key_of}
+use Rattle.slp_text.specs.Keys.{key_of}
 use Rattle.slp_text.specs.Reading.{IsFault}
-use Rattle.slp_text.specs.Scopes.{printed, scopes_of}
+use Rattle.slp_text.specs.Scopes.{printed_scopes, scopes_of}
 use Rattle.slp_text.specs.declared.faults.TextFault.{TextFault}
 use Rattle.slp_text.specs.declared.faults.TextFault.TheVariants.{BadEscape, Reserved, NotUtf8, NoMemory}
 use Rattle.slp_text.proofs.KeyRows.{default_length, default_scopes}
@@ -25,7 +25,7 @@ pub new-requires-clause-few_scopes : goal.new-requires-clause-few_scopes
 new-requires-clause-few_scopes c = omega (arith, ap length (read_one c.in-Ok.scopes c.in-Ok.ensures))
 
 pub new-requires-clause-short_scopes : goal.new-requires-clause-short_scopes
-new-requires-clause-short_scopes c = omega (arith, ap (λ ks. length (printed ks)) (read_one c.in-Ok.scopes c.in-Ok.ensures), default_length)
+new-requires-clause-short_scopes c = omega (arith, ap (λ ks. length (printed_scopes ks)) (read_one c.in-Ok.scopes c.in-Ok.ensures), default_length)
 
 pub unreachable-requires : goal.unreachable-requires
 unreachable-requires c = no_fault c.in-Err-BadEscape.field-0 (search rules) c.in-Err-BadEscape.ensures

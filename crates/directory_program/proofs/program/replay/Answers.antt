@@ -1,5 +1,5 @@
 use Rattle.std.proofs.Common.{refl}
-use Rattle.directory_program.specs.Reporting.{AtFault}
+use Rattle.directory_program.specs.Reports.{AtFault}
 use Rattle.directory_program.proofs.program.replay.Goals as goal
 
 pub returns-in-Err-Line : goal.returns-in-Err-Line

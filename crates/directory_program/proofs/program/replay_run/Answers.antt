@@ -2,8 +2,8 @@ use Rattle.std.proofs.Common.{arith, ◌≡◌, ℕ, Bool, false, List, Option, 
 use Rattle.std.specs.Prelude.{◌==◌}
 use Rattle.std.specs.Io.KnownBytes.{Keeps}
 use Rattle.std.proofs.lemmas.Bool.Decides.{nat_tests}
-use Rattle.directory_program.specs.Reporting.{Reports, Done, Unread, Unwritten, AtFault, Lacks}
-use Rattle.directory_program.proofs.Known.{Appends-keeps}
+use Rattle.directory_program.specs.Reports.{Reports, Done, Unread, Unwritten, AtFault, Lacks}
+use Rattle.directory_program.proofs.Transfers.{Appends-keeps}
 use Rattle.directory_program.proofs.program.replay_run.Goals as goal
 use Rattle.directory_program.proofs.program.replay_run.Goals.{then-is_empty, else-is_empty+in-Ok, else-is_empty+in-Err}
 

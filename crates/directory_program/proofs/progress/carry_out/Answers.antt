@@ -3,10 +3,10 @@ use Rattle.slp_stream.specs.Framing.{Frames}
 use Rattle.slp_script.specs.Commands.{Single}
 use Rattle.slp_script.specs.declared.command.Order.{Order}
 use Rattle.slp_script.specs.declared.command.Order.TheVariants.{At, From, Udp, Open}
-use Rattle.directory_program.specs.Holding.{Acts}
+use Rattle.directory_program.specs.Sessions.{Acts}
 use Rattle.directory_program.specs.declared.session.Session.{Session}
-use Rattle.directory_program.proofs.Known.{Appends-none}
-use Rattle.directory_program.proofs.Turning.{Acts-at, Acts-from, Acts-open}
+use Rattle.directory_program.proofs.Transfers.{Appends-none}
+use Rattle.directory_program.proofs.CommandsDone.{Acts-at, Acts-from, Acts-open}
 use Rattle.directory_program.proofs.progress.carry_out.Goals as goal
 
 Acts-order : (s : Session) (o p : Order) (now : List ℕ) (t : Session) → o ≡ p → Acts s (Single p) now t → Acts s (Single o) now t

@@ -1,22 +1,23 @@
 use Rattle.std.proofs.Common.{◌≡◌, ◌∷◌, ◌++◌, [], codes, refl}
 use Rattle.std.specs.Fmt.{digits}
 use Rattle.site_config.specs.declared.fault.ConfigFault.TheVariants.{Toml, Missing, Range, NoMemory}
-use Rattle.directory_program.specs.Holding.{fault_told}
+use Rattle.directory_program.specs.Sessions.{config_fault_text}
 use Rattle.directory_program.proofs.progress.print_fault.Goals as goal
+use Rattle.slp_text.specs.Ascii.{line_feed}
 
-told-toml : fault_told Toml ≡ codes "! config 1" ++ 10 ∷ []
+told-toml : config_fault_text Toml ≡ codes "! config 1" ++ line_feed ∷ []
 unfolding digits
 told-toml = refl
 
-told-missing : fault_told Missing ≡ codes "! config 2" ++ 10 ∷ []
+told-missing : config_fault_text Missing ≡ codes "! config 2" ++ line_feed ∷ []
 unfolding digits
 told-missing = refl
 
-told-range : fault_told Range ≡ codes "! config 3" ++ 10 ∷ []
+told-range : config_fault_text Range ≡ codes "! config 3" ++ line_feed ∷ []
 unfolding digits
 told-range = refl
 
-told-memory : fault_told NoMemory ≡ codes "! config 4" ++ 10 ∷ []
+told-memory : config_fault_text NoMemory ≡ codes "! config 4" ++ line_feed ∷ []
 unfolding digits
 told-memory = refl
 

@@ -1,4 +1,4 @@
-use Rattle.directory_program.proofs.Turning.{Acts-udp, MatchResult-more}
+use Rattle.directory_program.proofs.CommandsDone.{Acts-udp, MatchResult-more}
 use Rattle.directory_program.proofs.progress.take_datagram.Goals as goal
 
 pub returns : goal.returns

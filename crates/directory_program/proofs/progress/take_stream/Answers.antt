@@ -1,4 +1,4 @@
-use Rattle.directory_program.proofs.Turning.{Acts-tcp, MatchResult-more}
+use Rattle.directory_program.proofs.CommandsDone.{Acts-tcp, MatchResult-more}
 use Rattle.directory_program.proofs.progress.take_stream.Goals as goal
 
 pub returns : goal.returns

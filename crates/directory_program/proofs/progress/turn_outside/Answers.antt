@@ -1,6 +1,6 @@
 use Rattle.std.proofs.Common.{[], Some, refl, ap, inl, inr}
 use Rattle.slp_script.specs.Readings.{IsReading}
-use Rattle.directory_program.proofs.Known.{Keeps-same, Appends-none}
+use Rattle.directory_program.proofs.Transfers.{Keeps-same, Appends-none}
 use Rattle.directory_program.proofs.progress.turn_outside.Goals as goal
 
 pub returns-in_ok-carry_out-in-Order : goal.returns-in_ok-carry_out-in-Order

@@ -1,7 +1,7 @@
 use Rattle.std.proofs.Common.{◌≡◌, drop, map}
 use Rattle.toml.specs.Data.{as_str}
 use Rattle.toml.specs.View.{view}
-use Rattle.site_config.specs.Configuring.{each_in}
+use Rattle.site_config.specs.Configurations.{each_in}
 use Rattle.site_config.proofs.Arrays.{with_front}
 use Rattle.site_config.proofs.values.paths.Given as goal
 

@@ -1,7 +1,7 @@
 use Rattle.std.proofs.Common.{◌≡◌, ◌≤◌, ◌+◌, ◌++◌, codes, length, ap, subst, ◌∙◌}
 use Rattle.std.specs.Prelude.{OnOk, OnErr}
 use Rattle.std.specs.Fmt.{decimal}
-use Rattle.slp_answer.proofs.Lines.{allows, denies, three_parts}
+use Rattle.slp_answer.proofs.AuditLines.{allows, denies, three_parts}
 use Rattle.slp_answer.proofs.audit.put_beginning.Goals as goal
 
 pub returns-then-code-eq0-clause-ok : goal.returns-then-code-eq0-clause-ok

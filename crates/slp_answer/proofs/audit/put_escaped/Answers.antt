@@ -1,10 +1,10 @@
 use Rattle.std.proofs.Common.{◌++◌, length, refl, sym, ap, ◌∙◌, arith, chars, encode_utf8_all, append_assoc, append-nil}
 use Rattle.std.proofs.lemmas.List.{length-append}
 use Rattle.std.proofs.lemmas.Str.{encodes-chars, encodes-append}
-use Rattle.slp_text.specs.Escapes.{escaped, written_at}
+use Rattle.slp_text.specs.Escapes.{escaped_text, written_character}
 use Rattle.slp_text.specs.declared.escapes.Place.TheVariants.{Scope}
 use Rattle.slp_text.proofs.Characters.{no_more, one_more}
-use Rattle.directory_state.proofs.Seen.{on_err}
+use Rattle.directory_state.proofs.SeenUrls.{on_err}
 use Rattle.slp_answer.proofs.audit.put_escaped.Goals as goal
 
 pub loop-c-init : goal.loop-c-init
@@ -15,8 +15,8 @@ loop-c-preserved g c =
     let now = c.loop-c.invariant in
     let cut = one_more now.0 _ _ c.in-Some.c now.1 c.in-Some.ensures.steps.0 in
     let before = g.S.Sink.written c.loop-c.sink in
-    let written = written_at Scope c.in-Some.c in
-    let rest = escaped Scope cut.0 in
+    let written = written_character Scope c.in-Some.c in
+    let rest = escaped_text Scope cut.0 in
     let room = rw cut.1 at now.3 in
     let both = ap length (encodes-append written rest) ∙ length-append (encode_utf8_all written) (encode_utf8_all rest) in (
       cut.0,
@@ -30,8 +30,8 @@ pub returns-in_err-put_written-clause-err : goal.returns-in_err-put_written-clau
 returns-in_err-put_written-clause-err g c =
     let now = c.loop-c.invariant in
     let cut = one_more now.0 _ _ c.in-Some.c now.1 c.in-Some.ensures.steps.0 in
-    let written = written_at Scope c.in-Some.c in
-    let rest = escaped Scope cut.0 in
+    let written = written_character Scope c.in-Some.c in
+    let rest = escaped_text Scope cut.0 in
     let room = rw cut.1 at now.3 in
     let both = ap length (encodes-append written rest) ∙ length-append (encode_utf8_all written) (encode_utf8_all rest) in
     on_err c.from_residual.result _ (omega (arith, room, both, c.in_err-put_written.ensures.err))

@@ -1,9 +1,9 @@
 use Rattle.std.proofs.Common.{◌≡◌, ◌≤◌, ◌++◌, length, ap, subst, ◌∙◌, arith}
 use Rattle.std.specs.Prelude.{OnOk}
 use Rattle.std.proofs.lemmas.Result.{on_err_weaker, on_ok_weaker}
-use Rattle.directory_state.proofs.Seen.{on_err}
-use Rattle.slp_answer.specs.Auditing.{audit_of, beginning_text, decider_text, head_text}
-use Rattle.slp_answer.proofs.Lines.{head_is_written, head_length}
+use Rattle.directory_state.proofs.SeenUrls.{on_err}
+use Rattle.slp_answer.specs.Audits.{audit_of, beginning_text, decider_text, head_text}
+use Rattle.slp_answer.proofs.AuditLines.{head_is_written, head_length}
 use Rattle.slp_answer.proofs.audit.put_head.Goals as goal
 
 pub returns-in_err-put_beginning-clause-err : goal.returns-in_err-put_beginning-clause-err

@@ -1,5 +1,5 @@
 use Rattle.std.proofs.Common.{◌++◌, ap, ◌∙◌}
-use Rattle.slp_answer.specs.Auditing.{audit_of, audit_text, line_text}
+use Rattle.slp_answer.specs.Audits.{audit_of, audit_text, line_text}
 use Rattle.slp_answer.proofs.audit.put_line.Goals as goal
 
 pub returns-in-Ok-clause-ok : goal.returns-in-Ok-clause-ok

@@ -2,9 +2,9 @@ use Rattle.std.proofs.Common.{◌≡◌, ◌≤◌, ◌++◌, codes, length, ap,
 use Rattle.std.specs.Prelude.{OnOk}
 use Rattle.std.proofs.lemmas.Result.{on_err_weaker}
 use Rattle.access_rules.specs.Addresses.{address_text}
-use Rattle.directory_state.proofs.Seen.{on_err}
-use Rattle.slp_answer.specs.Auditing.{audit_of, ending_text, tail_text}
-use Rattle.slp_answer.proofs.Lines.{tail_is_written, tail_length}
+use Rattle.directory_state.proofs.SeenUrls.{on_err}
+use Rattle.slp_answer.specs.Audits.{audit_of, ending_text, tail_text}
+use Rattle.slp_answer.proofs.AuditLines.{tail_is_written, tail_length}
 use Rattle.slp_answer.proofs.audit.put_tail.Goals as goal
 
 pub returns-in_err-put_address-clause-err : goal.returns-in_err-put_address-clause-err

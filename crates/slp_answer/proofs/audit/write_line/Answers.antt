@@ -1,9 +1,9 @@
 use Rattle.std.proofs.Common.{◌≡◌, ◌≤◌, ◌++◌, length, ap, subst, ◌∙◌, arith}
 use Rattle.std.specs.Prelude.{OnOk}
 use Rattle.std.proofs.lemmas.Result.{on_err_weaker}
-use Rattle.directory_state.proofs.Seen.{on_err}
-use Rattle.slp_answer.specs.Auditing.{audit_of, line_text, tail_text}
-use Rattle.slp_answer.proofs.Lines.{line_is_written, line_length}
+use Rattle.directory_state.proofs.SeenUrls.{on_err}
+use Rattle.slp_answer.specs.Audits.{audit_of, line_text, tail_text}
+use Rattle.slp_answer.proofs.AuditLines.{line_is_written, line_length}
 use Rattle.slp_answer.proofs.audit.write_line.Goals as goal
 
 pub returns-in_err-put_head-clause-err : goal.returns-in_err-put_head-clause-err

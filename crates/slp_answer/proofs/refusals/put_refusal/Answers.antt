@@ -1,5 +1,5 @@
 use Rattle.std.proofs.Common.{[], ◌++◌, take, ap, ◌∙◌, arith}
-use Rattle.slp_answer.specs.Auditing.{audit_text, line_text}
+use Rattle.slp_answer.specs.Audits.{audit_text, line_text}
 use Rattle.slp_answer.proofs.RefusalLines.{lacking, line_is_short}
 use Rattle.slp_answer.proofs.refusals.put_refusal.Goals as goal
 

@@ -1,26 +1,26 @@
 use Rattle.std.proofs.Common.{sym, ap, ◌∙◌, arith}
 use Rattle.std.specs.List.{list_any}
 use Rattle.std.proofs.lemmas.Result.{IfOk-weaker}
-use Rattle.slp_headers.specs.Headers.{heading}
-use Rattle.directory_judge.specs.Judging.{supports}
-use Rattle.directory_judge.specs.Sites.{Place}
+use Rattle.slp_headers.specs.Headers.{heading_in}
+use Rattle.directory_judge.specs.Judgements.{supports}
+use Rattle.directory_judge.specs.Sites.{Site}
 use Rattle.directory_answers.specs.Calls.{call_in}
-use Rattle.directory_state.specs.Fitting.{items_in}
+use Rattle.directory_state.specs.Fronts.{items_in}
 use Rattle.slp_answer.proofs.Sizes.{room-short}
-use Rattle.slp_answer.proofs.Tellings.{listed-answer, found-supported}
+use Rattle.slp_answer.proofs.AnswersTold.{listed-answer, found-supported}
 use Rattle.slp_answer.proofs.replies.answer_query.Goals as goal
 
 pub send_found-requires-clause-short : goal.send_found-requires-clause-short
 send_found-requires-clause-short g c =
-    let fits = room-short (heading c.args.headed.now.header.now) c.room_in-room.result (items_in c.in-Ok.found) c.in-Ok.found.is_cut c.args.headed.now.call.now.limit c.room_in-room.ensures.bytes c.room_in-room.ensures.each c.in-Ok.ensures.fits in
+    let fits = room-short (heading_in c.args.headed.now.header.now) c.room_in-room.result (items_in c.in-Ok.found) c.in-Ok.found.is_cut c.args.headed.now.call.now.limit c.room_in-room.ensures.bytes c.room_in-room.ensures.each c.in-Ok.ensures.fits in
     omega (arith, fits, c.requires.stream)
 
 pub returns-in-Ok : goal.returns-in-Ok
 returns-in-Ok g c = λ o h fold legal.
     let found = c.in-Ok.found in
     let all = c.in-Ok.ensures.items o h fold legal in
-    let supported = ap (λ (p : Place). list_any (supports p) c.args.query.now.scopes) (sym fold.placed) ∙ found-supported found _ _ c.in-Ok.ensures.scope in
+    let supported = ap (λ (p : Site). list_any (supports p) c.args.query.now.scopes) (sym fold.placed) ∙ found-supported found _ _ c.in-Ok.ensures.scope in
     IfOk-weaker c.send_found.result _ _
-    (λ what tells. listed-answer o h (call_in c.args.headed.now.call.now) (heading c.args.headed.now.header.now) c.args.directory.now.rules c.args.query.now all.0 (items_in found) found.is_cut c.room_in-room.result
+    (λ what tells. listed-answer o h (call_in c.args.headed.now.call.now) (heading_in c.args.headed.now.header.now) c.args.directory.now.rules c.args.query.now all.0 (items_in found) found.is_cut c.room_in-room.result
     what c.send_found.new.answer.bytes.items c.send_found.new.answer.audit.items c.room_in-room.ensures.bytes c.room_in-room.ensures.each supported all.1 all.2 tells)
     (rw c.rules-rules.ensures at c.send_found.ensures)

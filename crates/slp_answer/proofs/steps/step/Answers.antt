@@ -1,5 +1,5 @@
 use Rattle.directory_answers.specs.Calls.{call_in}
-use Rattle.slp_answer.proofs.Tellings.{changed-steps}
+use Rattle.slp_answer.proofs.AnswersTold.{changed-steps}
 use Rattle.slp_answer.proofs.steps.step.Goals as goal
 
 pub returns-in-Some-clause-told : goal.returns-in-Some-clause-told

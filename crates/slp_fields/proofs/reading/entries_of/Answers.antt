@@ -1,6 +1,6 @@
 use Rattle.std.proofs.lemmas.Result.{err_from_is_err_and}
 use Rattle.slp_fields.specs.Reading.{entries_at}
-use Rattle.slp_fields.proofs.Loop.{goes_on, ends, is_done}
+use Rattle.slp_fields.proofs.EntryLoops.{goes_on, ends, is_done}
 use Rattle.slp_fields.proofs.reading.entries_of.Goals as goal
 
 pub returns-in_err-entry : goal.returns-in_err-entry

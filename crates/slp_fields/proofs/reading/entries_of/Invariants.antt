@@ -1,6 +1,6 @@
 use Rattle.std.proofs.Common.{◌≡◌, ◌-◌}
 use Rattle.slp_fields.specs.Reading.{entries_at}
-use Rattle.slp_fields.proofs.Loop.{with_front}
+use Rattle.slp_fields.proofs.EntryLoops.{with_front}
 use Rattle.slp_fields.proofs.reading.entries_of.Given as goal
 
 abbrev pub invariant-loop : goal.invariant-loop

@@ -1,4 +1,4 @@
-use Rattle.slp_script.proofs.Unique.{Reads-not_stopped}
+use Rattle.slp_script.proofs.OneReading.{Reads-not_stopped}
 use Rattle.slp_script.proofs.laws.no_fault.Goals as goal
 
 pub returns : goal.returns

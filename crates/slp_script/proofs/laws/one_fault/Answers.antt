@@ -1,4 +1,4 @@
-use Rattle.slp_script.proofs.Unique.{StopsAt-unique}
+use Rattle.slp_script.proofs.OneReading.{StopsAt-unique}
 use Rattle.slp_script.proofs.laws.one_fault.Goals as goal
 
 pub returns : goal.returns

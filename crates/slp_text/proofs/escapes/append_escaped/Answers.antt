@@ -1,7 +1,7 @@
 use Rattle.std.proofs.Common.{[], ◌++◌, refl, sym, ap, ◌∙◌, chars, encode_utf8_all, append_assoc, append-nil}
 use Rattle.std.specs.Prelude.{string_bytes}
 use Rattle.std.proofs.lemmas.Str.{encodes-chars, encodes-append}
-use Rattle.slp_text.specs.Escapes.{escaped, written_at}
+use Rattle.slp_text.specs.Escapes.{escaped_text, written_character}
 use Rattle.slp_text.proofs.Characters.{no_more, one_more}
 use Rattle.slp_text.proofs.escapes.append_escaped.Goals as goal
 
@@ -16,8 +16,8 @@ loop-c-preserved c =
     let now = c.loop-c.invariant in
     let cut = one_more now.text.0 _ _ c.in-Some.c now.text.1 c.in-Some.ensures.steps.0 in
     let text = rw cut.1 at now.text.2 in
-    let written = written_at c.args.place c.in-Some.c in
-    let rest = escaped c.args.place cut.0 in
+    let written = written_character c.args.place c.in-Some.c in
+    let rest = escaped_text c.args.place cut.0 in
     let more = c.push_written.ensures.err in
     record {
       start = (now.start.0 ++ more.0, more.1 ∙ ap (λ t. t ++ more.0) now.start.1 ∙ append_assoc _ now.start.0 more.0);

@@ -1,9 +1,9 @@
 use Rattle.std.proofs.Common.{◌≡◌, ◌<◌, ◌+◌, ℕ, Bool, true, false, List, [], ◌∷◌, ◌++◌, Ok, refl, sym, ap, ◌∙◌, length, drop, get_or, arith, append_assoc, add-one, drop-cons}
 use Rattle.std.proofs.lemmas.Result.{err_from_is_err_and}
-use Rattle.slp_text.specs.Escapes.{unescaped_any}
+use Rattle.slp_text.specs.Escapes.{unescaped_bytes}
 use Rattle.slp_text.specs.declared.escapes.Stage.TheVariants.{Plain}
-use Rattle.slp_text.proofs.Following.{Follows-step, Follows-fault, fault_is}
-use Rattle.slp_text.proofs.Unescaping.{unescapes, unescape_event, unescape_reader, event_of}
+use Rattle.slp_text.proofs.Readers.{event_of, Follows-step, Follows-fault, fault_is}
+use Rattle.slp_text.proofs.EscapeReaders.{unescapes, unescape_event, unescape_reader}
 use Rattle.slp_text.proofs.escapes.unescaped_bytes.Goals as goal
 use Rattle.slp_text.proofs.escapes.unescaped_bytes.Goals.{in-Within, in-Read+in_ok-push-in-Read}
 
@@ -23,8 +23,8 @@ returns-in_err-next-clause-value c =
     let i = c.loop-b.b-index in
     let text = rw (cut_at bytes i (omega arith)) at c.loop-b.invariant.text in
     let k = c.in_err-next.ensures.value in
-    let is = Follows-fault (unescapes any raw) (unescape_event any raw) (λ xs. c.loop-b.read.items ++ xs) c.loop-b.stage (get_or bytes i 0) (drop (i + 1) bytes) (unescaped_any c.args.text.now) c.in_err-next.field-0.0
-    (unescape_reader any raw) (ap (event_of any raw) (sym c.in_err-next.ensures.value)) text in
+    let is = Follows-fault (unescapes any raw) (unescape_event any raw) (λ xs. c.loop-b.read.items ++ xs) c.loop-b.stage (get_or bytes i 0) (drop (i + 1) bytes) (unescaped_bytes c.args.text.now) c.in_err-next.field-0.0
+    (unescape_reader any raw) (ap event_of (sym c.in_err-next.ensures.value)) text in
     let p = err_from_is_err_and c.from_residual.result c.from_residual.ensures.1 in
     rw (p.1, p.2) (fault_is c.in_err-next.field-0.0 _ is)
 
@@ -34,20 +34,20 @@ loop-b-preserved c =
     let i = c.loop-b.b-index in
     let b = get_or bytes i 0 in
     let items = c.loop-b.read.items in
-    let whole = unescaped_any c.args.text.now in
+    let whole = unescaped_bytes c.args.text.now in
     let text = rw (cut_at bytes i (omega arith)) at c.loop-b.invariant.text in
     elim c.match-branch-2.branch [
       | in-Within w ↦ record {
         stage = rw w.stage-is (rw w.in-Within.is at c.in_ok-next.ensures.stage);
         text = rw (w.stage-is, w.read-is)
             (Follows-step (unescapes any raw) (unescape_event any raw) (λ xs. items ++ xs) (λ xs. items ++ xs) (λ xs. xs) c.loop-b.stage w.in-Within.next b (drop (i + 1) bytes) whole
-            (unescape_reader any raw) (ap (event_of any raw) (sym c.in_ok-next.ensures.value ∙ ap Ok w.in-Within.is)) (λ xs. refl) text);
+            (unescape_reader any raw) (ap event_of (sym c.in_ok-next.ensures.value ∙ ap Ok w.in-Within.is)) (λ xs. refl) text);
       }
       | in-Read+in_ok-push-in-Read w ↦ record {
         stage = rw w.stage-is tt;
         text = rw (w.stage-is, w.read-is)
             (Follows-step (unescapes any raw) (unescape_event any raw) (λ xs. items ++ xs) (λ xs. w.push.new.self.items ++ xs) (λ xs. w.in-Read.d ∷ xs) c.loop-b.stage Plain b (drop (i + 1) bytes) whole
-            (unescape_reader any raw) (ap (event_of any raw) (sym c.in_ok-next.ensures.value ∙ ap Ok w.in-Read.is))
+            (unescape_reader any raw) (ap event_of (sym c.in_ok-next.ensures.value ∙ ap Ok w.in-Read.is))
             (λ xs. ap (λ t. t ++ xs) w.in_ok-push-in-Read.ensures.items ∙ append_assoc items (w.in-Read.d ∷ []) xs) text);
       }
     ]

@@ -2,8 +2,8 @@ use Rattle.std.proofs.Common.{◌≡◌, ℕ, List, ◌++◌, true, false, sym, 
 use Rattle.std.specs.Prelude.{string_bytes}
 use Rattle.unicode_normalization.proofs.IterLemmas.{Spells-chars}
 use Rattle.caseless.specs.Caseless.{default_case_fold}
-use Rattle.slp_text.specs.Key.{is_white, key_of}
-use Rattle.slp_text.proofs.Squeezing.{Reaches, Reaches-white, Reaches-gap, Reaches-char, Reaches-done}
+use Rattle.slp_text.specs.Keys.{is_white, key_of}
+use Rattle.slp_text.proofs.SqueezedTexts.{Reaches, Reaches-white, Reaches-gap, Reaches-char, Reaches-done}
 use Rattle.slp_text.proofs.folding.folded_key.Goals as goal
 use Rattle.slp_text.proofs.folding.folded_key.Goals.{then-gap+in_ok-push, else-gap}
 

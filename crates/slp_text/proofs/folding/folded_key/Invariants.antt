@@ -2,8 +2,8 @@ use Rattle.std.proofs.Common.{◌≡◌, ℕ, List, true}
 use Rattle.std.specs.Prelude.{string_bytes}
 use Rattle.std.specs.Str.Iter.{chars_steps}
 use Rattle.caseless.specs.CaseFold.{FoldsCaseTo}
-use Rattle.slp_text.specs.Key.{key_of}
-use Rattle.slp_text.proofs.Squeezing.{Reaches}
+use Rattle.slp_text.specs.Keys.{key_of}
+use Rattle.slp_text.proofs.SqueezedTexts.{Reaches}
 use Rattle.slp_text.proofs.folding.folded_key.Given as goal
 
 -- what is there and what is still to come are the key

@@ -1,4 +1,4 @@
-use Rattle.slp_text.proofs.Refolding.{key-again}
+use Rattle.slp_text.proofs.KeysOfKeys.{key-again}
 use Rattle.slp_text.proofs.laws.keys_are_their_own_keys.Goals as goal
 
 pub returns : goal.returns

@@ -1,6 +1,6 @@
 use Rattle.std.proofs.Common.{false, refl}
 use Rattle.slp_text.specs.Escapes.{is_refused}
-use Rattle.slp_text.proofs.Escaping.{read_again, refused_free}
+use Rattle.slp_text.proofs.EscapedTexts.{read_again, refused_free}
 use Rattle.slp_text.proofs.laws.what_is_escaped_is_read_again.Goals as goal
 
 pub returns-clause-there : goal.returns-clause-there

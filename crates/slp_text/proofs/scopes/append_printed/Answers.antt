@@ -1,6 +1,6 @@
 use Rattle.std.proofs.Common.{◌+◌, ◌∷◌, ◌++◌, drop, sym, ap, ◌∙◌, append_assoc}
 use Rattle.std.specs.Prelude.{string_bytes}
-use Rattle.slp_text.proofs.Printing.{printed_from, with_commas, printed_from-more, key_at}
+use Rattle.slp_text.proofs.PrintedParts.{printed_from, with_commas, printed_from-more, key_at}
 use Rattle.slp_text.proofs.scopes.append_printed.Goals as goal
 
 pub loop-k-preserved : goal.loop-k-preserved

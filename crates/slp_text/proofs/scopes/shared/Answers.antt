@@ -1,7 +1,7 @@
 use Rattle.std.proofs.Common.{◌≡◌, ◌++◌, ◌+◌, true, false, List, ℕ, [], ◌∷◌, cond, take, sym, ap, ◌∙◌, append-nil}
 use Rattle.std.specs.List.{list_any}
 use Rattle.std.proofs.lemmas.List.Elements.{filter_more}
-use Rattle.slp_text.specs.Scopes.{common_of}
+use Rattle.slp_text.specs.Scopes.{common_scopes}
 use Rattle.slp_text.specs.Words.{bytes_eq}
 use Rattle.slp_text.proofs.scopes.shared.Goals as goal
 use Rattle.slp_text.proofs.scopes.shared.Goals.{then-has+in_ok-copy+in_ok-push, else-has}
@@ -13,8 +13,8 @@ loop-k-preserved c =
     let k = c.k-item.result in
     let P = λ (j : List ℕ). list_any (λ (o : List ℕ). bytes_eq o j) other in
     let one = λ (j : List ℕ). cond (P j) (j ∷ []) [] in
-    let more : common_of (take (c.loop-k.k-index + 1) keys) other ≡ common_of (take c.loop-k.k-index keys) other ++ one k =
-    filter_more P keys c.loop-k.k-index k c.loop-k-test.true ∙ ap (λ j. common_of (take c.loop-k.k-index keys) other ++ one j) (sym c.k-item.is) in
+    let more : common_scopes (take (c.loop-k.k-index + 1) keys) other ≡ common_scopes (take c.loop-k.k-index keys) other ++ one k =
+    filter_more P keys c.loop-k.k-index k c.loop-k-test.true ∙ ap (λ j. common_scopes (take c.loop-k.k-index keys) other ++ one j) (sym c.k-item.is) in
     elim c.if-has.branch [
       | then-has+in_ok-copy+in_ok-push w ↦
           let t : P k ≡ true = sym c.has.ensures ∙ w.if-has.true in

@@ -1,5 +1,5 @@
 use Rattle.std.proofs.Common.{sym, arith}
-use Rattle.slp_text.proofs.Matching.{run_past}
+use Rattle.slp_text.proofs.Matches.{run_past}
 use Rattle.slp_text.proofs.tags.first_run.Goals as goal
 
 pub returns-else-tag-part-clause-value : goal.returns-else-tag-part-clause-value

@@ -1,6 +1,6 @@
 use Rattle.std.proofs.Common.{◌≡◌, ◌<◌, ◌+◌, sym, ◌∙◌, length, arith, rules}
 use Rattle.std.proofs.lemmas.Grind.{common_steps}
-use Rattle.slp_text.proofs.Matching.{cut_at_star, at_end, at_none, cut_at_failure, cut_shorter}
+use Rattle.slp_text.proofs.Matches.{cut_at_star, at_end, at_none, cut_at_failure, cut_shorter}
 use Rattle.slp_text.proofs.tags.matches_an_end.Goals as goal
 
 pub returns-in-Ends : goal.returns-in-Ends

@@ -1,5 +1,5 @@
 use Rattle.std.proofs.Common.{sym, ◌∙◌}
-use Rattle.slp_text.proofs.Matching.{ends_is, fails_is, cut_star_is}
+use Rattle.slp_text.proofs.Matches.{ends_is, fails_is, cut_star_is}
 use Rattle.slp_text.proofs.tags.matches_tag.Goals as goal
 
 pub returns-in-Ends : goal.returns-in-Ends

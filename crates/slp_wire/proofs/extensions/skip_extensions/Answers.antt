@@ -3,7 +3,7 @@ use Rattle.std.specs.Prelude.{IfSome}
 use Rattle.std.specs.Option.{option_map}
 use Rattle.std.proofs.lemmas.Result.{err_from_is_err_and}
 use Rattle.slp_wire.specs.Extensions.{extensions_at, next_at}
-use Rattle.slp_wire.proofs.Skipping.{on_to_next, last_is_done, fails_next, none_is_left}
+use Rattle.slp_wire.proofs.SkippedExtensions.{on_to_next, last_is_done, fails_next, none_is_left}
 use Rattle.slp_wire.proofs.extensions.skip_extensions.Goals as goal
 
 pub returns-in_err-next_of : goal.returns-in_err-next_of

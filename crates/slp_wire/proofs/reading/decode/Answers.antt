@@ -1,6 +1,6 @@
 use Rattle.std.proofs.Common.{subst, arith}
 use Rattle.slp_fields.specs.Steps.{Gives}
-use Rattle.slp_wire.proofs.Whole.{answer_is_found, marked_is_read}
+use Rattle.slp_wire.proofs.Messages.{answer_is_found, marked_is_read}
 use Rattle.slp_wire.proofs.reading.decode.Goals as goal
 
 pub returns-clause-found : goal.returns-clause-found

@@ -5,12 +5,12 @@ use Rattle.std.specs.Arc.{arc_value}
 use Rattle.std.specs.Option.{option_map}
 use Rattle.registry_core.specs.Entries.{is_of_url}
 use Rattle.access_rules.specs.declared.rule.Action.TheVariants.{Withdraw}
-use Rattle.directory_judge.specs.Making.{Withdraws}
-use Rattle.directory_judge.specs.Judging.{Grounds, Accepts, entries_in, first_of, concerned, is_kept, release, withdrawing}
-use Rattle.directory_judge.specs.Walking.{entry_in, IsRuled}
-use Rattle.directory_judge.proofs.Concerned.{none-passes}
-use Rattle.directory_judge.proofs.Rulings.{not-kept, ruled-first}
-use Rattle.directory_judge.proofs.Steps.{judged-some}
+use Rattle.directory_judge.specs.Contents.{Withdraws}
+use Rattle.directory_judge.specs.Judgements.{Grounds, Accepts, entries_in, first_of, concerned_entries, is_kept, release, withdrawal_event}
+use Rattle.directory_judge.specs.Walks.{entry_in, IsRuling}
+use Rattle.directory_judge.proofs.ConcernedEntries.{none-passes}
+use Rattle.directory_judge.proofs.Rulings.{not-kept, ruling-first}
+use Rattle.directory_judge.proofs.Steps.{judgement-some}
 use Rattle.directory_judge.proofs.grounds.Grounds.judge_stored.Goals as goal
 
 pub returns : goal.returns
@@ -21,13 +21,13 @@ returns g c =
     let f = c.in-Some.first.entry.now in
     let same : c.deref.result.now ≡ arc_value c.args.withdrawn = c.deref.ensures in
     let some : list_any (is_of_url url) (entries_in on.live) ≡ true = sym (rw same at c.walk-walk.ensures.is_live) ∙ c.if-not-walk.false in
-    let first_is : first_of (concerned on url scopes) ≡ Some f = sym (rw same at c.walk-walk.ensures.first) ∙ ap (option_map entry_in) c.in-Some.is in
-    let kept_is : first_of (filter (is_kept on.rules on.asker) (concerned on url scopes)) ≡ None = sym (rw same at c.walk-walk.ensures.kept) ∙ ap (option_map entry_in) c.in_default-kept.is in
-    let ruled : IsRuled on c.in-Some.first = subst (λ o. IfSome o (IsRuled on)) c.in-Some.is c.walk-walk.ensures.ruled.first in
+    let first_is : first_of (concerned_entries on url scopes) ≡ Some f = sym (rw same at c.walk-walk.ensures.first) ∙ ap (option_map entry_in) c.in-Some.is in
+    let kept_is : first_of (filter (is_kept on.rules on.asker) (concerned_entries on url scopes)) ≡ None = sym (rw same at c.walk-walk.ensures.kept) ∙ ap (option_map entry_in) c.in_default-kept.is in
+    let ruled : IsRuling on c.in-Some.first = subst (λ o. IfSome o (IsRuling on)) c.in-Some.is c.walk-walk.ensures.ruled.first in
     let because : c.in_ok-because.because ≡ release on f =
-    c.in_ok-because.ensures ∙ c.reason-2.ensures ∙ ruled-first on.rules on.asker Withdraw f.kind f.scopes c.in-Some.first.ruling ruled
-    (not-kept on.rules on.asker f (none-passes (is_kept on.rules on.asker) (concerned on url scopes) f first_is kept_is)) in (
-      withdrawing on url scopes,
-      judged-some on url scopes (Some f) None some first_is kept_is ∙ ap (Accepts (withdrawing on url scopes)) (sym because),
+    c.in_ok-because.ensures ∙ c.reason-2.ensures ∙ ruling-first on.rules on.asker Withdraw f.kind f.scopes c.in-Some.first.ruling ruled
+    (not-kept on.rules on.asker f (none-passes (is_kept on.rules on.asker) (concerned_entries on url scopes) f first_is kept_is)) in (
+      withdrawal_event on url scopes,
+      judgement-some on url scopes (Some f) None some first_is kept_is ∙ ap (Accepts (withdrawal_event on url scopes)) (sym because),
       ap (λ (v : Grounds). Withdraws v.now (record { url = url; scopes = scopes })) c.self.view_is,
     )

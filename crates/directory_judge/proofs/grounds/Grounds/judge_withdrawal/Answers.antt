@@ -8,9 +8,9 @@ use Rattle.slp_messages.specs.Views.{header_in, withdrawal_in}
 use Rattle.service_url.specs.Urls.{url_of}
 use Rattle.slp_text.specs.Scopes.{scopes_of}
 use Rattle.slp_text.specs.Tags.{tags_of}
-use Rattle.directory_judge.specs.Judging.{Grounds, judged_stored, IsJudged}
-use Rattle.directory_judge.proofs.Steps.{no_tag, tags-read, judged-asked}
-use Rattle.directory_judge.specs.Withdrawing.{withdrawn_in}
+use Rattle.directory_judge.specs.Judgements.{Grounds, judgement_of_url, IsJudgement}
+use Rattle.directory_judge.proofs.Steps.{no_tag, tags-read, judgement-asked}
+use Rattle.directory_judge.specs.Withdrawals.{withdrawal_of_texts}
 use Rattle.directory_judge.specs.declared.change.Withdrawn.{Withdrawn}
 use Rattle.directory_judge.proofs.grounds.Grounds.judge_withdrawal.Goals as goal
 
@@ -25,8 +25,8 @@ returns g c =
     let some : asked.scopes ≢ [] = λ none. let k : true ≡ false = sym (c.is_empty.ensures.1 (ap (λ (x : Withdrawn). x.scopes) same ∙ none)) ∙ c.if-is_empty.false in cc in
     let url = result_ok (url_of w.entry.url) in
     let scopes = result_ok (scopes_of w.scopes) in
-    let is : withdrawn_in on.site url scopes ≡ Some asked =
-    ap (λ (v : Grounds). withdrawn_in v.site url scopes) (sym c.self.view_is) ∙ sym c.in_ok-withdrawn.ensures ∙ ap (option_map arc_value) c.in-Some.is in
-    IfOk-weaker c.judge_stored.result (λ j. IsJudged on.live j (judged_stored on asked.url asked.scopes)) _
-    (λ j. subst (IsJudged on.live j) (sym (judged-asked on (header_in c.args.header.now) w asked c.if-header.false (no_tag tags c.in_ok-tags.tags read (sym c.unwrap_or.ensures ∙ c.if-unwrap_or.false)) (tags-read tags c.in_ok-tags.tags read (c.is_none.ensures ∙ ap not c.if-is_none.false)) is some)))
+    let is : withdrawal_of_texts on.site url scopes ≡ Some asked =
+    ap (λ (v : Grounds). withdrawal_of_texts v.site url scopes) (sym c.self.view_is) ∙ sym c.in_ok-withdrawn.ensures ∙ ap (option_map arc_value) c.in-Some.is in
+    IfOk-weaker c.judge_stored.result (λ j. IsJudgement on.live j (judgement_of_url on asked.url asked.scopes)) _
+    (λ j. subst (IsJudgement on.live j) (sym (judgement-asked on (header_in c.args.header.now) w asked c.if-header.false (no_tag tags c.in_ok-tags.tags read (sym c.unwrap_or.ensures ∙ c.if-unwrap_or.false)) (tags-read tags c.in_ok-tags.tags read (c.is_none.ensures ∙ ap not c.if-is_none.false)) is some)))
     c.judge_stored.ensures

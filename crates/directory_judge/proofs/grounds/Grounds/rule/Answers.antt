@@ -3,7 +3,7 @@ use Rattle.std.specs.Prelude.{slice_get}
 use Rattle.std.specs.Option.{option_copied}
 use Rattle.std.proofs.lemmas.Option.{none-some, slice_get-get_or}
 use Rattle.access_rules.specs.Deciding.{deciding}
-use Rattle.directory_judge.specs.Judging.{Grounds}
+use Rattle.directory_judge.specs.Judgements.{Grounds}
 use Rattle.directory_judge.specs.declared.ruling.Ruling.{Ruling}
 use Rattle.directory_judge.proofs.Rulings.{IsAsked, IsAsked-more, not-false, not-true, ruled-here}
 use Rattle.directory_judge.proofs.grounds.Grounds.rule.Goals as goal

@@ -4,18 +4,18 @@ use Rattle.std.proofs.lemmas.Bool.Decides.{nat_tests}
 use Rattle.std.specs.Cmp.Lexicographic.{as_long}
 use Rattle.slp_text.specs.Words.{bytes_eq, texts_eq}
 use Rattle.registry_core.specs.Entries.{outlives}
-use Rattle.directory_judge.specs.Judging.{Grounds, ruling_in}
-use Rattle.directory_judge.specs.Walking.{IsVisit}
-use Rattle.directory_judge.specs.declared.withdrawing.Ruled.{Ruled}
+use Rattle.directory_judge.specs.Judgements.{Grounds, ruling_in}
+use Rattle.directory_judge.specs.Walks.{IsVisit}
+use Rattle.directory_judge.specs.declared.withdrawals.RuledEntry.{RuledEntry}
 use Rattle.access_rules.specs.declared.rule.Action.TheVariants.{Withdraw}
-use Rattle.directory_judge.proofs.Rulings.{IsVisit-with, no-scopes, not-false, ruled-none}
+use Rattle.directory_judge.proofs.Rulings.{IsVisit-with, no-scopes, not-false, ruling-none}
 use Rattle.directory_judge.proofs.grounds.Grounds.visit.Goals as goal
 
 pub returns-in-Some-clause-entry : goal.returns-in-Some-clause-entry
 returns-in-Some-clause-entry g c =
     let on = c.args.self.now in
     let e = c.args.entry.now in
-    let r : Ruled = record { entry = c.args.entry; ruling = c.in-Some.ruling } in
+    let r : RuledEntry = record { entry = c.args.entry; ruling = c.in-Some.ruling } in
     let moment : on.now ≡ c.self.inside.moment = sym (ap (λ (v : Grounds). v.now) c.self.view_is) in
     let lives : outlives on.now e ≡ true = grind (arith, nat_tests, moment, c.if-entry-from.false, c.from.ensures) in
     let same : texts_eq e.scopes c.args.scopes.now ≡ true = not-false (texts_eq e.scopes c.args.scopes.now) (sym c.ne.ensures ∙ c.if-ne.false) in
@@ -27,5 +27,5 @@ returns-in-None-clause-entry g c =
     let e = c.args.entry.now in
     let same : texts_eq e.scopes c.args.scopes.now ≡ true = not-false (texts_eq e.scopes c.args.scopes.now) (sym c.ne.ensures ∙ c.if-ne.false) in
     let long = as_long bytes_eq e.scopes c.args.scopes.now same in
-    let none = no-scopes e.scopes (ruled-none on.rules on.asker Withdraw e.kind e.scopes (sym c.rule.ensures ∙ ap (option_map ruling_in) c.in-None.is)).1 in
+    let none = no-scopes e.scopes (ruling-none on.rules on.asker Withdraw e.kind e.scopes (sym c.rule.ensures ∙ ap (option_map ruling_in) c.in-None.is)).1 in
     absurd (omega (arith, none, long, c.requires.some_scope))

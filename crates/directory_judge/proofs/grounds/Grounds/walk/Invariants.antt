@@ -1,5 +1,5 @@
 use Rattle.std.proofs.Common.{length}
-use Rattle.directory_judge.proofs.Walks.{IsAhead}
+use Rattle.directory_judge.proofs.LanguageWalks.{IsAhead}
 use Rattle.directory_judge.proofs.grounds.Grounds.walk.Given as goal
 
 abbrev pub invariant-loop-entry : goal.invariant-loop-entry

@@ -1,6 +1,6 @@
 use Rattle.std.proofs.Common.{refl}
-use Rattle.directory_program.proofs.Renewed.{IsAgent-swept}
+use Rattle.directory_program.proofs.Sweeps.{IsAgent-swept_world}
 use Rattle.directory_program.proofs.agent.Agent.tidy.Goals as goal
 
 pub returns : goal.returns
-returns c = λ w h. IsAgent-swept w c.args.self.now _ c.now-now.result h c.now-now.ensures c.apply.ensures.fold refl refl refl refl
+returns c = λ w h. IsAgent-swept_world w c.args.self.now _ c.now-now.result h c.now-now.ensures c.apply.ensures.fold refl refl refl refl

@@ -1,6 +1,6 @@
 use Rattle.std.proofs.Common.{max, map, sym, ap, subst, ◌∙◌, arith}
-use Rattle.directory_state.specs.Finding.{item_at, cut_in}
-use Rattle.directory_state.specs.Fitting.{IsFront, items_in, size_in}
+use Rattle.directory_state.specs.Searches.{item_at, cut_in}
+use Rattle.directory_state.specs.Fronts.{IsFront, items_in, size_in}
 use Rattle.directory_state.proofs.directory.Directory.find.Goals as goal
 
 pub returns-clause-items : goal.returns-clause-items

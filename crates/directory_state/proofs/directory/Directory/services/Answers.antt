@@ -1,8 +1,8 @@
 use Rattle.std.proofs.Common.{map, sym, ap, subst, ◌∙◌}
 use Rattle.std.proofs.lemmas.Result.{IfOk-weaker}
-use Rattle.directory_answers.specs.Asking.{AreServices}
-use Rattle.directory_state.specs.Finding.{item_at}
-use Rattle.directory_state.proofs.Cutting.{cut-none}
+use Rattle.directory_answers.specs.Items.{AreServices}
+use Rattle.directory_state.specs.Searches.{item_at}
+use Rattle.directory_state.proofs.Cuts.{cut-none}
 use Rattle.directory_state.proofs.directory.Directory.services.Goals as goal
 
 pub returns-clause-items : goal.returns-clause-items

@@ -1,35 +1,27 @@
-use Rattle.std.proofs.Common.{◌≡◌, List, ℕ, Result, Ok, refl, sym, ap, ◌∙◌, chars}
+use Rattle.std.proofs.Common.{◌≡◌, List, ℕ, Ok, refl, sym, ap, ◌∙◌, chars}
 use Rattle.std.specs.List.{slice_split}
 use Rattle.std.proofs.lemmas.Result.{err_from_is_err_and}
-use Rattle.slp_text.specs.Escapes.{unescaped_at}
-use Rattle.slp_text.specs.Named.{named_of, keys_of}
-use Rattle.slp_text.specs.Reading.{read_map, read_all, IsFault}
+use Rattle.slp_text.specs.Escapes.{unescaped_text_at}
+use Rattle.slp_text.specs.ScopeNames.{scope_names_of, keys_of}
+use Rattle.slp_text.specs.Reading.{read_map, read_all}
 use Rattle.slp_text.specs.Scopes.{scopes_of, is_comma}
 use Rattle.slp_text.specs.Sets.{set_of}
 use Rattle.slp_text.specs.declared.escapes.Place.TheVariants.{Scope}
-use Rattle.slp_text.specs.declared.faults.TextFault.{TextFault}
-use Rattle.slp_text.specs.declared.faults.TextFault.TheVariants.{BadEscape, Reserved, NotUtf8, NoMemory}
-use Rattle.slp_text.proofs.Following.{read_map-read_map}
-use Rattle.slp_text.proofs.Reprinting.{read_scopes}
+use Rattle.slp_text.proofs.Readers.{read_map-read_map, mapped_fault}
+use Rattle.slp_text.proofs.PrintedScopes.{read_scopes}
 use Rattle.slp_text.proofs.scopes.ScopeList.parse.Goals as goal
 
-named-scopes : (text : List ℕ) → scopes_of text ≡ read_map set_of (named_of text)
-unfolding scopes_of named_of
-named-scopes text = read_map-read_map set_of keys_of (λ parts. set_of (keys_of parts)) (read_all (unescaped_at Scope) (slice_split is_comma (chars text))) (λ parts. refl)
+named-scopes : (text : List ℕ) → scopes_of text ≡ read_map set_of (scope_names_of text)
+unfolding scopes_of scope_names_of
+named-scopes text = read_map-read_map set_of keys_of (λ parts. set_of (keys_of parts)) (read_all (unescaped_text_at Scope) (slice_split is_comma (chars text))) (λ parts. refl)
 
-settled-scopes : (text : List ℕ) (named keys : List (List ℕ)) → named_of text ≡ Ok named → keys ≡ set_of named → scopes_of text ≡ Ok keys
+settled-scopes : (text : List ℕ) (named keys : List (List ℕ)) → scope_names_of text ≡ Ok named → keys ≡ set_of named → scopes_of text ≡ Ok keys
 settled-scopes text named keys is set = named-scopes text ∙ ap (read_map set_of) is ∙ ap Ok (sym set)
-
-mapped_fault : {A B : Type 0} (f : A → B) (e : TextFault) (r : Result A TextFault) → IsFault e r → IsFault e (read_map f r)
-mapped_fault f BadEscape r is = ap (read_map f) is
-mapped_fault f Reserved r is = ap (read_map f) is
-mapped_fault f NotUtf8 r is = ap (read_map f) is
-mapped_fault f NoMemory r is = tt
 
 pub returns-in_err-named : goal.returns-in_err-named
 returns-in_err-named c =
     let p = err_from_is_err_and c.from_residual-in_err-named.result c.from_residual-in_err-named.ensures.1 in
-    rw (p.1, p.2, named-scopes c.args.text.now) (mapped_fault set_of c.in_err-named.field-0.0 (named_of c.args.text.now) c.in_err-named.ensures)
+    rw (p.1, p.2, named-scopes c.args.text.now) (mapped_fault set_of c.in_err-named.field-0.0 (scope_names_of c.args.text.now) c.in_err-named.ensures)
 
 pub invariant_of-result : goal.invariant_of-result
 invariant_of-result c = read_scopes c.args.text.now c.in_ok-keys.keys.items c.utf8.text c.in_ok-keys.ensures.value

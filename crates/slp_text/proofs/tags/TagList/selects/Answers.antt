@@ -2,7 +2,7 @@ use Rattle.std.proofs.Common.{◌<◌, length, sym, ap, ap₂, ◌∙◌, arith}
 use Rattle.std.proofs.lemmas.Grind.{common_steps}
 use Rattle.std.specs.List.{list_any}
 use Rattle.slp_text.specs.Tags.{selects, is_match}
-use Rattle.slp_text.proofs.Matching.{selects-any}
+use Rattle.slp_text.proofs.Matches.{selects-any}
 use Rattle.slp_text.proofs.tags.TagList.selects.Goals as goal
 
 pub returns-else-is_empty : goal.returns-else-is_empty

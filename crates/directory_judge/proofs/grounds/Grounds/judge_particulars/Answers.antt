@@ -1,0 +1,82 @@
+use Rattle.std.proofs.Common.{◌≡◌, ℕ, ◌<◌, List, [], ◌∷◌, None, Some, length, refl, sym, ap, subst, ◌∙◌, arith}
+use Rattle.std.specs.Prelude.{slice_get, unwrap_or}
+use Rattle.std.specs.Arc.{arc_value}
+use Rattle.std.specs.Option.{option_map}
+use Rattle.std.proofs.lemmas.Result.{IfOk-weaker}
+use Rattle.slp_messages.specs.Views.{header_in, registration_in}
+use Rattle.access_rules.specs.declared.rule.Action.TheVariants.{Register}
+use Rattle.registry_core.specs.declared.entry.Entry.{Entry}
+use Rattle.access_rules.specs.Deciding.{SiteRules}
+use Rattle.directory_judge.specs.Judgements.{because_in, because_of, by_rule, by_step, code_by, decider_of, denial_of, denial, because_of_entry, judgement_in, judgement_of_particulars, ruling_in, IsJudgement}
+use Rattle.directory_judge.specs.declared.reason.Because.{Because}
+use Rattle.directory_judge.specs.declared.reason.Decider.{Decider}
+use Rattle.directory_judge.specs.declared.judgement.Judged.TheVariants as judged
+use Rattle.directory_judge.specs.declared.ruling.Ruling.{Ruling}
+use Rattle.directory_judge.specs.declared.reason.Decider.TheVariants as decider
+use Rattle.directory_judge.proofs.Rulings.{no-scopes, ruling-allowed, ruling-denied, ruling-first, ruling-none, ruling_on-some}
+use Rattle.directory_judge.proofs.Steps.{judgement-denied, judgement-unsupported, IsJudgement-entry, IsJudgementBy}
+use Rattle.directory_judge.proofs.grounds.Grounds.judge_particulars.Goals as goal
+
+pub returns-in-None : goal.returns-in-None
+returns-in-None g c =
+    let on = c.args.self.now in
+    let h = header_in c.args.header.now in
+    let r = registration_in c.args.registration.now in
+    let t = c.args.particulars in
+    let e = c.deref-read.result.now in
+    let is = c.deref-read.ensures ∙ c.in_ok-entry.ensures in
+    let because = by_step decider.Scope (Some e.kind) in
+    let none : length e.scopes ≡ 0 = no-scopes e.scopes (ruling-none on.rules on.asker Register e.kind e.scopes (sym c.rule.ensures ∙ ap (option_map ruling_in) c.in-None.is)).1 in
+    let unsupported : judgement_of_particulars on h r t ≡ denial because =
+    judgement-unsupported on h r t (sym (ap (λ (x : Entry). length x.scopes) is) ∙ none) ∙ ap (λ (x : Entry). denial (by_step decider.Scope (Some x.kind))) (sym is) in
+    IfOk-weaker c.denial.result (λ j. judgement_in j ≡ judged.Deny (code_by c.of_step.result.decider) (because_of c.of_step.result)) _
+    (λ j made. subst (λ x. IsJudgement on.live x (judgement_of_particulars on h r t)) (sym (made ∙ ap (λ (b : Because). judged.Deny (code_by b.decider) b) c.of_step.ensures)) unsupported)
+    c.denial.ensures
+
+first_scope : (scopes : List (List ℕ)) → 0 < length scopes → slice_get scopes 0 ≡ Some (unwrap_or (slice_get scopes 0) [])
+first_scope [] h = absurd (omega (arith, h))
+first_scope (s ∷ ss) h = refl
+
+-- who allowed the first scope decided
+founding-first : (rules : SiteRules) (asker : ℕ) (e : Entry) (d : Decider) (r : Ruling) → 0 < length e.scopes → d ≡ decider_of r.verdict → because_in r ≡ by_rule rules asker Register e.kind (unwrap_or (slice_get e.scopes 0) [])
+    → because_of_entry d e ≡ by_rule rules asker Register e.kind (unwrap_or (slice_get e.scopes 0) [])
+founding-first rules asker e d r some by first =
+    let decides = by ∙ ap (λ (b : Because). b.decider) first in
+    λ i. record { decider = decides i; kind = Some e.kind; scope = first_scope e.scopes some i }
+
+pub returns-in-Some : goal.returns-in-Some
+returns-in-Some g c =
+    let on = c.args.self.now in
+    let h = header_in c.args.header.now in
+    let r = registration_in c.args.registration.now in
+    let t = c.args.particulars in
+    let e = arc_value c.in_ok-entry.entry in
+    let b = because_of_entry c.decider-decider.result e in
+    let is = c.in_ok-entry.ensures in
+    let ruled = rw c.deref-read.ensures at c.in-Some.ensures in
+    let there : 0 < length e.scopes = ruling_on-some on.rules on.asker Register e.kind e.scopes (ruling_in c.in-Some.ruling) (sym ruled) in
+    let some : 0 < length t.scopes = subst (λ (x : Entry). 0 < length x.scopes) is there in
+    let allowed : denial_of on.rules on.asker Register e.kind e.scopes ≡ None = ruling-allowed on.rules on.asker Register e.kind e.scopes c.in-Some.ruling (sym ruled) c.if-ruling.true in
+    let first : b ≡ by_rule on.rules on.asker Register e.kind (unwrap_or (slice_get e.scopes 0) []) =
+    founding-first on.rules on.asker e c.decider-decider.result c.in-Some.ruling there c.decider-decider.ensures (ruling-first on.rules on.asker Register e.kind e.scopes c.in-Some.ruling (sym ruled) allowed) in
+    IfOk-weaker c.judge_entry.result (λ j. IsJudgementBy on e b (judgement_in j)) _
+    (λ j. IsJudgement-entry on h r t some e b (judgement_in j) (sym (ap (λ (x : Entry). denial_of on.rules on.asker Register x.kind x.scopes) is) ∙ allowed) c.requires.url is
+    (first ∙ ap (λ (x : Entry). by_rule on.rules on.asker Register x.kind (unwrap_or (slice_get x.scopes 0) [])) is))
+    c.judge_entry.ensures
+
+pub returns-in-Some-2 : goal.returns-in-Some-2
+returns-in-Some-2 g c =
+    let on = c.args.self.now in
+    let h = header_in c.args.header.now in
+    let r = registration_in c.args.registration.now in
+    let t = c.args.particulars in
+    let e = arc_value c.in_ok-entry.entry in
+    let is = c.in_ok-entry.ensures in
+    let ruled = rw c.deref-read.ensures at c.in-Some.ensures in
+    let there : 0 < length e.scopes = ruling_on-some on.rules on.asker Register e.kind e.scopes (ruling_in c.in-Some.ruling) (sym ruled) in
+    let denies : denial_of on.rules on.asker Register e.kind e.scopes ≡ Some (because_in c.in-Some.ruling) = ruling-denied on.rules on.asker Register e.kind e.scopes c.in-Some.ruling (sym ruled) c.if-ruling.false in
+    let judged_so : judgement_of_particulars on h r t ≡ denial (because_in c.in-Some.ruling) =
+    judgement-denied on h r t (subst (λ (x : Entry). 0 < length x.scopes) is there) (because_in c.in-Some.ruling) (sym (ap (λ (x : Entry). denial_of on.rules on.asker Register x.kind x.scopes) is) ∙ denies) in
+    IfOk-weaker c.denial-in-Some-2.result (λ j. judgement_in j ≡ judged.Deny (code_by c.reason.result.decider) (because_of c.reason.result)) _
+    (λ j made. subst (λ x. IsJudgement on.live x (judgement_of_particulars on h r t)) (sym (made ∙ ap (λ (b : Because). judged.Deny (code_by b.decider) b) c.reason.ensures)) judged_so)
+    c.denial-in-Some-2.ensures

@@ -1,0 +1,369 @@
+-- How registrations and withdrawals are judged: the first step whose fault is there, else they are accepted (RFC 2608, sections 7, 9.3 and 10.6).
+use Rattle.std.specs.Prelude.{◌≡◌, ℕ, ◌≤◌, Bool, true, false, not, ◌==◌, ◌&&◌, ◌||◌, List, [], ◌∷◌, map, filter, find, length, codes, slice_get, Option, Some, None, is_none, nat_le, unwrap_or, Result, Ok, Err, if◌then◌else◌, refl}
+use Rattle.std.specs.Coded as coded
+use Rattle.std.specs.Coded.{Coded, coded×, coded_ℕ}
+use Rattle.std.specs.Option.{option_copied, option_or, option_map, option_map_or}
+use Rattle.std.specs.List.{list_any}
+use Rattle.std.specs.Ordering.{match_ordering}
+use Rattle.std.specs.Result.{result_ok}
+use Rattle.std.specs.Arc.{arc_value}
+use Rattle.std.specs.FinMap as fin
+use Rattle.slp_text.specs.Keys.{key_of}
+use Rattle.slp_text.specs.Scopes.{scopes_of, common_scopes}
+use Rattle.slp_text.specs.Tags.{Part, tags_of}
+use Rattle.slp_text.specs.Words.{bytes_eq, bytes_cmp, is_blank}
+use Rattle.slp_messages.specs.declared.code.TheConstants.{OK, LANGUAGE_NOT_SUPPORTED, PARSE_ERROR, INVALID_REGISTRATION, SCOPE_NOT_SUPPORTED, AUTHENTICATION_UNKNOWN, VERSION_NOT_SUPPORTED, INTERNAL_ERROR, DIRECTORY_BUSY, OPTION_NOT_UNDERSTOOD, INVALID_UPDATE}
+use Rattle.slp_messages.specs.declared.header.Header.{Header}
+use Rattle.slp_messages.specs.declared.message.Message.{Message}
+use Rattle.slp_messages.specs.declared.message.Message.TheVariants as message
+use Rattle.slp_messages.specs.declared.message.Registration.{Registration}
+use Rattle.slp_messages.specs.declared.message.Withdrawal.{Withdrawal}
+use Rattle.service_url.specs.Types.{type_of}
+use Rattle.service_url.specs.Urls.{url_of}
+use Rattle.access_rules.specs.Codes.{rules_code}
+use Rattle.access_rules.specs.Deciding.{SiteRules, deciding}
+use Rattle.access_rules.specs.declared.rule.Action.{Action}
+use Rattle.access_rules.specs.declared.rule.Action.TheVariants.{Register, Withdraw}
+use Rattle.access_rules.specs.declared.rules.Verdict.{Verdict}
+use Rattle.registry_core.specs.declared.entry.Entry.{Entry}
+use Rattle.registry_core.specs.Entries.{Entries, entries_code, Pair, is_of_url, is_registered}
+use Rattle.directory_judge.specs.History as history
+use Rattle.directory_judge.specs.History.{Putting, Put, Event}
+use Rattle.directory_judge.specs.Contents.{content, content_on}
+use Rattle.directory_judge.specs.Sites.{Site, site_code}
+use Rattle.directory_judge.specs.declared.particulars.Particulars.{Particulars}
+use Rattle.directory_judge.specs.declared.particulars.Reading.{Reading}
+use Rattle.directory_judge.specs.declared.particulars.Reading.TheVariants as read
+use Rattle.directory_judge.specs.declared.reason.Because.{Because}
+use Rattle.directory_judge.specs.declared.reason.Decider.{Decider}
+use Rattle.directory_judge.specs.declared.reason.Decider.TheVariants as decider
+use Rattle.directory_judge.specs.declared.reason.Finding.{Finding}
+use Rattle.directory_judge.specs.declared.reason.Reason.{Reason}
+use Rattle.directory_judge.specs.declared.change.Change.{Change}
+use Rattle.directory_judge.specs.declared.change.Change.TheVariants as change
+use Rattle.directory_judge.specs.declared.change.Placed.{Placed}
+use Rattle.directory_judge.specs.declared.judgement.Decision.{Decision}
+use Rattle.directory_judge.specs.declared.judgement.Decision.TheVariants as decided
+use Rattle.directory_judge.specs.declared.judgement.Judged.{Judged}
+use Rattle.directory_judge.specs.declared.ruling.Ruling.{Ruling}
+use Rattle.directory_judge.specs.declared.judgement.Judged.TheVariants as judged
+
+-- ---- what is judged on, and what comes of it
+
+-- The rules, the site, the entries that are live, the moment at which the message acts, and who sent it
+pub record Grounds : Type 0 where
+  pub rules : SiteRules
+  pub site : Site
+  pub live : Entries
+  pub now : ℕ
+  pub asker : ℕ
+
+abbrev pub grounds_code : Coded Grounds
+grounds_code = coded.code_by (SiteRules × (Site × (Entries × (ℕ × ℕ))))
+    (coded× rules_code (coded× site_code (coded× entries_code (coded× coded_ℕ coded_ℕ))))
+    (λ g. (g.rules, (g.site, (g.live, (g.now, g.asker)))))
+    (λ t. record { rules = t.0; site = t.1.0; live = t.1.1.0; now = t.1.1.1.0; asker = t.1.1.1.1 })
+    (λ _. refl)
+
+pub data Judgement : Type 0 where
+  -- the change that it makes
+  Accepts : Event → Because → Judgement
+  -- no change, and nobody had to decide
+  Ignores : Judgement
+  -- nothing comes of it yet
+  Waits : Judgement
+  -- an error code
+  Denies : ℕ → Because → Judgement
+
+-- ---- who decided
+
+abbrev pub decider_of : Verdict → Decider
+decider_of v = option_map_or decider.Rule v.rule decider.Default
+
+-- a step's own name, with the type where one is known
+abbrev pub by_step : Decider → Option (List ℕ) → Because
+by_step d kind = record { decider = d; kind = kind; scope = None }
+
+-- the rule, or the default, that decided on a type in a scope
+abbrev pub by_rule : SiteRules → ℕ → Action → List ℕ → List ℕ → Because
+by_rule rules asker action kind scope = record { decider = decider_of (deciding rules asker action kind scope); kind = Some kind; scope = Some scope }
+
+abbrev pub is_denied : SiteRules → ℕ → Action → List ℕ → List ℕ → Bool
+is_denied rules asker action kind scope = not (deciding rules asker action kind scope).allow
+
+-- the code of a denial, by who decided (RFC 2608, section 7)
+abbrev pub code_by : Decider → ℕ
+code_by (decider.Rule index) = SCOPE_NOT_SUPPORTED
+code_by decider.Default = SCOPE_NOT_SUPPORTED
+code_by decider.Nobody = OK
+code_by decider.Memory = INTERNAL_ERROR
+code_by decider.Version = VERSION_NOT_SUPPORTED
+code_by decider.Parse = PARSE_ERROR
+code_by decider.Auth = AUTHENTICATION_UNKNOWN
+code_by decider.Option = OPTION_NOT_UNDERSTOOD
+code_by decider.Scope = SCOPE_NOT_SUPPORTED
+code_by decider.Language = LANGUAGE_NOT_SUPPORTED
+code_by decider.Registration = INVALID_REGISTRATION
+code_by decider.Attributes = PARSE_ERROR
+code_by decider.Update = INVALID_UPDATE
+code_by decider.Template = INVALID_REGISTRATION
+code_by decider.Full = DIRECTORY_BUSY
+
+-- a denial, by who decided on what
+abbrev pub denial : Because → Judgement
+denial because = Denies (code_by because.decider) because
+
+-- who denies in the first of these scopes in which there is a denial
+abbrev pub denial_of : SiteRules → ℕ → Action → List ℕ → List (List ℕ) → Option Because
+denial_of rules asker action kind scopes = option_map (by_rule rules asker action kind) (find (is_denied rules asker action kind) scopes)
+
+abbrev pub denial_in : Grounds → Action → List ℕ → List (List ℕ) → Option Judgement
+denial_in g action kind scopes = option_map denial (denial_of g.rules g.asker action kind scopes)
+
+-- what decides on an action in some scopes, if there are any: what denies it in the first of them in which it is denied, else what allows it in the first of all
+abbrev pub ruling_on : SiteRules → ℕ → Action → List ℕ → List (List ℕ) → Option (Result Because Because)
+ruling_on rules asker action kind scopes =
+    option_or (option_map Err (denial_of rules asker action kind scopes)) (option_map (λ s. Ok (by_rule rules asker action kind s)) (slice_get scopes 0))
+
+-- what a ruling says
+abbrev pub because_in : Ruling → Because
+because_in r = record { decider = decider_of r.verdict; kind = Some r.kind.now; scope = Some r.scope.now }
+
+abbrev pub ruling_in : Ruling → Result Because Because
+ruling_in r = if r.verdict.allow then Ok (because_in r) else Err (because_in r)
+
+-- what is lent says
+abbrev pub because_of : Reason → Because
+because_of r = record { decider = r.decider; kind = option_copied r.kind; scope = option_copied r.scope }
+
+-- who decided on the type of an entry, in the first of its scopes
+abbrev pub because_of_entry : Decider → Entry → Because
+because_of_entry d e = record { decider = d; kind = Some e.kind; scope = slice_get e.scopes 0 }
+
+abbrev pub because_of_placed : Decider → Placed → Because
+because_of_placed d placed = because_of_entry d (arc_value placed.entry)
+
+-- ---- what is not judged yet
+
+-- `service:directory-agent`, which no one registers
+abbrev pub agent_type : List ℕ
+agent_type = codes "service:directory-agent"
+
+abbrev pub is_agent : Option (List ℕ) → Bool
+is_agent (Some kind) = bytes_eq kind agent_type
+is_agent None = false
+
+-- Registrations of which nothing comes yet: updates, those with attributes, those sent to many, and those of a directory agent.
+abbrev pub is_ignored : Header → Registration → Bool
+is_ignored h r = not h.flags.fresh || h.flags.multicast || not (is_blank r.attributes) || is_agent (result_ok (type_of r.kind))
+
+-- the list of tags has a part
+abbrev pub names_tags : Option (List Part) → Bool
+names_tags None = false
+names_tags (Some []) = false
+names_tags (Some (p ∷ ps)) = true
+
+-- withdrawals of which nothing comes yet: those of tags, and those sent to many
+abbrev pub is_unjudged : Header → Withdrawal → Bool
+is_unjudged h w = h.flags.multicast || names_tags (result_ok (tags_of w.tags))
+
+-- ---- what a registration names
+
+-- a denial by a step that knows of no type
+abbrev pub denial_by : Decider → Judgement
+denial_by d = denial (by_step d None)
+
+-- the URL, the type, and those of the scopes that the site supports; or the first fault, where something is not read
+abbrev pub particulars_of_texts : Site → Option (List ℕ) → Option (List ℕ) → Option (List (List ℕ)) → Result Particulars Judgement
+particulars_of_texts site (Some kind) (Some url) (Some scopes) = Ok (record { url = url; kind = kind; scopes = common_scopes site.scopes scopes })
+particulars_of_texts site (Some kind) (Some url) None = Err (denial_by decider.Parse)
+particulars_of_texts site (Some kind) None scopes = Err (denial_by decider.Registration)
+particulars_of_texts site None url scopes = Err (denial_by decider.Registration)
+
+-- a registration has a language and a lifetime first of all
+abbrev pub particulars : Site → Header → Registration → Result Particulars Judgement
+particulars site h r =
+    if length h.language == 0 || r.entry.lifetime == 0 then Err (denial_by decider.Registration)
+    else particulars_of_texts site (result_ok (type_of r.kind)) (result_ok (url_of r.entry.url)) (result_ok (scopes_of r.scopes))
+
+-- what the code finds of it
+abbrev pub particulars_in : Reading → Result Particulars Judgement
+particulars_in (read.Read p) = Ok p
+particulars_in (read.Denied d) = Err (denial_by d)
+
+-- the URL that is found is the one that is named, and the scopes are no more than a site has
+abbrev pub AreParticularsOf : List ℕ → Reading → Type 0
+AreParticularsOf url (read.Read p) = (p.url ≡ url) × (length p.scopes ≤ 16)
+AreParticularsOf url (read.Denied d) = Unit {0}
+
+-- ---- the further steps of a registration, each with the judgement where its fault is there
+
+-- the pair of URL and language that a registration is of
+abbrev pub pair_in : Header → Registration → Pair
+pair_in h r = (r.entry.url, key_of h.language)
+
+abbrev pub supports : Site → List ℕ → Bool
+supports site scope = list_any (λ s. bytes_eq s scope) site.scopes
+
+-- none of the scopes is supported
+abbrev pub denial_of_scopes : Particulars → Option Judgement
+denial_of_scopes t = if length t.scopes == 0 then Some (denial (by_step decider.Scope (Some t.kind))) else None
+
+-- its type may not be registered in some scope
+abbrev pub denial_of_new : Grounds → Particulars → Option Judgement
+denial_of_new g t = denial_in g Register t.kind t.scopes
+
+-- nor may what it would replace
+abbrev pub denial_of_old : Grounds → Option Entry → Option Judgement
+denial_of_old g None = None
+denial_of_old g (Some e) = denial_in g Register e.kind e.scopes
+
+-- the pair is not live, and the live entries fill the capacity
+abbrev pub denial_of_room : Grounds → Pair → Particulars → Option Judgement
+denial_of_room g q t = if is_none (fin.get g.live q) && (nat_le g.site.capacity (fin.len g.live)) then Some (denial (by_step decider.Full (Some t.kind))) else None
+
+-- the registration that is made
+abbrev pub putting_of : Grounds → Header → Registration → Particulars → Putting
+putting_of g h r t = record { url = r.entry.url; language = key_of h.language; kind = t.kind; scopes = t.scopes; attributes = fin.empty; lifetime = r.entry.lifetime }
+
+-- what decided on the first stored scope
+abbrev pub allowance : Grounds → Particulars → Because
+allowance g t = by_rule g.rules g.asker Register t.kind (unwrap_or (slice_get t.scopes 0) [])
+
+abbrev pub judgement_of_particulars : Grounds → Header → Registration → Particulars → Judgement
+judgement_of_particulars g h r t =
+    unwrap_or
+    (option_or (denial_of_scopes t)
+    (option_or (denial_of_new g t)
+    (option_or (denial_of_old g (fin.get g.live (pair_in h r)))
+    (denial_of_room g (pair_in h r) t))))
+    (Accepts (record { moment = g.now; act = Put (putting_of g h r t) }) (allowance g t))
+
+abbrev pub judgement_of_reading : Grounds → Header → Registration → Result Particulars Judgement → Judgement
+judgement_of_reading g h r (Ok t) = judgement_of_particulars g h r t
+judgement_of_reading g h r (Err j) = j
+
+abbrev pub judgement_of_registration : Grounds → Header → Registration → Judgement
+judgement_of_registration g h r = if is_ignored h r then Waits else judgement_of_reading g h r (particulars g.site h r)
+
+-- ---- withdrawals
+
+abbrev pub entries_in : Entries → List Entry
+entries_in m = map (λ p. p.1) (fin.entries m)
+
+-- the one whose language comes first, of what was first so far and an entry
+abbrev pub earlier_entry : Option Entry → Entry → Entry
+earlier_entry None e = e
+earlier_entry (Some f) e = match_ordering (bytes_cmp e.language f.language) e f f
+
+abbrev pub first_from : Option Entry → List Entry → Option Entry
+first_from o [] = o
+first_from o (e ∷ es) = first_from (Some (earlier_entry o e)) es
+
+-- the entry whose language comes first
+abbrev pub first_of : List Entry → Option Entry
+first_of = first_from None
+
+-- some scope of it is one in which its type may not be withdrawn
+abbrev pub is_kept : SiteRules → ℕ → Entry → Bool
+is_kept rules asker e = list_any (is_denied rules asker Withdraw e.kind) e.scopes
+
+-- who denies an entry's withdrawal in the first of its scopes in which there is a denial
+abbrev pub denial_of_kept : Grounds → Option Entry → Option Judgement
+denial_of_kept g None = None
+denial_of_kept g (Some e) = denial_in g Withdraw e.kind e.scopes
+
+-- what decided on an entry's first scope
+abbrev pub release : Grounds → Entry → Because
+release g e = by_rule g.rules g.asker Withdraw e.kind (unwrap_or (slice_get e.scopes 0) [])
+
+abbrev pub withdrawal_event : Grounds → List ℕ → List (List ℕ) → Event
+withdrawal_event g url scopes = record { moment = g.now; act = history.Withdraw (record { url = url; scopes = scopes }) }
+
+-- Where no entry is concerned the scopes are other ones. The first denial is that of the entry whose language comes first among those that may not
+-- be withdrawn.
+abbrev pub judgement_of_entries : Grounds → List ℕ → List (List ℕ) → Option Entry → Option Entry → Judgement
+judgement_of_entries g url scopes None kept = denial_by decider.Scope
+judgement_of_entries g url scopes (Some first) kept = unwrap_or (denial_of_kept g kept) (Accepts (withdrawal_event g url scopes) (release g first))
+
+-- the entries concerned: those of the URL in just these scopes
+abbrev pub concerned_entries : Grounds → List ℕ → List (List ℕ) → List Entry
+concerned_entries g url scopes = filter (is_registered url scopes) (entries_in g.live)
+
+-- where nothing of the URL is live, nothing is changed
+abbrev pub judgement_of_url : Grounds → List ℕ → List (List ℕ) → Judgement
+judgement_of_url g url scopes =
+    if list_any (is_of_url url) (entries_in g.live)
+    then judgement_of_entries g url scopes (first_of (concerned_entries g url scopes)) (first_of (filter (is_kept g.rules g.asker) (concerned_entries g url scopes)))
+    else Ignores
+
+abbrev pub judgement_in_scopes : Grounds → List ℕ → List (List ℕ) → Judgement
+judgement_in_scopes g url [] = denial_by decider.Scope
+judgement_in_scopes g url (s ∷ ss) = judgement_of_url g url (s ∷ ss)
+
+-- a URL, a list of tags and scopes that were read, each if it is one
+abbrev pub judgement_of_texts : Grounds → Option (List ℕ) → Option (List Part) → Option (List (List ℕ)) → Judgement
+judgement_of_texts g (Some url) (Some tags) (Some scopes) = judgement_in_scopes g url (common_scopes g.site.scopes scopes)
+judgement_of_texts g (Some url) (Some tags) None = denial_by decider.Parse
+judgement_of_texts g (Some url) None scopes = denial_by decider.Parse
+judgement_of_texts g None tags scopes = denial_by decider.Parse
+
+abbrev pub judgement_of_withdrawal : Grounds → Header → Withdrawal → Judgement
+judgement_of_withdrawal g h w = if is_unjudged h w then Waits else judgement_of_texts g (result_ok (url_of w.entry.url)) (result_ok (tags_of w.tags)) (result_ok (scopes_of w.scopes))
+
+-- ---- messages that may change something
+
+abbrev pub IsChange : Message → Type 0
+IsChange (message.Registration h r) = Unit {0}
+IsChange (message.Withdrawal h w) = Unit {0}
+IsChange (message.ServiceRequest h q) = ⊥
+IsChange (message.ServiceReply h r) = ⊥
+IsChange (message.Acknowledgement h code) = ⊥
+IsChange (message.AttributeRequest h q) = ⊥
+IsChange (message.AttributeReply h r) = ⊥
+IsChange (message.DirectoryAdvert h a) = ⊥
+IsChange (message.TypeRequest h q) = ⊥
+IsChange (message.TypeReply h r) = ⊥
+IsChange (message.ServiceAdvert h a) = ⊥
+
+abbrev pub judgement : Grounds → Message → Judgement
+judgement g (message.Registration h r) = judgement_of_registration g h r
+judgement g (message.ServiceRequest h q) = Waits
+judgement g (message.ServiceReply h r) = Waits
+judgement g (message.Acknowledgement h code) = Waits
+judgement g (message.Withdrawal h w) = judgement_of_withdrawal g h w
+judgement g (message.AttributeRequest h q) = Waits
+judgement g (message.AttributeReply h r) = Waits
+judgement g (message.DirectoryAdvert h a) = Waits
+judgement g (message.TypeRequest h q) = Waits
+judgement g (message.TypeReply h r) = Waits
+judgement g (message.ServiceAdvert h a) = Waits
+
+-- what was decided, with what it was decided on
+abbrev pub judgement_in : Decision → Judged
+judgement_in (decided.Founded placed d) = judged.Accept (change.Put placed) (because_of_placed d placed)
+judgement_in (decided.Judged j) = j
+
+-- the code of it, and who decided on what, where there is a verdict
+abbrev pub finding_in : Judged → Option (ℕ × Because)
+finding_in (judged.Accept c because) = Some (OK, because)
+finding_in judged.Nothing = Some (code_by decider.Nobody, by_step decider.Nobody None)
+finding_in judged.Unjudged = None
+finding_in (judged.Deny code because) = Some (code, because)
+
+abbrev pub finding_of : Finding → ℕ × Because
+finding_of f = (f.code, because_of f.reason)
+
+-- the change of it, if there is one
+abbrev pub change_of : Judged → Option Change
+change_of (judged.Accept c because) = Some c
+change_of judged.Nothing = None
+change_of judged.Unjudged = None
+change_of (judged.Deny code because) = None
+
+-- what was answered is the judgement, with a change that holds what the event asks for
+abbrev pub IsJudgement : Entries → Judged → Judgement → Type 0
+IsJudgement live (judged.Accept c because) j = (event : Event) × (j ≡ Accepts event because) × (content c ≡ content_on live event)
+IsJudgement live judged.Nothing j = j ≡ Ignores
+IsJudgement live judged.Unjudged j = j ≡ Waits
+IsJudgement live (judged.Deny code because) j = j ≡ Denies code because

@@ -1,0 +1,88 @@
+ghost use Rattle.std.specs.Prelude.{◌≡◌, IfOk};
+ghost use Rattle.std.specs.Option.{option_map};
+ghost use Rattle.directory_judge.specs.Judgements.{because_of, finding_of, because_of_placed, judgement_in, change_of, finding_in};
+
+use crate::reason::{Because, Decider, Finding, Reason};
+use crate::change::{Change, Placed};
+use slp_messages::code;
+use slp_text::NoMemory;
+use std::alloc::Global;
+
+/// What comes of a message that may change something.
+#[derive(Drop)]
+pub enum Judged {
+    Accept(Change, Because),
+    /// Nothing is changed, and nobody had to decide.
+    Nothing,
+    /// Messages of this kind are not judged yet.
+    Unjudged,
+    /// An error code (RFC 2608, section 7).
+    Deny(u16, Because),
+}
+
+/// The same, with no copy of what the entry of an accepted registration has.
+#[derive(Drop)]
+pub enum Decision {
+    /// A registration is accepted: who decided, on the type of its entry in the first of its scopes.
+    Founded(Placed, Decider),
+    Judged(Judged),
+}
+
+// Who decided on the type of an entry that is founded, in the first of its scopes.
+fn founding_reason(placed: &Placed, decider: Decider) -> Reason<'_>
+    ensures { because_of result ≡ because_of_placed decider placed.now }
+{
+    Reason {
+        decider,
+        kind: Some(&placed.entry.kind),
+        scope: placed.entry.scopes.at(0),
+    }
+}
+
+impl Decision {
+    /// The code of what was decided, and who decided on what, where there is a verdict.
+    pub fn finding(&self) -> Option<Finding<'_>>
+        ensures { option_map finding_of result ≡ finding_in (judgement_in self.now) }
+    {
+        match self {
+            Decision::Founded(placed, decider) => Some(Finding {
+                code: code::OK,
+                reason: founding_reason(placed, *decider),
+            }),
+            Decision::Judged(Judged::Accept(_, because)) => Some(Finding {
+                code: code::OK,
+                reason: because.reason(),
+            }),
+            Decision::Judged(Judged::Nothing) => Some(Finding::by(Decider::Nobody, None)),
+            Decision::Judged(Judged::Unjudged) => None,
+            Decision::Judged(Judged::Deny(code, because)) => Some(Finding {
+                code: *code,
+                reason: because.reason(),
+            }),
+        }
+    }
+
+    /// The change that is accepted, if one is.
+    pub fn change(self) -> Option<Change>
+        ensures { result ≡ change_of (judgement_in self) }
+    {
+        match self {
+            Decision::Founded(placed, _) => Some(Change::Put(placed)),
+            Decision::Judged(Judged::Accept(change, _)) => Some(change),
+            Decision::Judged(_) => None,
+        }
+    }
+
+    /// The same with copies of what was decided on.
+    pub fn judged(self, alloc: Global) -> Result<Judged, NoMemory>
+        ensures { IfOk result (λ j. j ≡ judgement_in self) }
+    {
+        match self {
+            Decision::Founded(placed, decider) => {
+                let because = founding_reason(&placed, decider).copy(alloc)?;
+                Ok(Judged::Accept(Change::Put(placed), because))
+            }
+            Decision::Judged(judged) => Ok(judged),
+        }
+    }
+}

@@ -1,0 +1,137 @@
+ghost use Rattle.std.specs.Prelude.{◌≡◌, ◌≤◌, length, IfOk, IfSome, Some};
+ghost use Rattle.std.specs.Option.{option_copied, option_map};
+ghost use Rattle.std.specs.Result.{result_ok};
+ghost use Rattle.slp_text.specs.Scopes.{scopes_of, common_scopes};
+ghost use Rattle.slp_text.specs.Tags.{tags_of};
+ghost use Rattle.slp_messages.specs.Views.{header_in, registration_in};
+ghost use Rattle.service_url.specs.Types.{type_of};
+ghost use Rattle.service_url.specs.Urls.{url_of};
+ghost use Rattle.directory_judge.specs.Judgements as spec;
+ghost use Rattle.directory_judge.specs.Judgements.{particulars, particulars_in, AreParticularsOf};
+
+use crate::reason::Decider;
+use crate::site::Site;
+use service_url::{ServiceType, Url, UrlFault};
+use slp_messages::{KeptHeader, RegistrationView};
+use slp_text::{NoMemory, ScopeList, TagList, TextFault};
+use std::alloc::Global;
+
+/// What a registration names: its URL, its type, and those of its scopes that the site supports.
+#[derive(Drop)]
+pub struct Particulars {
+    pub url: Url,
+    pub kind: ServiceType,
+    pub scopes: ScopeList,
+}
+
+/// What is found of a registration: what it names, or the step that finds the first fault.
+#[derive(Drop)]
+pub enum Reading {
+    Read(Particulars),
+    Denied(Decider),
+}
+
+/// The type that no one registers.
+const AGENT_TYPE: &str = "service:directory-agent";
+
+/// The type that a text names, if it names one (RFC 2608, section 8.1).
+pub fn read_kind(alloc: Global, text: &str) -> Result<Option<ServiceType>, NoMemory>
+    ensures { IfOk result (λ k. k ≡ result_ok (type_of text.now)) }
+{
+    match ServiceType::parse(alloc, text) {
+        Ok(kind) => Ok(Some(kind)),
+        Err(UrlFault::NoMemory) => Err(NoMemory),
+        Err(_) => Ok(None),
+    }
+}
+
+/// The URL that a text is, if it is one.
+pub fn read_url(alloc: Global, text: &str) -> Result<Option<Url>, NoMemory>
+    ensures { IfOk result (λ u. u ≡ result_ok (url_of text.now)) }
+{
+    match Url::parse(alloc, text) {
+        Ok(url) => Ok(Some(url)),
+        Err(UrlFault::NoMemory) => Err(NoMemory),
+        Err(_) => Ok(None),
+    }
+}
+
+/// The scopes that a text names, if it is a list of scopes (RFC 2608, section 6.4.1).
+pub fn read_scopes(alloc: Global, text: &str) -> Result<Option<ScopeList>, NoMemory>
+    ensures { IfOk result (λ l. l ≡ result_ok (scopes_of text.now)) }
+{
+    match ScopeList::parse(alloc, text) {
+        Ok(scopes) => Ok(Some(scopes)),
+        Err(TextFault::NoMemory) => Err(NoMemory),
+        Err(_) => Ok(None),
+    }
+}
+
+/// The scopes that a text names and the site supports, if it is a list of scopes.
+pub fn read_supported(alloc: Global, site: &Site, text: &str) -> Result<Option<ScopeList>, NoMemory>
+    ensures value { IfOk result (λ l. l ≡ option_map (common_scopes site.now.scopes) (result_ok (scopes_of text.now))) }
+    ensures few { IfOk result (λ l. IfSome l (λ scopes. length scopes ≤ 16)) }
+{
+    let Some(scopes) = read_scopes(alloc, text)? else {
+        return Ok(None);
+    };
+    Ok(Some(scopes.within(site.scopes())))
+}
+
+// The tags that a text names, if it is a list of tags.
+fn read_tags(alloc: Global, text: &str) -> Result<Option<TagList>, NoMemory>
+    ensures { IfOk result (λ t. t ≡ result_ok (tags_of text.now)) }
+{
+    match TagList::parse(alloc, text) {
+        Ok(tags) => Ok(Some(tags)),
+        Err(TextFault::NoMemory) => Err(NoMemory),
+        Err(_) => Ok(None),
+    }
+}
+
+/// Whether a list of tags has a part, if the text is a list of tags.
+pub fn names_tags(alloc: Global, text: &str) -> Result<Option<bool>, NoMemory>
+    ensures { IfOk result (λ b. b ≡ option_map (λ t. spec.names_tags (Some t)) (result_ok (tags_of text.now))) }
+{
+    match read_tags(alloc, text)? {
+        Some(tags) => Ok(Some(!tags.is_empty())),
+        None => Ok(None),
+    }
+}
+
+/// Whether a type is that of a directory agent.
+pub fn is_agent(kind: Option<&ServiceType>) -> bool
+    ensures { result ≡ spec.is_agent (option_copied kind.entry) }
+{
+    match kind {
+        Some(kind) => kind.text() == AGENT_TYPE,
+        None => false,
+    }
+}
+
+/// What a registration names, whose type was read already (RFC 2608, section 9.3).
+pub fn name(
+    alloc: Global,
+    site: &Site,
+    header: &KeptHeader<'_>,
+    registration: &RegistrationView<'_>,
+    kind: Option<ServiceType>,
+) -> Result<Reading, NoMemory>
+    requires { kind ≡ result_ok (type_of registration.now.kind.now) }
+    ensures value { IfOk result (λ n. particulars site.now (header_in header.now) (registration_in registration.now) ≡ particulars_in n) }
+    ensures url { IfOk result (AreParticularsOf registration.now.entry.url.now) }
+{
+    if header.language.is_empty() || registration.entry.lifetime == 0 {
+        return Ok(Reading::Denied(Decider::Registration));
+    }
+    let Some(kind) = kind else {
+        return Ok(Reading::Denied(Decider::Registration));
+    };
+    let Some(url) = read_url(alloc, registration.entry.url)? else {
+        return Ok(Reading::Denied(Decider::Registration));
+    };
+    let Some(scopes) = read_supported(alloc, site, registration.scopes)? else {
+        return Ok(Reading::Denied(Decider::Parse));
+    };
+    Ok(Reading::Read(Particulars { url, kind, scopes }))
+}

@@ -1,0 +1,80 @@
+-- Which history an agent and a session stand for, and what a datagram does to it.
+use Rattle.std.specs.Prelude.{◌≡◌, ℕ, List, [], ◌∷◌, ◌++◌, codes, Option, MatchOption, Result, Ok, Err}
+use Rattle.std.specs.Fmt.{decimal}
+use Rattle.access_rules.specs.Opening.{opening_rules}
+use Rattle.slp_headers.specs.Headers.{heading_of}
+use Rattle.directory_judge.specs.History.{Event}
+use Rattle.directory_state.specs.Folds.{Fold}
+use Rattle.directory_judge.specs.Meaning.{rules}
+use Rattle.directory_answers.specs.Answers.{IsAnswer}
+use Rattle.directory_answers.specs.Outcomes.{Outcome}
+use Rattle.directory_answers.specs.Verdicts.{IsLegal, history_with}
+use Rattle.slp_answer.specs.Answers.{Tells}
+use Rattle.slp_answer.specs.declared.answer.Sent.{Sent}
+use Rattle.slp_stream.specs.Cutting.{front_of, IsCut}
+use Rattle.slp_stream.specs.Framing.{Frames}
+use Rattle.slp_script.specs.Commands.{Command}
+use Rattle.directory_program.specs.Worlds.{World, opening_of, call_of, Answers, AnswersAll, Pieces, Does, closed_text, fault_number, configured_world, end_text, end_refused, longest_on_stream}
+use Rattle.site_config.specs.declared.config.Config.{Config}
+use Rattle.site_config.specs.declared.fault.ConfigFault.{ConfigFault}
+use Rattle.directory_program.specs.declared.agent.Agent.{Agent}
+use Rattle.directory_program.specs.declared.session.Session.{Session}
+use Rattle.slp_text.specs.Ascii.{line_feed}
+
+-- the agent is one to which this happened
+pub record IsAgent (w : World) (a : Agent) : Type 0 where
+  pub legal : IsLegal (opening_of w) w.history
+  pub fold : Fold (opening_of w) w.history a.directory
+  pub listen : a.listen ≡ w.listen
+  pub loop : a.loop_index ≡ w.loop
+  pub moment : a.moment ≡ w.moment
+  pub asker : a.asker ≡ w.asker
+
+-- and so is the session, in which this came of the stream
+pub record Holds (w : World) (s : Session) : Type 0 where
+  pub agent : IsAgent w s.agent
+  pub stream : s.stream ≡ w.stream
+  pub limit : s.stream.limit ≡ longest_on_stream
+  pub late : s.late ≡ w.late
+
+-- what came of a message, answered in at most so many bytes: what was sent, the reply and the audit line, and the agent after it
+pub record Takes (limit : ℕ) (w : World) (bytes : List ℕ) (what : Sent) (reply line : List ℕ) (a : Agent) : Type 0 where
+  pub outcome : Outcome
+  pub event : Option Event
+  pub is : IsAnswer (opening_of w) w.history (call_of limit w bytes) outcome event
+  pub told : Tells (rules opening_rules w.history) w.asker (heading_of bytes) outcome what reply line
+  pub holds : IsAgent (record w { history = history_with event w.history }) a
+
+-- what a command may write and make of a session, whatever happened to it before
+abbrev pub Acts : Session → Command → List ℕ → Session → Type 0
+Acts s c now t = (w : World) → Holds w s → (v : World) × Does w c now v × Holds v t
+
+-- what a message that is answered in at most so many bytes may write and make of an agent
+abbrev pub Meets : ℕ → Agent → List ℕ → List ℕ → Agent → Type 0
+Meets limit a bytes now b = (w : World) → IsAgent w a → (v : World) × Answers limit w bytes now v × IsAgent v b
+
+-- what a piece of the stream may write and make of a session
+abbrev pub TakesPiece : Session → List ℕ → List ℕ → Session → Type 0
+TakesPiece s bytes now t = (w : World) → Holds w s → (v : World) × MatchOption w.stream.refused (Pieces w bytes now v) (λ _. (now ≡ closed_text) × (v ≡ w)) × Holds v t
+
+-- what the messages that wait in a framer may write and make of an agent, and what they leave of the framer
+abbrev pub Drains : Agent → Frames → List ℕ → Agent → Frames → Type 0
+Drains a f now b g = (w : World) → IsAgent w a
+    → (ms : List (List ℕ)) × (rest : List ℕ) × IsCut f.limit f.waiting ms rest
+    × (u : World) × (said : List ℕ) × AnswersAll w ms said u
+    × (now ≡ said ++ end_text (front_of f.limit rest))
+    × (g ≡ record { limit = f.limit; waiting = rest; refused = end_refused (front_of f.limit rest) })
+    × IsAgent u b
+
+-- what is written of a configuration
+abbrev pub config_fault_text : ConfigFault → List ℕ
+config_fault_text e = codes "! config " ++ decimal (fault_number e) ++ line_feed ∷ []
+
+abbrev pub config_text : Result (Unit {0}) ConfigFault → List ℕ
+config_text (Ok x) = codes "# config" ++ line_feed ∷ []
+config_text (Err e) = config_fault_text e
+
+-- what came of a configuration, and the agent after it: that of the new site, or the one that it was
+abbrev pub ConfiguresTo : World → Result Config ConfigFault → Result (Unit {0}) ConfigFault → Agent → Type 0
+ConfiguresTo w (Ok c) told a = (told ≡ Ok tt) × IsAgent (configured_world c w) a
+ConfiguresTo w (Err e) told a = (told ≡ Err e) × IsAgent w a

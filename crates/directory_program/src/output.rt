@@ -1,0 +1,87 @@
+ghost use Rattle.std.specs.Prelude.{◌≡◌, ◌<◌, ◌≤◌, length, slice_index, OnOk};
+ghost use Rattle.std.specs.Io.KnownBytes.{Appends};
+ghost use Rattle.hex.specs.Hex.{encode_lower, lower_digits};
+ghost use Rattle.directory_program.specs.Worlds.{no_memory_text, answer_text};
+
+use access_rules::Addr;
+use slp_answer::refusal;
+use std::io;
+use std::io::Write;
+
+/// So many bytes are shown by digits at once.
+const PIECE: usize = 64;
+
+// A digit of hexadecimal, in lower case.
+fn digit(value: u8) -> u8
+    requires { value < 16 }
+    ensures { result ≡ slice_index lower_digits value }
+{
+    let first = if value < 10 { b'0' } else { b'a' - 10 };
+    first + value
+}
+
+// The digits of a piece. First and second digits are made apart, so that many are made at once.
+fn digits_of(piece: &[u8; PIECE]) -> [u8; 2 * PIECE]
+    ensures { result ≡ encode_lower piece.now }
+{
+    let mut first = [0u8; PIECE];
+    let mut second = [0u8; PIECE];
+    for i in 0..PIECE {
+        first[i] = digit(piece[i] / 16);
+        second[i] = digit(piece[i] % 16);
+    }
+    let mut digits = [0u8; 2 * PIECE];
+    for i in 0..PIECE {
+        digits[2 * i] = first[i];
+        digits[2 * i + 1] = second[i];
+    }
+    digits
+}
+
+// Writes the digits of at most 64 bytes.
+fn print_piece<W: Write>(bytes: &[u8], writer: &mut W) -> io::Result<()>
+    requires { length bytes.now ≤ 64 }
+    ensures { OnOk result (Appends (W.contents writer.old) (W.contents writer.new) (encode_lower bytes.now)) }
+{
+    let mut piece = [0u8; PIECE];
+    piece[..bytes.len()].copy_from_slice(bytes);
+    let digits = digits_of(&piece);
+    writer.write_all(&digits[..2 * bytes.len()])
+}
+
+// Writes the digits of bytes. Takes no memory.
+fn print_digits<W: Write>(bytes: &[u8], writer: &mut W) -> io::Result<()>
+    ensures { OnOk result (Appends (W.contents writer.old) (W.contents writer.new) (encode_lower bytes.now)) }
+{
+    let mut rest = bytes;
+    while rest.len() > PIECE {
+        let (piece, more) = rest.split_at(PIECE);
+        print_piece(piece, writer)?;
+        rest = more;
+    }
+    print_piece(rest, writer)
+}
+
+/// Writes what came of a message: the digits of the reply or a dash, and the audit line, if any.
+pub fn print<W: Write>(reply: &[u8], line: &[u8], writer: &mut W) -> io::Result<()>
+    ensures { OnOk result (Appends (W.contents writer.old) (W.contents writer.new) (answer_text reply.now line.now)) }
+{
+    writer.write_all(b"> ")?;
+    if reply.is_empty() {
+        writer.write_all(b"-")?;
+    } else {
+        print_digits(reply, writer)?;
+    }
+    writer.write_all(b"\n")?;
+    writer.write_all(line)
+}
+
+/// Writes what comes of a message that found no memory. Takes none itself.
+pub fn print_refusal<W: Write>(bytes: &[u8], asker: Addr, writer: &mut W) -> io::Result<()>
+    ensures { OnOk result (Appends (W.contents writer.old) (W.contents writer.new) (no_memory_text asker bytes.now)) }
+{
+    let mut reply = [0u8; 80];
+    let mut line = [0u8; 128];
+    let (sent, told) = refusal(bytes, asker, &mut reply, &mut line);
+    print(&reply[..sent], &line[..told], writer)
+}

@@ -1,0 +1,80 @@
+-- How what answers a question is found: each entry that is seen joins a list of URLs with their latest deadlines, which is cut to its room.
+use Rattle.std.specs.Prelude.{◌≡◌, ℕ, ◌+◌, ◌-◌, ◌<◌, ◌≤◌, Bool, true, ◌&&◌, nat_le, min, if◌then◌else◌, List, [], ◌∷◌, ◌++◌, length, filter, Option, Some, None, IfSome}
+use Rattle.access_rules.specs.Deciding.{SiteRules, deciding}
+use Rattle.access_rules.specs.declared.rule.Action.TheVariants.{See}
+use Rattle.registry_core.specs.Entries.{outlives}
+use Rattle.registry_core.specs.declared.entry.Entry.{Entry}
+use Rattle.slp_messages.specs.declared.message.UrlEntry.{UrlEntry}
+use Rattle.directory_judge.specs.Judgements.{supports}
+use Rattle.directory_judge.specs.Sites.{Site}
+use Rattle.directory_state.specs.Deadlines.{UrlDeadline, with_deadline, total_cost, urls_of}
+use Rattle.std.specs.List.{AllByRecursion}
+use Rattle.std.specs.Ordering.{is_le}
+use Rattle.slp_text.specs.Words.{bytes_cmp}
+use Rattle.directory_state.specs.declared.search.Shortlist.{Shortlist}
+use Rattle.directory_state.specs.declared.search.Room.{Room}
+use Rattle.directory_state.specs.declared.search.Search.{Search}
+
+-- ---- what is seen
+
+-- entries are found one by one
+abbrev pub deadlines_with : List Entry → List UrlDeadline → List UrlDeadline
+deadlines_with [] ps = ps
+deadlines_with (e ∷ es) ps = deadlines_with es (with_deadline e.url e.deadline ps)
+
+-- the entry lives on, and the asker may see its type in the scope
+abbrev pub is_seen : SiteRules → ℕ → ℕ → List ℕ → Entry → Bool
+is_seen rules now asker scope e = outlives now e && (deciding rules asker See e.kind scope).allow
+
+-- what is seen in those of the scopes that the site supports, where the listing says what stands in each
+abbrev pub seen_entries : (List ℕ → List Entry) → SiteRules → Site → ℕ → ℕ → List (List ℕ) → List Entry
+seen_entries listing rules site now asker [] = []
+seen_entries listing rules site now asker (s ∷ scopes) =
+    (if supports site s then filter (is_seen rules now asker s) (listing s) else []) ++ seen_entries listing rules site now asker scopes
+
+-- what is answered of a URL and its latest deadline
+abbrev pub item_at : ℕ → UrlDeadline → UrlEntry
+item_at now p = record { lifetime = min (p.1 - now) 65535; url = p.0 }
+
+-- ---- what is kept of it
+
+-- the bytes that an item takes: they are counted where there is a bound
+abbrev pub cost_in : Option Room → List ℕ → ℕ
+cost_in None url = 0
+cost_in (Some room) url = room.each + length url
+
+-- the bytes that there are
+abbrev pub bytes_in : Option Room → ℕ
+bytes_in None = 0
+bytes_in (Some room) = room.bytes
+
+-- as many from the front as there is room for, and one more, where there is one
+abbrev pub cut : (List ℕ → ℕ) → ℕ → List UrlDeadline → List UrlDeadline
+cut cost left [] = []
+cut cost left (p ∷ ps) = if nat_le (cost p.0) left then p ∷ cut cost (left - cost p.0) ps else p ∷ []
+
+abbrev pub cut_in : Option Room → List UrlDeadline → List UrlDeadline
+cut_in room = cut (cost_in room) (bytes_in room)
+
+-- what is kept is counted
+abbrev pub IsCounted : Shortlist → Type 0
+IsCounted k = k.used ≡ total_cost (cost_in k.room) k.latest
+
+-- what an item takes beside its URL is little, so that the bytes of one item can be counted
+abbrev pub IsSmall : Option Room → Type 0
+IsSmall room = IfSome room (λ r. r.each ≤ 65535)
+
+-- what is kept is counted, and already cut
+pub record IsKept (k : Shortlist) : Type 0 where
+  pub counted : IsCounted k
+  pub small : IsSmall k.room
+  pub is_cut : cut_in k.room k.latest ≡ k.latest
+
+-- there is no room for all that is kept, and none of it comes after a URL
+pub record IsBound (cost : List ℕ → ℕ) (left : ℕ) (url : List ℕ) (ps : List UrlDeadline) : Type 0 where
+  pub over : left < total_cost cost ps
+  pub all : AllByRecursion (λ held. is_le (bytes_cmp held url) ≡ true) (urls_of ps)
+
+-- what is kept, with what is seen of these entries of a scope
+abbrev pub shortlist_with : Shortlist → Search → List ℕ → List Entry → List UrlDeadline
+shortlist_with k s scope es = cut_in k.room (deadlines_with (filter (is_seen s.rules.now s.moment s.asker scope) es) k.latest)

@@ -1,7 +1,0 @@
-use Rattle.std.proofs.Common.{◌≡◌, drop}
-use Rattle.site_config.specs.Configuring.{are_distinct}
-use Rattle.site_config.proofs.listening.are_distinct.Given as goal
-
--- those to come decide
-abbrev pub invariant-loop-i : goal.invariant-loop-i
-invariant-loop-i l = are_distinct (drop l.i l.sockets) ≡ are_distinct l.sockets

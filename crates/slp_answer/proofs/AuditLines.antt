@@ -1,0 +1,72 @@
+-- The line of an audit, written part by part.
+use Rattle.std.proofs.Common.{◌≡◌, ℕ, ◌+◌, Bool, false, length, if◌then◌else◌, List, [], ◌∷◌, ◌++◌, codes, refl, sym, ap, ◌∙◌, append_assoc, arith}
+use Rattle.std.specs.Prelude.{◌==◌}
+use Rattle.std.specs.Fmt.{decimal, digits}
+use Rattle.std.proofs.lemmas.Bool.Decides.{nat_tests}
+use Rattle.std.proofs.lemmas.List.{length-append}
+use Rattle.access_rules.specs.Addresses.{address_text}
+use Rattle.slp_answer.specs.Audits.{line_text, head_text, tail_text, beginning_text, decider_text, action_text, text_or_dash, ending_text}
+use Rattle.slp_answer.specs.declared.audit.Audit.{Audit}
+use Rattle.slp_text.specs.Ascii.{digit_zero}
+
+-- what stands between who decided and the asker
+abbrev pub action_piece : Audit → List ℕ
+action_piece a = codes " action=" ++ action_text a.action ++ codes " asker="
+
+head_of : (w b d a e f : List ℕ) → ((w ++ b) ++ d) ++ (a ++ (e ++ f)) ≡ w ++ (b ++ d ++ a ++ e ++ f)
+head_of w b d a e f = simp append_assoc refl
+
+tail_of : (w g p q t : List ℕ) → (((w ++ g) ++ p) ++ q) ++ t ≡ w ++ (g ++ p ++ q ++ t)
+tail_of w g p q t = simp append_assoc refl
+
+pub head_is_written : (w name : List ℕ) (a : Audit) → ((w ++ beginning_text a.code) ++ decider_text name a.because.decider) ++ action_piece a ≡ w ++ head_text name a
+head_is_written w name a = head_of w (beginning_text a.code) (decider_text name a.because.decider) (codes " action=") (action_text a.action) (codes " asker=")
+
+pub tail_is_written : (w : List ℕ) (a : Audit) → (((w ++ address_text a.asker) ++ codes " type=") ++ text_or_dash a.because.kind) ++ ending_text a.because.scope ≡ w ++ tail_text a
+tail_is_written w a = tail_of w (address_text a.asker) (codes " type=") (text_or_dash a.because.kind) (ending_text a.because.scope)
+
+pub line_is_written : (w name : List ℕ) (a : Audit) → (w ++ head_text name a) ++ tail_text a ≡ w ++ line_text name a
+unfolding line_text
+line_is_written w name a = append_assoc w (head_text name a) (tail_text a)
+
+-- a line is as long as its parts
+pub head_length : (name : List ℕ) (a : Audit) → length (head_text name a) ≡ length (beginning_text a.code) + (length (decider_text name a.because.decider) + length (action_piece a))
+head_length name a =
+    let whole = ap length (head_is_written [] name a) in
+    let two = length-append (beginning_text a.code) (decider_text name a.because.decider) in
+    let three = length-append (beginning_text a.code ++ decider_text name a.because.decider) (action_piece a) in
+    omega (arith, whole, two, three)
+
+pub tail_length : (a : Audit) → length (tail_text a) ≡ length (address_text a.asker) + (length (codes " type=") + (length (text_or_dash a.because.kind) + length (ending_text a.because.scope)))
+tail_length a =
+    let g = address_text a.asker in
+    let p = codes " type=" in
+    let q = text_or_dash a.because.kind in
+    let whole = ap length (tail_is_written [] a) in
+    let two = length-append g p in
+    let three = length-append (g ++ p) q in
+    let four = length-append ((g ++ p) ++ q) (ending_text a.because.scope) in
+    omega (arith, whole, two, three, four)
+
+pub line_length : (name : List ℕ) (a : Audit) → length (line_text name a) ≡ length (head_text name a) + length (tail_text a)
+unfolding line_text
+line_length name a = length-append (head_text name a) (tail_text a)
+
+-- ---- how it begins
+
+pub three_parts : (w a d b : List ℕ) → ((w ++ a) ++ d) ++ b ≡ w ++ (a ++ d ++ b)
+three_parts w a d b = simp append_assoc refl
+
+not_zero : (code : ℕ) → (code ≡ 0 → ⊥) → (code == 0) ≡ false
+not_zero code some = grind (arith, nat_tests, some)
+
+zero_digit : decimal 0 ≡ digit_zero ∷ []
+unfolding digits
+zero_digit = refl
+
+pub denies : (code : ℕ) → (code ≡ 0 → ⊥) → codes "# deny code=" ++ decimal code ++ codes " by=" ≡ beginning_text code
+denies code some =
+    ap (λ (b : Bool). (if b then codes "# allow code=" else codes "# deny code=") ++ decimal code ++ codes " by=") (sym (not_zero code some))
+
+pub allows : (code : ℕ) → code ≡ 0 → codes "# allow code=0 by=" ≡ beginning_text code
+allows code h = sym (ap beginning_text h ∙ ap (λ (d : List ℕ). codes "# allow code=" ++ d ++ codes " by=") zero_digit)

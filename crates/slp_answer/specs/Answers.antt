@@ -1,0 +1,79 @@
+-- What is told of bytes: the reply, and the line that tells what came of them.
+use Rattle.std.specs.Prelude.{◌≡◌, ℕ, ◌==◌, List, [], Option, Some, None, if◌then◌else◌}
+use Rattle.std.specs.Option.{option_map_or}
+use Rattle.slp_headers.specs.Headers.{Heading, heading_of}
+use Rattle.slp_messages.specs.declared.function.TheConstants.{REGISTRATION, WITHDRAWAL}
+use Rattle.access_rules.specs.Deciding.{SiteRules}
+use Rattle.access_rules.specs.declared.rule.Action.{Action}
+use Rattle.access_rules.specs.declared.rule.Action.TheVariants.{Register, Withdraw, See}
+use Rattle.directory_judge.specs.History.{History, Event}
+use Rattle.directory_judge.specs.Meaning.{rules}
+use Rattle.directory_judge.specs.declared.reason.Because.{Because}
+use Rattle.directory_judge.specs.declared.change.Change.{Change}
+use Rattle.directory_answers.specs.Answers.{IsAnswer}
+use Rattle.directory_answers.specs.Calls.{Opening, Call}
+use Rattle.directory_answers.specs.Outcomes.{Outcome, code_outcome, code_sent, silence}
+use Rattle.directory_answers.specs.Verdicts.{IsLegal, history_with}
+use Rattle.directory_state.specs.Folds.{Fold, HandsOut}
+use Rattle.directory_state.specs.State.{State}
+use Rattle.slp_answer.specs.Audits.{audit_text}
+use Rattle.slp_answer.specs.declared.answer.Sent.{Sent}
+use Rattle.slp_answer.specs.declared.answer.Sent.TheVariants as sent
+use Rattle.slp_answer.specs.declared.audit.Audit.{Audit}
+
+-- ---- the line
+
+-- what a message of a function asks for
+abbrev pub action_of : ℕ → Action
+action_of function = if function == REGISTRATION then Register else (if function == WITHDRAWAL then Withdraw else See)
+
+-- what the line tells: a code and why, what was asked for, and by whom
+abbrev pub audit_in : ℕ → Heading → ℕ × Because → Audit
+audit_in asker h v = record { code = v.0; because = v.1; action = action_of h.function; asker = asker }
+
+-- the line of an outcome, where there is a verdict
+abbrev pub line_by : SiteRules → ℕ → Heading → Outcome → List ℕ
+line_by rs asker h r = option_map_or (λ v. audit_text rs (audit_in asker h v)) r.verdict []
+
+abbrev pub line_of : SiteRules → ℕ → Option Heading → Outcome → List ℕ
+line_of rs asker heading r = option_map_or (λ h. line_by rs asker h r) heading []
+
+-- what is told of what was decided, where there is a verdict
+abbrev pub outcome_of_finding : Heading → Option (ℕ × Because) → Outcome
+outcome_of_finding h found = option_map_or (λ f. code_outcome h f.0 f.1) found silence
+
+-- ---- what the code answers
+
+-- the code of what was sent, if anything was
+abbrev pub code_of : Sent → Option ℕ
+code_of (sent.Bytes code) = Some code
+code_of sent.Silence = None
+
+-- what was sent, and written as a reply and as a line, is the outcome
+pub record Tells (rs : SiteRules) (asker : ℕ) (heading : Option Heading) (r : Outcome) (what : Sent) (reply line : List ℕ) : Type 0 where
+  pub replied : reply ≡ r.reply
+  pub lined : line ≡ line_of rs asker heading r
+  pub sent : code_of what ≡ code_sent r
+
+-- what was answered to bytes that change nothing
+pub record Replies (o : Opening) (h : History) (c : Call) (what : Sent) (reply line : List ℕ) : Type 0 where
+  pub outcome : Outcome
+  pub is : IsAnswer o h c outcome None
+  pub told : Tells (rules o.rules h) c.asker (heading_of c.bytes) outcome what reply line
+
+-- what was answered to bytes, whatever loop they came to, and the change that is handed out
+pub record Acknowledges (o : Opening) (h : History) (m asker : ℕ) (bytes : List ℕ) (what : Sent) (change : Option Change) (reply line : List ℕ) : Type 0 where
+  pub outcome : Outcome
+  pub event : Option Event
+  pub is : (own limit : ℕ) → IsAnswer o h (record { own = own; moment = m; asker = asker; bytes = bytes; limit = limit }) outcome event
+  pub told : Tells (rules o.rules h) asker (heading_of bytes) outcome what reply line
+  pub handed : HandsOut o h change event
+
+-- what was answered to bytes, and the state after them: that of the history with their change
+pub record Steps (o : Opening) (h : History) (c : Call) (what : Sent) (reply line : List ℕ) (after : State) : Type 0 where
+  pub outcome : Outcome
+  pub event : Option Event
+  pub is : IsAnswer o h c outcome event
+  pub told : Tells (rules o.rules h) c.asker (heading_of c.bytes) outcome what reply line
+  pub legal : IsLegal o (history_with event h)
+  pub fold : Fold o (history_with event h) after

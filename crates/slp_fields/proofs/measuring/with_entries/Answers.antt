@@ -1,5 +1,0 @@
-use Rattle.slp_fields.proofs.Sums.{are_sound}
-use Rattle.slp_fields.proofs.measuring.with_entries.Goals as goal
-
-pub returns-clause-sound : goal.returns-clause-sound
-returns-clause-sound c = are_sound c.args.entries.now c.loop-entry.entry-index c.args.total c.loop-entry.total c.loop-entry-test.false c.loop-entry.invariant.length c.loop-entry.invariant.sound
