@@ -142,7 +142,7 @@ impl<R: Registry> Directory<R> {
 
     /// Makes a change: what is dead at its moment is dropped, and the clock raised. It has no answer for want of memory.
     pub fn apply(&mut self, change: Change)
-        ensures state_made { self.new ≡ state_made (content change) self.old }
+        ensures made { self.new ≡ state_made (content change) self.old }
         ensures fold { (o : Opening) (h : History) (c : Event) → Fold o h self.old → IsLegal o (c ∷ h)
             → StandsFor h (content change) c → Fold o (c ∷ h) self.new }
     {

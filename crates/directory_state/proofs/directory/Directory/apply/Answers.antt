@@ -13,8 +13,8 @@ use Rattle.registry_core.proofs.Lists.{passing_entries-is}
 use Rattle.directory_state.proofs.States.{entries_with-is, same_state}
 use Rattle.directory_state.proofs.directory.Directory.apply.Goals as goal
 
-pub returns-in-Put-clause-state_made : goal.returns-in-Put-clause-made
-returns-in-Put-clause-state_made g c =
+pub returns-in-Put-clause-made : goal.returns-in-Put-clause-made
+returns-in-Put-clause-made g c =
     let old = c.args.self.now in
     let moment = c.in-Put.placed.moment in
     let entry = arc_value c.in-Put.placed.entry in
@@ -28,8 +28,8 @@ returns-in-Put-clause-state_made g c =
     (ap (λ (s : State). s.rules) c.self.view_is) (ap (λ (s : State). s.site) c.self.view_is) c.now-self-inside.ensures
     ∙ ap (λ x. state_made (content x) old) (sym c.in-Put.is)
 
-pub returns-in-Sweep-clause-state_made : goal.returns-in-Sweep-clause-made
-returns-in-Sweep-clause-state_made g c =
+pub returns-in-Sweep-clause-made : goal.returns-in-Sweep-clause-made
+returns-in-Sweep-clause-made g c =
     let old = c.args.self.now in
     let swept = passing_entries-is (outlives c.in-Sweep.moment) old.entries (g.R.Registry.contents c.sweep-in-Sweep.new.self) (λ q.
     c.sweep-in-Sweep.ensures.each q ∙ ap (λ m. if_kept (outlives m) (fin.get (g.R.Registry.contents c.self.inside.registry) q)) c.from-in-Sweep.ensures ∙ ap (λ (s : State). if_kept (outlives c.in-Sweep.moment) (fin.get s.entries q)) c.self.view_is) in
@@ -37,8 +37,8 @@ returns-in-Sweep-clause-state_made g c =
     swept (ap (λ (s : State). s.rules) c.self.view_is) (ap (λ (s : State). s.site) c.self.view_is) c.now-self-inside-in-Sweep.ensures
     ∙ ap (λ x. state_made (content x) old) (sym c.in-Sweep.is)
 
-pub returns-in-Withdraw-clause-state_made : goal.returns-in-Withdraw-clause-made
-returns-in-Withdraw-clause-state_made g c =
+pub returns-in-Withdraw-clause-made : goal.returns-in-Withdraw-clause-made
+returns-in-Withdraw-clause-made g c =
     let old = c.args.self.now in
     let w : Withdrawing = record { url = (arc_value c.in-Withdraw.withdrawn).url; scopes = (arc_value c.in-Withdraw.withdrawn).scopes } in
     let swept = passing_entries-is (outlives c.in-Withdraw.moment) old.entries (g.R.Registry.contents c.sweep-in-Withdraw.new.self) (λ q.
@@ -54,14 +54,14 @@ returns-in-Withdraw-clause-state_made g c =
 pub returns-in-Put-clause-fold : goal.returns-in-Put-clause-fold
 returns-in-Put-clause-fold g c = λ o h event fold legal stands.
     let old = c.args.self.now in
-    subst (Fold o (event ∷ h)) (sym (returns-in-Put-clause-state_made g c)) (Fold-state_made o h (content c.args.change) event old fold legal.0 (possible o h event.moment event.act legal.1) stands)
+    subst (Fold o (event ∷ h)) (sym (returns-in-Put-clause-made g c)) (Fold-state_made o h (content c.args.change) event old fold legal.0 (possible o h event.moment event.act legal.1) stands)
 
 pub returns-in-Sweep-clause-fold : goal.returns-in-Sweep-clause-fold
 returns-in-Sweep-clause-fold g c = λ o h event fold legal stands.
     let old = c.args.self.now in
-    subst (Fold o (event ∷ h)) (sym (returns-in-Sweep-clause-state_made g c)) (Fold-state_made o h (content c.args.change) event old fold legal.0 (possible o h event.moment event.act legal.1) stands)
+    subst (Fold o (event ∷ h)) (sym (returns-in-Sweep-clause-made g c)) (Fold-state_made o h (content c.args.change) event old fold legal.0 (possible o h event.moment event.act legal.1) stands)
 
 pub returns-in-Withdraw-clause-fold : goal.returns-in-Withdraw-clause-fold
 returns-in-Withdraw-clause-fold g c = λ o h event fold legal stands.
     let old = c.args.self.now in
-    subst (Fold o (event ∷ h)) (sym (returns-in-Withdraw-clause-state_made g c)) (Fold-state_made o h (content c.args.change) event old fold legal.0 (possible o h event.moment event.act legal.1) stands)
+    subst (Fold o (event ∷ h)) (sym (returns-in-Withdraw-clause-made g c)) (Fold-state_made o h (content c.args.change) event old fold legal.0 (possible o h event.moment event.act legal.1) stands)
