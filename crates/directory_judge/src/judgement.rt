@@ -2,8 +2,8 @@ ghost use Rattle.std.specs.Prelude.{◌≡◌, IfOk};
 ghost use Rattle.std.specs.Option.{option_map};
 ghost use Rattle.directory_judge.specs.Judgements.{because_of, finding_of, because_of_placed, judgement_in, change_of, finding_in};
 
-use crate::reason::{Because, Decider, Finding, Reason};
 use crate::change::{Change, Placed};
+use crate::reason::{Because, Decider, Finding, Reason};
 use slp_messages::code;
 use slp_text::NoMemory;
 use std::alloc::Global;

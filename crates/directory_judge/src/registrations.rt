@@ -11,11 +11,11 @@ ghost use Rattle.directory_judge.specs.declared.judgement.Judged.TheVariants as 
 ghost use Rattle.directory_judge.specs.Judgements.{Accepts, because_of, code_by, denial_of_old, denial, denial_of_room, because_of_entry, judgement_in, judgement_of_particulars, judgement_of_registration, judgement, IsChange, IsJudgement};
 ghost use Rattle.directory_judge.specs.declared.particulars.Particulars.{Particulars};
 
-use crate::reason::{Decider, Reason};
 use crate::change::Placed;
 use crate::grounds::Grounds;
 use crate::judgement::{Decision, Judged};
-use crate::particulars::{Reading, Particulars, is_agent, name, read_kind};
+use crate::particulars::{Particulars, Reading, is_agent, name, read_kind};
+use crate::reason::{Decider, Reason};
 use crate::ruling::{deny, deny_by};
 use crate::site::Site;
 use access_rules::{Action, Addr, Rules};
@@ -148,7 +148,12 @@ impl<'a, R: Registry> Grounds<'a, R> {
         }
         match name(alloc, self.site, header, registration, kind)? {
             Reading::Denied(decider) => Ok(Decision::Judged(deny_by(decider))),
-            Reading::Read(particulars) => self.judge_particulars(alloc, header, registration, particulars),
+            Reading::Read(particulars) => self.judge_particulars(
+                alloc,
+                header,
+                registration,
+                particulars,
+            ),
         }
     }
 }

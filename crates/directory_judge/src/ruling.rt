@@ -1,8 +1,8 @@
 ghost use Rattle.std.specs.Prelude.{◌≡◌, IfOk, None};
 ghost use Rattle.directory_judge.specs.Judgements.{because_in, because_of, by_step, code_by, decider_of};
 
-use crate::reason::{Because, Decider, Reason};
 use crate::judgement::Judged;
+use crate::reason::{Because, Decider, Reason};
 use access_rules::Verdict;
 use service_url::ServiceType;
 use slp_text::{Key, NoMemory};

@@ -11,11 +11,11 @@ ghost use Rattle.directory_judge.specs.Judgements.{concerned_entries, entries_in
 ghost use Rattle.directory_judge.specs.Walks.{earlier_ruling, entry_in, walk_with, IsRuledWalk, IsVisit};
 ghost use Rattle.directory_judge.specs.Withdrawals.{withdrawal_of_texts};
 
-use crate::reason::Decider;
 use crate::change::{Change, Withdrawn};
 use crate::grounds::Grounds;
 use crate::judgement::Judged;
 use crate::particulars::{names_tags, read_supported, read_url};
+use crate::reason::Decider;
 use crate::ruling::{Ruling, deny, deny_by};
 use crate::site::Site;
 use access_rules::Action;

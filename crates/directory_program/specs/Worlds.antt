@@ -106,7 +106,7 @@ bad_length_text TooShort = codes "! too-short" ++ line_feed ∷ []
 bad_length_text NoMemory = []
 
 abbrev pub closed_text : List ℕ
-closed_text = codes "! closed_text" ++ line_feed ∷ []
+closed_text = codes "! closed" ++ line_feed ∷ []
 
 -- what is written of the rest of a stream, and what is left of it: a bad length is told once
 abbrev pub end_text : Front → List ℕ

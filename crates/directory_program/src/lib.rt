@@ -2,9 +2,9 @@
 #![tactic(auto)]
 
 mod agent;
+mod exchange;
 mod fault;
 mod line_input;
-mod exchange;
 mod output;
 mod program;
 mod progress;

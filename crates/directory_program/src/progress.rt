@@ -8,8 +8,8 @@ ghost use Rattle.directory_program.specs.Sessions.{Acts, config_fault_text, conf
 ghost use Rattle.directory_program.specs.Turns.{Closes, block_text_with, TurnsOutside, TurnsInside, OutsideFails, InsideFails, TurnsTo, TurnFails};
 ghost use Rattle.directory_program.specs.declared.fault.RunFault.TheVariants as fault;
 
-use crate::fault::RunFault;
 use crate::exchange::meet;
+use crate::fault::RunFault;
 use crate::session::{LONGEST_ON_STREAM, LONGEST_REPLY, Session};
 use crate::stream::take_piece;
 use access_rules::Addr;

@@ -5,8 +5,8 @@ ghost use Rattle.directory_program.specs.Worlds.{bad_length_text};
 ghost use Rattle.directory_program.specs.declared.fault.RunFault.TheVariants as fault;
 
 use crate::agent::Agent;
-use crate::fault::RunFault;
 use crate::exchange::meet;
+use crate::fault::RunFault;
 use crate::session::{LONGEST_ON_STREAM, Session};
 use slp_answer::Answer;
 use slp_stream::{FrameFault, Framer};

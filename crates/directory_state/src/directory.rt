@@ -16,7 +16,7 @@ ghost use Rattle.directory_state.specs.State.{State, opening_state, state_made};
 ghost use Rattle.directory_answers.specs.Verdicts.{IsLegal, IsVerdict};
 ghost use Rattle.directory_state.specs.Folds.{IsJudgedAs};
 
-use crate::search::{FoundItems, Shortlist, Room, Search};
+use crate::search::{FoundItems, Room, Search, Shortlist};
 use access_rules::{Addr, Rules};
 use directory_answers::{QueryFault, ServiceQuery};
 use directory_judge::{Change, Decision, Grounds, Judged, Placed, Site, lent};

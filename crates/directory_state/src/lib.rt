@@ -4,8 +4,8 @@
 
 mod deadlines;
 mod directory;
-mod search;
 pub mod laws;
+mod search;
 
 pub use deadlines::Deadlines;
 pub use directory::Directory;

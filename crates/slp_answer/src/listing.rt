@@ -9,7 +9,7 @@ ghost use Rattle.slp_answer.specs.ServiceReplies.{service_reply};
 
 use directory_state::{FoundItems, Room};
 use slp_text::NoMemory;
-use slp_wire::{HeaderView, append, code, flag, function, opening, offset, put_entry, two_bytes};
+use slp_wire::{HeaderView, append, code, flag, function, offset, opening, put_entry, two_bytes};
 
 // The bytes of a reply with no item, but for the language tag: a header, a code and a count.
 const EMPTY_REPLY: usize = offset::TAG + 2 + 2;

@@ -1,14 +1,13 @@
 //! The fields of a body (RFC 2608, sections 4.3, 8 and 9): reading one, and writing a list of them.
 #![tactic(auto)]
 
-mod writing;
 mod fault;
 mod field;
 mod lengths;
 mod reading;
 mod skipping;
+mod writing;
 
-pub use writing::{append, put_entry, put_fields};
 pub use fault::WireFault;
 pub use field::Field;
 pub use lengths::{LONGEST, entry_length, with_fields};
@@ -17,3 +16,4 @@ pub use reading::{
     str_of, text_of,
 };
 pub use skipping::skip_fields;
+pub use writing::{append, put_entry, put_fields};

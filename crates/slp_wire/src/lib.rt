@@ -11,7 +11,7 @@ mod writing;
 pub use reading::{decode, read_change, read_service_request};
 pub use slp_fields::{WireFault, append, entry_length, put_entry};
 pub use slp_headers::{
-    HeaderView, error_reply, flag, opening, offset, read_header, reply_function, two_bytes,
+    HeaderView, error_reply, flag, offset, opening, read_header, reply_function, two_bytes,
 };
 pub use slp_messages::{
     AttributeReply, AttributeRequest, Authority, ChangeView, DirectoryAdvert, DirectoryAgent,

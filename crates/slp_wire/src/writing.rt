@@ -10,7 +10,7 @@ use slp_bodies::{
     type_request_fields, types_fields, withdrawal_fields,
 };
 use slp_fields::{Field, LONGEST, WireFault, append, put_fields, with_fields};
-use slp_headers::{flag, opening, offset};
+use slp_headers::{flag, offset, opening};
 use slp_messages::{
     AttributeReply, DirectoryAdvert, Flags, Header, Message, ServiceReply, TypeReply, function,
 };
