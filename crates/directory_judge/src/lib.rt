@@ -16,5 +16,5 @@ pub use grounds::Grounds;
 pub use judgement::{Decision, Judged};
 pub use particulars::{is_agent, read_kind, read_scopes};
 pub use reason::{Because, Decider, Finding, Reason};
-pub use registrations::{judge_on, lent};
+pub use registrations::{change_view, judge_on};
 pub use site::Site;

@@ -7,7 +7,7 @@ use slp_messages::code;
 use slp_text::{Key, NoMemory};
 use std::alloc::Global;
 
-/// Who decided on a message: a rule by its place, the default, or the step of judging that found a
+/// Who decided on a message: a rule by its index, the default, or the step of judging that found a
 /// fault. `Nobody` stands where nothing had to be decided.
 #[derive(Clone, Copy, Debug, PartialEq, Eq)]
 pub enum Decider {

@@ -177,7 +177,7 @@ impl<R: Registry> Grounds<'_, R> {
 }
 
 /// A message that may change something, lent.
-pub fn lent(message: &Message) -> ChangeView<'_>
+pub fn change_view(message: &Message) -> ChangeView<'_>
     requires { IsChange message.now }
     ensures { message_in result ≡ message.now }
 {
@@ -214,6 +214,6 @@ pub fn judge_on<R: Registry>(
         moment: now,
         asker,
     };
-    let decided = grounds.judge(alloc, &lent(message))?;
+    let decided = grounds.judge(alloc, &change_view(message))?;
     decided.judged(alloc)
 }

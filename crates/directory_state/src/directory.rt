@@ -19,7 +19,7 @@ ghost use Rattle.directory_state.specs.Folds.{IsJudgedAs};
 use crate::search::{FoundItems, Room, Search, Shortlist};
 use access_rules::{Addr, Rules};
 use directory_answers::{QueryFault, ServiceQuery};
-use directory_judge::{Change, Decision, Grounds, Judged, Placed, Site, lent};
+use directory_judge::{Change, Decision, Grounds, Judged, Placed, Site, change_view};
 use registry_core::Registry;
 use slp_messages::{ChangeView, Message, UrlEntry};
 use slp_text::NoMemory;
@@ -115,7 +115,7 @@ impl<R: Registry> Directory<R> {
         ensures { (o : Opening) (h : History) → Fold o h self.now → IsLegal o h
             → IfOk result (λ j. (v : Judgement) × IsVerdict o h moment asker message.now v × IsJudgedAs h j v) }
     {
-        let decided = self.judge_change(alloc, moment, asker, &lent(message))?;
+        let decided = self.judge_change(alloc, moment, asker, &change_view(message))?;
         decided.judged(alloc)
     }
 
