@@ -1,4 +1,4 @@
-use crate::holding::assert_holds;
+use crate::assertion::assert_holds;
 use access_rules::{Addr, number};
 
 static NUMBERS: [(&str, Option<u32>); 8] = [

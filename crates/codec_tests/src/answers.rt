@@ -1,5 +1,5 @@
+use crate::assertion::assert_holds;
 use crate::directories::opened;
-use crate::holding::assert_holds;
 use crate::messages::{REGISTRATION, REQUEST};
 use access_rules::{Action, Addr, Rules};
 use directory_judge::{Because, Decider};

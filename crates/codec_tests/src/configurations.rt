@@ -1,4 +1,4 @@
-use crate::holding::assert_holds;
+use crate::assertion::assert_holds;
 use access_rules::Addr;
 use site_config::{Config, ConfigFault, LONGEST_CONFIG};
 use slp_text::Text;

@@ -1,6 +1,6 @@
 ghost use Rattle.std.specs.Prelude.{◌<◌, ◌≤◌};
 
-use crate::holding::assert_holds;
+use crate::assertion::assert_holds;
 use crate::registries::{entry_in, one_scope};
 use access_rules::{Addr, Rules};
 use directory_judge::{Change, Placed, Site, Withdrawn};

@@ -7,13 +7,13 @@ mod addresses;
 #[cfg(test)]
 mod answers;
 #[cfg(test)]
+mod assertion;
+#[cfg(test)]
 mod configurations;
 #[cfg(test)]
 mod directories;
 #[cfg(test)]
-mod holding;
-#[cfg(test)]
-mod judging;
+mod judgements;
 #[cfg(test)]
 mod messages;
 #[cfg(test)]

@@ -1,6 +1,6 @@
 mod rows;
 
-use crate::holding::assert_holds;
+use crate::assertion::assert_holds;
 use rows::*;
 pub use rows::{REGISTRATION, REQUEST, WITHDRAWAL};
 use slp_text::{Row, Text};

@@ -2,7 +2,7 @@ ghost use Rattle.std.specs.Prelude.{◌≡◌, ◌≤◌, length, IfOk};
 ghost use Rattle.slp_text.specs.Scopes.{printed_scopes};
 ghost use Rattle.std.specs.Arc.{arc_value};
 
-use crate::holding::assert_holds;
+use crate::assertion::assert_holds;
 use registry_core::{Entry, ListRegistry, Registry, RegistryFault};
 use service_url::{ServiceType, Url};
 use slp_text::{ScopeList, key};

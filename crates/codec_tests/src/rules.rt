@@ -1,4 +1,4 @@
-use crate::holding::assert_holds;
+use crate::assertion::assert_holds;
 use access_rules::{Action, Addr, Prefix, Rule, Rules};
 use service_url::ServiceType;
 use slp_text::{Row, ScopeList, Text, key};

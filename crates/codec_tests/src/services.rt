@@ -1,4 +1,4 @@
-use crate::holding::assert_holds;
+use crate::assertion::assert_holds;
 use service_url::{ServiceType, Url, UrlFault, parse_authority};
 use std::alloc::Global;
 use std::test::Fail;

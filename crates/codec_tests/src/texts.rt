@@ -1,4 +1,4 @@
-use crate::holding::assert_holds;
+use crate::assertion::assert_holds;
 use slp_text::{
     Key, Place, Row, ScopeList, TagList, Text, TextFault, cut, escape_into, is_blank, key,
     unescape, unescape_any,

@@ -43,7 +43,7 @@ use Rattle.directory_judge.specs.declared.change.Change.{Change}
 use Rattle.directory_judge.specs.declared.change.Change.TheVariants as change
 use Rattle.directory_judge.specs.declared.change.Placed.{Placed}
 use Rattle.directory_judge.specs.declared.judgement.Decision.{Decision}
-use Rattle.directory_judge.specs.declared.judgement.Decision.TheVariants as decided
+use Rattle.directory_judge.specs.declared.judgement.Decision.TheVariants as decision
 use Rattle.directory_judge.specs.declared.judgement.Judged.{Judged}
 use Rattle.directory_judge.specs.declared.ruling.Ruling.{Ruling}
 use Rattle.directory_judge.specs.declared.judgement.Judged.TheVariants as judged
@@ -341,8 +341,8 @@ judgement g (message.ServiceAdvert h a) = Waits
 
 -- what was decided, with what it was decided on
 abbrev pub judgement_in : Decision → Judged
-judgement_in (decided.Founded placed d) = judged.Accept (change.Put placed) (because_of_placed d placed)
-judgement_in (decided.Judged j) = j
+judgement_in (decision.Founded placed d) = judged.Accept (change.Put placed) (because_of_placed d placed)
+judgement_in (decision.Judged j) = j
 
 -- the code of it, and who decided on what, where there is a verdict
 abbrev pub finding_in : Judged → Option (ℕ × Because)

@@ -14,7 +14,7 @@ use Rattle.slp_answer.specs.declared.answer.Sent.{Sent}
 use Rattle.slp_stream.specs.Cutting.{front_of, IsCut}
 use Rattle.slp_stream.specs.Framing.{Frames}
 use Rattle.slp_script.specs.Commands.{Command}
-use Rattle.directory_program.specs.Worlds.{World, opening_of, call_of, Answers, AnswersAll, Pieces, Does, closed_text, fault_number, configured_world, end_text, end_refused, longest_on_stream}
+use Rattle.directory_program.specs.Worlds.{World, opening_of, call_of, Answers, AnswersAll, Pieces, Does, closed_text, fault_number, configured_world, end_text, end_refused, longest_on_stream, config_fault_text, configured_text}
 use Rattle.site_config.specs.declared.config.Config.{Config}
 use Rattle.site_config.specs.declared.fault.ConfigFault.{ConfigFault}
 use Rattle.directory_program.specs.declared.agent.Agent.{Agent}
@@ -67,11 +67,8 @@ Drains a f now b g = (w : World) → IsAgent w a
     × IsAgent u b
 
 -- what is written of a configuration
-abbrev pub config_fault_text : ConfigFault → List ℕ
-config_fault_text e = codes "! config " ++ decimal (fault_number e) ++ line_feed ∷ []
-
 abbrev pub config_text : Result (Unit {0}) ConfigFault → List ℕ
-config_text (Ok x) = codes "# config" ++ line_feed ∷ []
+config_text (Ok x) = configured_text
 config_text (Err e) = config_fault_text e
 
 -- what came of a configuration, and the agent after it: that of the new site, or the one that it was

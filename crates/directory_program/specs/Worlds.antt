@@ -142,6 +142,13 @@ fault_number Missing = 2
 fault_number Range = 3
 fault_number config.NoMemory = 4
 
+-- what is written of a configuration that is taken, and of one that is refused
+abbrev pub configured_text : List ℕ
+configured_text = codes "# config" ++ line_feed ∷ []
+
+abbrev pub config_fault_text : ConfigFault → List ℕ
+config_fault_text e = codes "! config " ++ decimal (fault_number e) ++ line_feed ∷ []
+
 -- the text of a block: its lines, each with its LF
 abbrev pub text_of : List Line → List ℕ
 text_of body = flat_map line_bytes body
@@ -157,8 +164,8 @@ configured_world c w = record w { site = site_in c; history = []; listen = c.lis
 -- what a configuration may write, and what it leaves: a new site, unless it is refused or too late
 abbrev pub Configures : Bool → World → Result Config ConfigFault → List ℕ → World → Type 0
 Configures true w read out v = (out ≡ codes "! late" ++ line_feed ∷ []) × (v ≡ w)
-Configures false w (Ok c) out v = (out ≡ codes "# config" ++ line_feed ∷ []) × (v ≡ configured_world c w)
-Configures false w (Err e) out v = (out ≡ codes "! config " ++ decimal (fault_number e) ++ line_feed ∷ []) × (v ≡ w)
+Configures false w (Ok c) out v = (out ≡ configured_text) × (v ≡ configured_world c w)
+Configures false w (Err e) out v = (out ≡ config_fault_text e) × (v ≡ w)
 
 -- what a command may write, and what it leaves
 abbrev pub Does : World → Command → List ℕ → World → Type 0

@@ -4,7 +4,8 @@ ghost use Rattle.std.specs.Option.{option_map, option_copied};
 ghost use Rattle.slp_script.specs.Commands.{longest_line, Single};
 ghost use Rattle.slp_script.specs.declared.command.Block.TheVariants as block;
 ghost use Rattle.slp_script.specs.declared.command.Order.TheVariants as order;
-ghost use Rattle.directory_program.specs.Sessions.{Acts, config_fault_text, config_text};
+ghost use Rattle.directory_program.specs.Worlds.{config_fault_text};
+ghost use Rattle.directory_program.specs.Sessions.{Acts, config_text};
 ghost use Rattle.directory_program.specs.Turns.{Closes, block_text_with, TurnsOutside, TurnsInside, OutsideFails, InsideFails, TurnsTo, TurnFails};
 ghost use Rattle.directory_program.specs.declared.fault.RunFault.TheVariants as fault;
 

@@ -1,7 +1,7 @@
 use Rattle.std.proofs.Common.{◌≡◌, ◌∷◌, ◌++◌, [], codes, refl}
 use Rattle.std.specs.Fmt.{digits}
 use Rattle.site_config.specs.declared.fault.ConfigFault.TheVariants.{Toml, Missing, Range, NoMemory}
-use Rattle.directory_program.specs.Sessions.{config_fault_text}
+use Rattle.directory_program.specs.Worlds.{config_fault_text}
 use Rattle.directory_program.proofs.progress.print_fault.Goals as goal
 use Rattle.slp_text.specs.Ascii.{line_feed}
 

@@ -1,5 +1,5 @@
+use crate::assertion::assert_holds;
 use crate::directories::opened;
-use crate::holding::assert_holds;
 use crate::messages::{REGISTRATION, WITHDRAWAL};
 use crate::registries::one_scope;
 use access_rules::Addr;
