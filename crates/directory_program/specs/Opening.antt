@@ -9,7 +9,7 @@ use Rattle.directory_program.specs.declared.session.Session.{Session}
 
 -- nothing has happened, it is moment 0, and messages come from 10.0.0.1 to the first loop
 abbrev pub opening_agent : Agent
-opening_agent = record { directory = opening_state (record { rules = opening_rules; site = first_site }); listen = opening_listen; loop_index = 0; moment = 0; asker = 167772161 }
+opening_agent = record { directory = opening_state (record { rules = opening_rules; site = first_site }); listen = opening_listen; loop_index = 0; moment = 0; asker = 0x0A000001 }
 
 -- and nothing came on the stream
 abbrev pub opening_session : Session

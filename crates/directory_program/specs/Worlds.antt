@@ -58,11 +58,11 @@ pub record World : Type 0 where
 
 -- 127.0.0.1 and 127.0.0.2
 abbrev pub opening_listen : List (ℕ × ℕ)
-opening_listen = (2130706433, 427) ∷ (2130706434, 427) ∷ []
+opening_listen = (0x7F000001, 427) ∷ (0x7F000002, 427) ∷ []
 
 -- nothing happened to the opening site, it is moment 0, messages come from 10.0.0.1 to the first loop, and a stream is open
 abbrev pub opening_world : World
-opening_world = record { site = first_site; history = []; listen = opening_listen; loop = 0; moment = 0; asker = 167772161; stream = new_stream; late = false }
+opening_world = record { site = first_site; history = []; listen = opening_listen; loop = 0; moment = 0; asker = 0x0A000001; stream = new_stream; late = false }
 
 -- the address at which messages arrive
 abbrev pub own_at : List (ℕ × ℕ) → ℕ → ℕ
