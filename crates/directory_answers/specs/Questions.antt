@@ -1,8 +1,8 @@
 -- What a service request asks (RFC 2608, section 8.1).
-use Rattle.std.specs.Prelude.{ℕ, Bool, not, ◌==◌, ◌||◌, List, length, reverse, codes, Option, Some, None, if◌then◌else◌}
+use Rattle.std.specs.Prelude.{ℕ, Bool, not, ◌==◌, ◌||◌, List, length, codes, Option, Some, None, if◌then◌else◌}
 use Rattle.std.specs.List.{list_any, slice_split}
 use Rattle.std.specs.Result.{result_ok}
-use Rattle.slp_text.specs.Keys.{key_of, trim_start}
+use Rattle.slp_text.specs.Keys.{key_of, trimmed_text}
 use Rattle.slp_text.specs.Scopes.{is_comma, scopes_of}
 use Rattle.slp_text.specs.Words.{bytes_eq, is_blank}
 use Rattle.slp_messages.specs.declared.header.Header.{Header}
@@ -12,10 +12,6 @@ use Rattle.access_rules.specs.Addresses.{address_text}
 use Rattle.directory_judge.specs.Judgements.{is_agent}
 use Rattle.directory_answers.specs.declared.question.Question.{Question}
 use Rattle.directory_answers.specs.declared.question.Question.TheVariants.{Silent, Unreadable, Asks}
-
--- without white space at its ends
-abbrev pub trimmed_text : List ℕ → List ℕ
-trimmed_text text = reverse (trim_start (reverse (trim_start text)))
 
 -- the address is one of those that have answered, which stand between commas
 abbrev pub has_answered : ℕ → List ℕ → Bool

@@ -139,7 +139,7 @@ set_scopes : (ks : List (List ℕ)) → AllByRecursion IsSpelled ks → AllByRec
 set_scopes [] h = tt
 set_scopes (k ∷ ks) h = all_with IsSpelled k (set_of ks) h.0 (set_scopes ks h.1)
 
-key_of-folded_text : (k : List ℕ) → key_of k ≡ folded_text (chars k)
+pub key_of-folded_text : (k : List ℕ) → key_of k ≡ folded_text (chars k)
 unfolding key_of
 key_of-folded_text k = refl
 
@@ -183,7 +183,7 @@ digit-no_comma d h = grind (arith, nat_tests)
 raw-no_comma : (c : ℕ) → is_reserved Scope c ≡ false → is_comma c ≡ false
 raw-no_comma c h = grind (arith, nat_tests)
 
-digit-scalar : (d : ℕ) → d < 16 → scalar (capital_digit d) ≡ true
+pub digit-scalar : (d : ℕ) → d < 16 → scalar (capital_digit d) ≡ true
 digit-scalar d h = grind (arith, nat_tests)
 
 all_append : (P : ℕ → Type 0) (xs ys : List ℕ) → AllByRecursion P xs → AllByRecursion P ys → AllByRecursion P (xs ++ ys)
@@ -231,7 +231,7 @@ plain-scalars : (cs : List ℕ) → AllByRecursion (λ d. (is_comma d ≡ false)
 plain-scalars [] h = refl
 plain-scalars (c ∷ cs) h = ap₂ (λ a b. a && b) h.0.1 (plain-scalars cs h.1)
 
-append-scalars : (cs ds : List ℕ) → scalars cs ≡ true → scalars ds ≡ true → scalars (cs ++ ds) ≡ true
+pub append-scalars : (cs ds : List ℕ) → scalars cs ≡ true → scalars ds ≡ true → scalars (cs ++ ds) ≡ true
 append-scalars [] ds p q = q
 append-scalars (c ∷ cs) ds p q = let both = and_parts (scalar c) (scalars cs) p in ap₂ (λ a b. a && b) both.0 (append-scalars cs ds both.1 q)
 

@@ -1,5 +1,5 @@
 -- Keys of texts: white space squeezed, case folded (RFC 2608, section 6.4).
-use Rattle.std.specs.Prelude.{ℕ, Bool, true, false, ◌==◌, ◌&&◌, ◌||◌, nat_le, nat_lt, List, [], ◌∷◌, chars, encode_utf8_all, if◌then◌else◌}
+use Rattle.std.specs.Prelude.{ℕ, Bool, true, false, ◌==◌, ◌&&◌, ◌||◌, nat_le, nat_lt, List, [], ◌∷◌, reverse, chars, encode_utf8_all, if◌then◌else◌}
 use Rattle.slp_text.specs.Ascii.{carriage_return, delete, line_feed, space, tab}
 use Rattle.caseless.specs.Caseless.{default_case_fold}
 
@@ -30,6 +30,10 @@ squeezed_by white blank xs = squeezed_rest_by white blank false (trimmed_by whit
 -- the characters from the first on that is not white space
 abbrev pub trim_start : List ℕ → List ℕ
 trim_start = trimmed_by is_white
+
+-- the characters with no white space at either end
+abbrev pub trimmed_text : List ℕ → List ℕ
+trimmed_text cs = reverse (trim_start (reverse (trim_start cs)))
 
 -- what follows a character in a squeezed text; gap says that white space came since
 abbrev pub squeezed_rest : Bool → List ℕ → List ℕ

@@ -7,6 +7,7 @@ pub mod Runs
 pub mod ScopeNames
 pub mod Scopes
 pub mod Sets
+pub mod Squeezing
 pub mod Steps
 pub mod Tags
 pub mod Words

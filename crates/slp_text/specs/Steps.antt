@@ -1,5 +1,5 @@
 -- Reading of escapes, one character or byte at a time.
-use Rattle.std.specs.Prelude.{◌≡◌, ℕ, List, [], ◌++◌, ◌+◌, ◌*◌, ◌<◌, Bool, ◌==◌, Result, Ok, Err, if◌then◌else◌}
+use Rattle.std.specs.Prelude.{◌≡◌, ℕ, List, [], ◌++◌, ◌+◌, ◌*◌, ◌<◌, Bool, false, ◌==◌, Option, Some, None, Result, Ok, Err, if◌then◌else◌}
 use Rattle.std.specs.Option.{option_map_or}
 use Rattle.slp_text.specs.Ascii.{backslash}
 use Rattle.slp_text.specs.Escapes.{digit_of, is_escapable, is_refused, unescaped_text_from}
@@ -14,6 +14,11 @@ use Rattle.slp_text.specs.declared.faults.TextFault.TheVariants.{BadEscape, Rese
 -- what an escape of two digits gives, where it may stand for what is allowed
 abbrev pub escape_with : (ℕ → Bool) → ℕ → ℕ → Result (Step ℕ) TextFault
 escape_with allowed d e = if allowed (16 * d + e) then Ok (Read (16 * d + e)) else Err BadEscape
+
+-- what may not stand raw at a place, if there is one
+abbrev pub is_refused_raw : Option Place → ℕ → Bool
+is_refused_raw None c = false
+is_refused_raw (Some place) c = is_refused place c
 
 -- what one character or byte more gives, which may be refused raw
 abbrev pub step_of : (ℕ → Bool) → Bool → Stage → ℕ → Result (Step ℕ) TextFault

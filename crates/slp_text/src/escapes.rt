@@ -1,8 +1,10 @@
 ghost use Rattle.std.specs.Prelude.{◌≡◌, ◌≢◌, ◌<◌, true, false, ◌++◌, IfOk, IfErr, OnErr, chars, string_bytes, encode_utf8_all};
 ghost use Rattle.slp_text.specs.Escapes as spec;
-ghost use Rattle.slp_text.specs.Escapes.{digit_of, written_character, unescaped_text, unescaped_bytes, escaped_text};
+ghost use Rattle.slp_text.specs.Escapes.{digit_of, written_character, unescaped_text, unescaped_text_at, unescaped_text_from, unescaped_bytes, escaped_text};
 ghost use Rattle.slp_text.specs.Reading.{read_map, IsReading, IsByteReading};
+ghost use Rattle.slp_text.specs.declared.escapes.Stage.TheVariants.{Plain};
 ghost use Rattle.slp_text.specs.declared.faults.TextFault.TheVariants.{NotUtf8};
+ghost use Rattle.slp_text.specs.Steps as raw;
 ghost use Rattle.slp_text.specs.Steps.{IsStage, IsWithinStage, BeginsWith, escape_with, step_of};
 
 use crate::faults::{NoMemory, TextFault};
@@ -116,15 +118,24 @@ pub fn read_step(stage: Stage, c: char, refused: bool) -> Result<Step<char>, Tex
     }
 }
 
-/// A text with its list escapes read: those of reserved characters, in any place. Another escape is
-/// `BadEscape`.
-pub fn unescape(alloc: Global, text: &str) -> Result<String, TextFault>
-    ensures { IsReading (read_map string_bytes result) (read_map encode_utf8_all (unescaped_text (chars text.now))) }
+// Whether a character may not stand raw, at a place if there is one.
+fn is_refused_raw(place: Option<Place>, c: char) -> bool
+    ensures { result ≡ raw.is_refused_raw place c }
+{
+    match place {
+        Some(place) => is_refused(place, c),
+        None => false,
+    }
+}
+
+// A text with its list escapes read, where nothing stands raw that may not at a place, if there is one.
+fn unescaped(alloc: Global, text: &str, place: Option<Place>) -> Result<String, TextFault>
+    ensures { IsReading (read_map string_bytes result) (read_map encode_utf8_all (unescaped_text_from spec.is_escapable (raw.is_refused_raw place) Plain (chars text.now))) }
 {
     let mut read = String::new(alloc);
     let mut stage = Stage::Plain;
     for c in text.chars() {
-        match read_step(stage, c, false)? {
+        match read_step(stage, c, is_refused_raw(place, c))? {
             Step::Within(next) => stage = next,
             Step::Read(d) => {
                 read.push(d)?;
@@ -138,6 +149,48 @@ pub fn unescape(alloc: Global, text: &str) -> Result<String, TextFault>
     }
 }
 
+/// A text with its list escapes read: those of reserved characters, in any place. Another escape is
+/// `BadEscape`.
+pub fn unescape(alloc: Global, text: &str) -> Result<String, TextFault>
+    ensures { IsReading (read_map string_bytes result) (read_map encode_utf8_all (unescaped_text (chars text.now))) }
+{
+    unescaped(alloc, text, None)
+}
+
+/// The same, where nothing that is reserved at a place stands raw: the first of that is `Reserved`. The first
+/// fault from the left is answered.
+pub fn unescape_at(alloc: Global, text: &str, place: Place) -> Result<String, TextFault>
+    ensures { IsReading (read_map string_bytes result) (read_map encode_utf8_all (unescaped_text_at place (chars text.now))) }
+{
+    unescaped(alloc, text, Some(place))
+}
+
+// Reads one character more of escapes of any byte; what stands raw is `Reserved`.
+fn read_escape(stage: Stage, c: char) -> Result<Step<u8>, TextFault>
+    requires { IsStage stage }
+    ensures value { result ≡ step_of (λ x. true) true stage c }
+    ensures stage { IfOk result (λ s. IsWithinStage s) }
+    ensures fault { IfErr result (λ e. e ≢ NotUtf8) }
+{
+    match stage {
+        Stage::Plain => {
+            if c == '\\' {
+                Ok(Step::Within(Stage::Slash))
+            } else {
+                Err(TextFault::Reserved)
+            }
+        }
+        Stage::Slash => match digit(c) {
+            Some(d) => Ok(Step::Within(Stage::Digit(d))),
+            None => Err(TextFault::BadEscape),
+        },
+        Stage::Digit(d) => match digit(c) {
+            Some(e) => Ok(Step::Read(16 * d + e)),
+            None => Err(TextFault::BadEscape),
+        },
+    }
+}
+
 // Reads one byte more of a text with escapes of any byte.
 fn read_byte(stage: Stage, b: u8) -> Result<Step<u8>, TextFault>
     requires { IsStage stage }
@@ -146,21 +199,29 @@ fn read_byte(stage: Stage, b: u8) -> Result<Step<u8>, TextFault>
     ensures fault { IfErr result (λ e. e ≢ NotUtf8) }
 {
     match stage {
-        Stage::Plain => {
-            if b == b'\\' {
-                Ok(Step::Within(Stage::Slash))
-            } else {
-                Ok(Step::Read(b))
+        Stage::Plain if b != b'\\' => Ok(Step::Read(b)),
+        _ => read_escape(stage, char::from(b)),
+    }
+}
+
+/// The bytes of a text that is nothing but escapes, each of any byte. What stands raw is `Reserved`.
+pub fn unescape_all(alloc: Global, text: &str) -> Result<Vec<u8>, TextFault>
+    ensures { IsReading (read_map (λ v. v.items) result) (unescaped_text_from (λ b. true) (λ c. true) Plain (chars text.now)) }
+{
+    let mut read = Vec::new(alloc);
+    let mut stage = Stage::Plain;
+    for c in text.chars() {
+        match read_escape(stage, c)? {
+            Step::Within(next) => stage = next,
+            Step::Read(b) => {
+                read.push(b)?;
+                stage = Stage::Plain;
             }
         }
-        Stage::Slash => match digit(char::from(b)) {
-            Some(d) => Ok(Step::Within(Stage::Digit(d))),
-            None => Err(TextFault::BadEscape),
-        },
-        Stage::Digit(d) => match digit(char::from(b)) {
-            Some(e) => Ok(Step::Read(16 * d + e)),
-            None => Err(TextFault::BadEscape),
-        },
+    }
+    match stage {
+        Stage::Plain => Ok(read),
+        _ => Err(TextFault::BadEscape),
     }
 }
 

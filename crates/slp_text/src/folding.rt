@@ -1,35 +1,70 @@
-ghost use Rattle.std.specs.Prelude.{◌≡◌, IfOk, OnErr};
-ghost use Rattle.slp_text.specs.Keys.{is_white, key_of};
+ghost use Rattle.std.specs.Prelude.{◌≡◌, ℕ, List, ◌∷◌, IfOk, OnErr, chars, string_bytes, encode_utf8_all};
+ghost use Rattle.slp_text.specs.Keys.{is_white, key_of, squeezed_text, trimmed_text};
+ghost use Rattle.slp_text.specs.Squeezing.{squeezed_with};
 ghost use Rattle.slp_text.specs.Words as spec;
 ghost use Rattle.slp_text.specs.declared.faults.TextFault.TheVariants as fault;
 
 use crate::ascii::{is_word, word_key};
-use crate::faults::TextFault;
+use crate::faults::{NoMemory, TextFault};
 use crate::keys::Key;
 use caseless::Caseless;
 use std::alloc::Global;
+
+const WHITE_SPACE: [char; 4] = [' ', '\t', '\n', '\r'];
+
+// A text that is squeezed as it is made.
+#[derive(Drop)]
+struct Squeezed {
+    text: String,
+    // Whether a character came that is not white space.
+    begun: bool,
+    // Whether white space came since.
+    gap: bool,
+}
+
+impl Squeezed {
+    // Of no characters yet.
+    fn new(alloc: Global) -> Squeezed
+        ensures { (cs : List ℕ) → squeezed_with result.begun result.gap (string_bytes result.text) cs ≡ encode_utf8_all (squeezed_text cs) }
+    {
+        Squeezed {
+            text: String::new(alloc),
+            begun: false,
+            gap: false,
+        }
+    }
+
+    // Appends a character, after a space if white space came since the last one. White space itself is
+    // put off.
+    fn push(&mut self, c: char) -> Result<(), NoMemory>
+        ensures { IfOk result (λ _. (cs : List ℕ) → squeezed_with self.new.begun self.new.gap (string_bytes self.new.text) cs ≡ squeezed_with self.old.begun self.old.gap (string_bytes self.old.text) (c ∷ cs)) }
+    {
+        if is_white_space(c) {
+            self.gap = true;
+            return Ok(());
+        }
+        if self.begun && self.gap {
+            self.text.push(' ')?;
+        }
+        self.text.push(c)?;
+        self.begun = true;
+        self.gap = false;
+        Ok(())
+    }
+}
 
 // The key of any text. The text is gone through once, and the key is the one text that is made.
 fn folded_key(alloc: Global, text: &str) -> Result<Key, TextFault>
     ensures value { IfOk result (λ k. k ≡ key_of text.now) }
     ensures memory { OnErr result (result ≡ Err fault.NoMemory) }
 {
-    let mut folded = String::new(alloc);
-    let mut begun = false;
-    let mut gap = false;
+    let mut squeezed = Squeezed::new(alloc);
     for c in text.chars().default_case_fold() {
-        if is_white_space(c) {
-            gap = begun;
-        } else {
-            if gap {
-                folded.push(' ')?;
-            }
-            folded.push(c)?;
-            gap = false;
-            begun = true;
-        }
+        squeezed.push(c)?;
     }
-    Ok(Key { text: folded })
+    Ok(Key {
+        text: squeezed.text,
+    })
 }
 
 /// The key by which texts are compared (RFC 2608, section 6.4). It is the one text that is made.
@@ -41,6 +76,25 @@ pub fn key(alloc: Global, text: &str) -> Result<Key, TextFault>
         return word_key(alloc, text);
     }
     folded_key(alloc, text)
+}
+
+/// A text with its white space squeezed: none at either end, and one SPACE for each inner run of it.
+pub fn squeeze(alloc: Global, text: &str) -> Result<String, NoMemory>
+    ensures { IfOk result (λ s. string_bytes s ≡ encode_utf8_all (squeezed_text (chars text.now))) }
+{
+    let mut squeezed = Squeezed::new(alloc);
+    for c in text.chars() {
+        squeezed.push(c)?;
+    }
+    Ok(squeezed.text)
+}
+
+/// The part of a text between the white space at its two ends. Takes no memory.
+pub fn trim(text: &str) -> &str
+    ensures { chars result.now ≡ trimmed_text (chars text.now) }
+{
+    let rest = text.trim_start_matches(WHITE_SPACE);
+    rest.trim_end_matches(WHITE_SPACE)
 }
 
 /// Whether a character is SPACE, TAB, CR or LF.

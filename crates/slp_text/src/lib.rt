@@ -14,9 +14,12 @@ mod tags;
 mod texts;
 
 pub use cutting::cut;
-pub use escapes::{Place, capital_digit, escape_into, is_reserved, unescape, unescape_any};
+pub use escapes::{
+    Place, capital_digit, escape_into, is_reserved, unescape, unescape_all, unescape_any,
+    unescape_at,
+};
 pub use faults::{NoMemory, TextFault};
-pub use folding::{is_blank, key};
+pub use folding::{is_blank, key, squeeze, trim};
 pub use keys::Key;
 pub use rows::Row;
 pub use scopes::{ScopeList, is_plain};

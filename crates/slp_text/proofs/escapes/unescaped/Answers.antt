@@ -1,17 +1,15 @@
-use Rattle.std.proofs.Common.{ℕ, Bool, false, List, ◌∷◌, ◌++◌, Ok, refl, sym, ap, ◌∙◌, chars, encode_utf8, encode_utf8_all, append_assoc, append-nil}
+use Rattle.std.proofs.Common.{ℕ, List, ◌∷◌, ◌++◌, Ok, refl, sym, ap, ◌∙◌, chars, encode_utf8, encode_utf8_all, append_assoc, append-nil}
 use Rattle.std.specs.Prelude.{string_bytes}
 use Rattle.std.proofs.lemmas.Result.{err_from_is_err_and}
 use Rattle.std.proofs.lemmas.Str.{encodes-chars}
-use Rattle.slp_text.specs.Escapes.{is_escapable, unescaped_text}
+use Rattle.slp_text.specs.Escapes.{is_escapable}
 use Rattle.slp_text.specs.Reading.{read_map}
+use Rattle.slp_text.specs.Steps.{is_refused_raw, step_of}
 use Rattle.slp_text.specs.declared.escapes.Stage.TheVariants.{Plain}
 use Rattle.slp_text.proofs.Characters.{no_more, one_more}
 use Rattle.slp_text.proofs.Readers.{event_of, Follows-step, Follows-fault, fault_is}
 use Rattle.slp_text.proofs.EscapeReaders.{unescapes, unescape_event, unescape_reader}
-use Rattle.slp_text.proofs.escapes.unescape.Goals as goal
-
-abbrev raw : ℕ → Bool
-raw c = false
+use Rattle.slp_text.proofs.escapes.unescaped.Goals as goal
 
 abbrev from : List ℕ → List ℕ → List ℕ
 from text xs = text ++ encode_utf8_all xs
@@ -23,9 +21,9 @@ pub returns-in_err-next : goal.returns-in_err-next
 returns-in_err-next c =
     let now = c.loop-c.invariant in
     let cut = one_more now.0 _ _ c.in-Some.c now.1 c.in-Some.ensures.steps.0 in
-    let whole = read_map encode_utf8_all (unescaped_text (chars c.args.text.now)) in
-    let is = Follows-fault (unescapes is_escapable raw) (unescape_event is_escapable raw) (from (string_bytes c.loop-c.read)) c.loop-c.stage c.in-Some.c cut.0 whole c.in_err-next.field-0.0
-    (unescape_reader is_escapable raw) (ap event_of (sym c.in_err-next.ensures)) (rw cut.1 at now.2) in
+    let whole = read_map encode_utf8_all (unescapes is_escapable (is_refused_raw c.args.place) Plain (chars c.args.text.now)) in
+    let is = Follows-fault (unescapes is_escapable (is_refused_raw c.args.place)) (unescape_event is_escapable (is_refused_raw c.args.place)) (from (string_bytes c.loop-c.read)) c.loop-c.stage c.in-Some.c cut.0 whole c.in_err-next.field-0.0
+    (unescape_reader is_escapable (is_refused_raw c.args.place)) (ap (λ b. event_of (step_of is_escapable b c.loop-c.stage c.in-Some.c)) (sym c.is_refused_raw.ensures) ∙ ap event_of (sym c.in_err-next.ensures)) (rw cut.1 at now.2) in
     let p = err_from_is_err_and c.from_residual.result c.from_residual.ensures.1 in
     rw (p.1, p.2) (fault_is c.in_err-next.field-0.0 whole is)
 
@@ -35,8 +33,8 @@ loop-c-preserved-in-Within c =
     let cut = one_more now.0 _ _ c.in-Some.c now.1 c.in-Some.ensures.steps.0 in (
       cut.0,
       cut.2,
-      Follows-step (unescapes is_escapable raw) (unescape_event is_escapable raw) (from (string_bytes c.loop-c.read)) (from (string_bytes c.loop-c.read)) (λ xs. xs) c.loop-c.stage c.in-Within.next c.in-Some.c cut.0 _
-          (unescape_reader is_escapable raw) (ap event_of (sym c.in_ok-next.ensures ∙ ap Ok c.in-Within.is)) (λ xs. refl) (rw cut.1 at now.2),
+      Follows-step (unescapes is_escapable (is_refused_raw c.args.place)) (unescape_event is_escapable (is_refused_raw c.args.place)) (from (string_bytes c.loop-c.read)) (from (string_bytes c.loop-c.read)) (λ xs. xs) c.loop-c.stage c.in-Within.next c.in-Some.c cut.0 _
+          (unescape_reader is_escapable (is_refused_raw c.args.place)) (ap (λ b. event_of (step_of is_escapable b c.loop-c.stage c.in-Some.c)) (sym c.is_refused_raw.ensures) ∙ ap event_of (sym c.in_ok-next.ensures ∙ ap Ok c.in-Within.is)) (λ xs. refl) (rw cut.1 at now.2),
     )
 
 pub loop-c-preserved : goal.loop-c-preserved
@@ -46,8 +44,8 @@ loop-c-preserved c =
     let d = c.in-Read.d in (
       cut.0,
       cut.2,
-      Follows-step (unescapes is_escapable raw) (unescape_event is_escapable raw) (from (string_bytes c.loop-c.read)) (from (string_bytes c.push.new.self)) (λ xs. d ∷ xs) c.loop-c.stage Plain c.in-Some.c cut.0 _
-          (unescape_reader is_escapable raw) (ap event_of (sym c.in_ok-next.ensures ∙ ap Ok c.in-Read.is))
+      Follows-step (unescapes is_escapable (is_refused_raw c.args.place)) (unescape_event is_escapable (is_refused_raw c.args.place)) (from (string_bytes c.loop-c.read)) (from (string_bytes c.push.new.self)) (λ xs. d ∷ xs) c.loop-c.stage Plain c.in-Some.c cut.0 _
+          (unescape_reader is_escapable (is_refused_raw c.args.place)) (ap (λ b. event_of (step_of is_escapable b c.loop-c.stage c.in-Some.c)) (sym c.is_refused_raw.ensures) ∙ ap event_of (sym c.in_ok-next.ensures ∙ ap Ok c.in-Read.is))
           (λ xs. ap (λ t. t ++ encode_utf8_all xs) c.in_ok-push-in-Read.ensures.bytes ∙ append_assoc (string_bytes c.loop-c.read) (encode_utf8 d) (encode_utf8_all xs)) (rw cut.1 at now.2),
     )
 

@@ -1,0 +1,6 @@
+pub mod Forms
+pub mod Integers
+pub mod OpaqueBytes
+pub mod PrintedValues
+pub mod Rests
+pub mod Rows

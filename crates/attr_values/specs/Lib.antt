@@ -1,0 +1,4 @@
+pub mod Kinds
+pub mod Reading
+pub mod Rests
+pub mod Values

@@ -1,0 +1,40 @@
+ghost use Rattle.std.specs.Prelude.{◌≡◌};
+ghost use Rattle.attr_values.specs.Values.{fault_in_value};
+ghost use Rattle.attr_values.specs.declared.fault.AttrFault.TheVariants as fault;
+
+use slp_text::{NoMemory, TextFault};
+use thiserror::Error;
+
+/// Why a text is not an attribute list, or not a value of one.
+#[derive(Clone, Copy, Debug, PartialEq, Eq, Error)]
+pub enum AttrFault {
+    #[error("an escape that is not one")]
+    BadEscape = 1,
+    #[error("a tag that is empty, or has a reserved character")]
+    BadTag = 2,
+    #[error("not an attribute list")]
+    BadList = 3,
+    #[error("out of memory")]
+    NoMemory = 4,
+}
+
+impl From<NoMemory> for AttrFault {
+    ghost from_gives = { λ _ e. e ≡ fault.NoMemory };
+
+    fn from(_e: NoMemory) -> AttrFault {
+        AttrFault::NoMemory
+    }
+}
+
+// Of a value: what is reserved stands raw.
+impl From<TextFault> for AttrFault {
+    ghost from_gives = { λ t e. e ≡ fault_in_value t };
+
+    fn from(e: TextFault) -> AttrFault {
+        match e {
+            TextFault::BadEscape => AttrFault::BadEscape,
+            TextFault::Reserved | TextFault::NotUtf8 => AttrFault::BadList,
+            TextFault::NoMemory => AttrFault::NoMemory,
+        }
+    }
+}
