@@ -1,11 +1,10 @@
 -- Values of attributes, as they are read and as they are written (RFC 2608, section 5).
-use Rattle.std.specs.Prelude.{ℕ, zero, suc, ℤ, pos, negsuc, ◌+◌, ◌*◌, ◌-◌, ◌/◌, ◌%◌, ◌^◌, Bool, true, false, not, ◌==◌, ◌&&◌, ◌||◌, nat_lt, List, [], ◌∷◌, ◌++◌, flat_map, chars, codes, encode_utf8_all, Option, Some, None, Result, Ok, Err, if◌then◌else◌}
+use Rattle.std.specs.Prelude.{ℕ, zero, suc, ℤ, pos, negsuc, ◌+◌, ◌*◌, ◌-◌, ◌/◌, ◌%◌, ◌^◌, Bool, true, false, ◌==◌, ◌&&◌, ◌||◌, nat_lt, List, [], ◌∷◌, ◌++◌, flat_map, chars, codes, encode_utf8_all, Option, Some, None, Result, Ok, Err, if◌then◌else◌}
 use Rattle.std.specs.Fmt.{signed_decimal}
-use Rattle.std.specs.Ordering.{int_eq}
 use Rattle.std.specs.Option.{option_and_then, option_map_or}
 use Rattle.slp_text.specs.Ascii.{backslash, digit_zero, hyphen, is_digit, lower_f, upper_f}
 use Rattle.slp_text.specs.Escapes.{capital_digit, escaped_text, unescaped_text_at, unescaped_text_from}
-use Rattle.slp_text.specs.Keys.{key_of, squeezed_text, trimmed_text}
+use Rattle.slp_text.specs.Keys.{squeezed_text, trimmed_text}
 use Rattle.slp_text.specs.Scopes.{folded_text}
 use Rattle.slp_text.specs.Words.{bytes_eq}
 use Rattle.slp_text.specs.declared.escapes.Place.TheVariants as place
@@ -90,13 +89,3 @@ value_text (value.Bool false) = codes "false"
 value_text (value.Int n) = signed_decimal n
 value_text (value.Opaque bytes) = codes "\\FF" ++ flat_map escaped_byte bytes
 value_text (value.Text t) = encode_utf8_all (escaped_text place.Value (chars t))
-
--- ---- which values are equal
-
--- of one kind, and texts of one key
-abbrev pub is_same : Value → Value → Bool
-is_same (value.Bool a) (value.Bool b) = (a && b) || not (a || b)
-is_same (value.Int a) (value.Int b) = int_eq a b
-is_same (value.Opaque a) (value.Opaque b) = bytes_eq a b
-is_same (value.Text a) (value.Text b) = bytes_eq (key_of a) (key_of b)
-is_same _ _ = false
