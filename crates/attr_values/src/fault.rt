@@ -26,15 +26,13 @@ impl From<NoMemory> for AttrFault {
     }
 }
 
-// Of a value: what is reserved stands raw.
-impl From<TextFault> for AttrFault {
-    ghost from_gives = { λ t e. e ≡ fault_in_value t };
-
-    fn from(e: TextFault) -> AttrFault {
-        match e {
-            TextFault::BadEscape => AttrFault::BadEscape,
-            TextFault::Reserved | TextFault::NotUtf8 => AttrFault::BadList,
-            TextFault::NoMemory => AttrFault::NoMemory,
-        }
+// The fault of a value: what is reserved stands raw. It is no `From`, since in a tag that is another fault.
+pub fn value_fault(e: TextFault) -> AttrFault
+    ensures { result ≡ fault_in_value e }
+{
+    match e {
+        TextFault::BadEscape => AttrFault::BadEscape,
+        TextFault::Reserved | TextFault::NotUtf8 => AttrFault::BadList,
+        TextFault::NoMemory => AttrFault::NoMemory,
     }
 }

@@ -11,7 +11,7 @@ ghost use Rattle.attr_values.specs.Values.{is_f, opaque_bytes, value_by, value_o
 ghost use Rattle.attr_values.specs.declared.fault.AttrFault.TheVariants as fault;
 ghost use Rattle.attr_values.specs.declared.value.Value.TheVariants as value;
 
-use crate::fault::AttrFault;
+use crate::fault::{AttrFault, value_fault};
 use crate::integer::integer_of;
 use crate::value::Value;
 use slp_text::{Place, Row, Text, key, squeeze, trim, unescape_all, unescape_at};
@@ -45,8 +45,10 @@ fn opaque_value(alloc: Global, rest: &str) -> Result<Value, AttrFault>
     ensures value { IsReading result (value_by value.Opaque (opaque_bytes (chars rest.now))) }
     ensures kind { IfOk result IsValue }
 {
-    let bytes = unescape_all(alloc, rest)?;
-    Ok(Value::Opaque(Row::wrap(bytes)))
+    match unescape_all(alloc, rest) {
+        Ok(bytes) => Ok(Value::Opaque(Row::wrap(bytes))),
+        Err(e) => Err(value_fault(e)),
+    }
 }
 
 // The value that an unescaped and squeezed text is by its form.
@@ -56,7 +58,10 @@ fn value_of_form(alloc: Global, text: String) -> Result<Value, AttrFault>
     ensures kind { IfOk result IsValue }
     ensures memory { OnErr result (result ≡ Err fault.NoMemory) }
 {
-    let folded = key(alloc, text.as_str())?;
+    let folded = match key(alloc, text.as_str()) {
+        Ok(folded) => folded,
+        Err(e) => return Err(value_fault(e)),
+    };
     let word = folded.as_str();
     if word == "true" {
         return Ok(Value::Bool(true));
@@ -75,7 +80,10 @@ fn spelled_value(alloc: Global, text: &str) -> Result<Value, AttrFault>
     ensures value { IsReading result (value_by (λ read. spec.value_of_form (squeezed_text read)) (unescaped_text_at place.Value (chars text.now))) }
     ensures kind { IfOk result IsValue }
 {
-    let read = unescape_at(alloc, text, Place::Value)?;
+    let read = match unescape_at(alloc, text, Place::Value) {
+        Ok(read) => read,
+        Err(e) => return Err(value_fault(e)),
+    };
     let squeezed = squeeze(alloc, read.as_str())?;
     value_of_form(alloc, squeezed)
 }

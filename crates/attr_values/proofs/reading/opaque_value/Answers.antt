@@ -3,5 +3,5 @@ use Rattle.std.specs.List.{AllByRecursion}
 use Rattle.attr_values.proofs.OpaqueBytes.{are_bytes}
 use Rattle.attr_values.proofs.reading.opaque_value.Goals as goal
 
-pub returns-clause-kind : goal.returns-clause-kind
-returns-clause-kind c = subst (AllByRecursion (λ b. b < 256)) (sym c.wrap.ensures) (are_bytes (chars c.args.rest.now) c.in_ok-bytes.bytes.items c.in_ok-bytes.ensures)
+pub returns-in-Ok-clause-kind : goal.returns-in-Ok-clause-kind
+returns-in-Ok-clause-kind c = subst (AllByRecursion (λ b. b < 256)) (sym c.wrap.ensures) (are_bytes (chars c.args.rest.now) c.in-Ok.bytes.items c.in-Ok.ensures)

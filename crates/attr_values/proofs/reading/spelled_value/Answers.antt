@@ -10,5 +10,5 @@ value_of_form-requires c = stays_squeezed (string_bytes c.in_ok-squeezed.squeeze
 
 pub returns-clause-value : goal.returns-clause-value
 returns-clause-value c =
-    spelled _ (string_bytes c.in_ok-read.read) (string_bytes c.in_ok-squeezed.squeezed) c.value_of_form.result (IsUtf8-string_bytes c.in_ok-read.read) (IsUtf8-string_bytes c.in_ok-squeezed.squeezed)
-    c.in_ok-read.ensures (c.in_ok-squeezed.ensures ∙ ap (λ t. encode_utf8_all (squeezed_text (chars t))) c.as_str.ensures.value) c.value_of_form.ensures.value c.value_of_form.ensures.memory
+    spelled _ (string_bytes c.in-Ok.read) (string_bytes c.in_ok-squeezed.squeezed) c.value_of_form.result (IsUtf8-string_bytes c.in-Ok.read) (IsUtf8-string_bytes c.in_ok-squeezed.squeezed)
+    c.in-Ok.ensures (c.in_ok-squeezed.ensures ∙ ap (λ t. encode_utf8_all (squeezed_text (chars t))) c.as_str.ensures.value) c.value_of_form.ensures.value c.value_of_form.ensures.memory
