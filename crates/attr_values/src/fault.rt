@@ -3,6 +3,7 @@ ghost use Rattle.attr_values.specs.Values.{fault_in_value};
 ghost use Rattle.attr_values.specs.declared.fault.AttrFault.TheVariants as fault;
 
 use slp_text::{NoMemory, TextFault};
+use std::alloc::{AllocError, AllocFailed};
 use thiserror::Error;
 
 /// Why a text is not an attribute list, or not a value of one.
@@ -16,6 +17,22 @@ pub enum AttrFault {
     BadList = 3,
     #[error("out of memory")]
     NoMemory = 4,
+}
+
+impl From<AllocError> for AttrFault {
+    ghost from_gives = { λ _ e. e ≡ fault.NoMemory };
+
+    fn from(_e: AllocError) -> AttrFault {
+        AttrFault::NoMemory
+    }
+}
+
+impl<T: Drop> From<AllocFailed<T>> for AttrFault {
+    ghost from_gives = { λ _ e. e ≡ fault.NoMemory };
+
+    fn from(_e: AllocFailed<T>) -> AttrFault {
+        AttrFault::NoMemory
+    }
 }
 
 impl From<NoMemory> for AttrFault {

@@ -1,5 +1,5 @@
 -- White space at the ends of texts is cut off.
-use Rattle.std.proofs.Common.{◌≡◌, ℕ, ◌-◌, true, false, cond, List, [], ◌∷◌, ◌++◌, length, drop, Option, Some, None, refl, sym, ap, ◌∙◌, chars, encode_utf8, encode_utf8_all, arith, append_assoc, append-nil}
+use Rattle.std.proofs.Common.{◌≡◌, ℕ, ◌-◌, Bool, true, false, cond, List, [], ◌∷◌, ◌++◌, length, drop, Option, Some, None, refl, sym, ap, ◌∙◌, chars, encode_utf8, encode_utf8_all, arith, append_assoc, append-nil}
 use Rattle.std.specs.Prelude.{reverse, IsUtf8, IfSome}
 use Rattle.std.specs.Char.{IsScalar, char_set_contains}
 use Rattle.std.specs.List.{AllByRecursion}
@@ -45,6 +45,10 @@ start-reversed [] cs h = refl
 start-reversed (w ∷ ws) cs h =
     let white : trim_start (w ∷ cs) ≡ trim_start cs = rw h.0 refl in
     ap (λ xs. trim_start (xs ++ cs)) (reverse_onto ws w []) ∙ ap trim_start (append_assoc (reverse ws) (w ∷ []) cs) ∙ start-reversed ws (w ∷ cs) h.1 ∙ white
+
+-- what a pattern of white space answers
+abbrev pub FindsWhite : ((ℕ → Bool) → List ℕ → Option ℕ → Type 0) → List ℕ → Option ℕ → Type 0
+FindsWhite F s o = (k : ℕ → Bool) → ((c : ℕ) → char_set_contains (space ∷ tab ∷ line_feed ∷ carriage_return ∷ []) c ≡ k c) → F k s o
 
 -- ---- the start
 

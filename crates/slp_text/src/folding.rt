@@ -1,4 +1,5 @@
 ghost use Rattle.std.specs.Prelude.{◌≡◌, ℕ, List, ◌∷◌, IfOk, OnErr, chars, string_bytes, encode_utf8_all};
+ghost use Rattle.slp_text.specs.Keys as keys;
 ghost use Rattle.slp_text.specs.Keys.{is_white, key_of, squeezed_text, trimmed_text};
 ghost use Rattle.slp_text.specs.Squeezing.{squeezed_with};
 ghost use Rattle.slp_text.specs.Words as spec;
@@ -89,12 +90,18 @@ pub fn squeeze(alloc: Global, text: &str) -> Result<String, NoMemory>
     Ok(squeezed.text)
 }
 
+/// What comes after the white space at the start of a text. Takes no memory.
+pub fn trim_start(text: &str) -> &str
+    ensures { chars result.now ≡ keys.trim_start (chars text.now) }
+{
+    text.trim_start_matches(WHITE_SPACE)
+}
+
 /// The part of a text between the white space at its two ends. Takes no memory.
 pub fn trim(text: &str) -> &str
     ensures { chars result.now ≡ trimmed_text (chars text.now) }
 {
-    let rest = text.trim_start_matches(WHITE_SPACE);
-    rest.trim_end_matches(WHITE_SPACE)
+    trim_start(text).trim_end_matches(WHITE_SPACE)
 }
 
 /// Whether a character is SPACE, TAB, CR or LF.

@@ -19,7 +19,7 @@ pub use escapes::{
     unescape_at,
 };
 pub use faults::{NoMemory, TextFault};
-pub use folding::{is_blank, key, squeeze, trim};
+pub use folding::{is_blank, key, squeeze, trim, trim_start};
 pub use keys::Key;
 pub use rows::Row;
 pub use scopes::{ScopeList, is_plain};

@@ -1,0 +1,9 @@
+pub mod Gathered
+pub mod InnerCharacters
+pub mod ListedTexts
+pub mod Meaning
+pub mod PrintedAttributes
+pub mod ReadElements
+pub mod SpelledElements
+pub mod StoredAttributes
+pub mod WhiteKeys

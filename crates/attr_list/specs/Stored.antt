@@ -1,0 +1,33 @@
+-- What a list of attributes keeps.
+use Rattle.std.specs.Prelude.{ℕ, Bool, List, map, filter, not, if◌then◌else◌, T}
+use Rattle.slp_text.specs.Tags.{Part, selects}
+use Rattle.std.specs.FinMap as fin
+use Rattle.std.specs.FinMap.{is_sorted}
+use Rattle.std.specs.List.{AllByRecursion}
+use Rattle.slp_text.specs.Words.{bytes_cmp}
+use Rattle.attr_list.specs.Lists.{Attributes}
+use Rattle.attr_list.specs.Texts.{IsAttribute}
+use Rattle.attr_list.specs.declared.attrs.Attribute.{Attribute}
+use Rattle.attr_list.specs.declared.held.Held.{Held}
+
+-- a tag and what it holds
+abbrev pub pair_in : Attribute → List ℕ × Held
+pair_in a = (a.tag, a.held)
+
+abbrev pub pairs_in : List Attribute → List (List ℕ × Held)
+pairs_in = map pair_in
+
+abbrev pub attributes_stored : List Attribute → Attributes
+attributes_stored list = fin.from_sorted (pairs_in list)
+
+-- in key order, each tag once
+pub record AreStored (list : List Attribute) : Type 0 where
+  pub sorted : T (is_sorted bytes_cmp (pairs_in list))
+  pub each : AllByRecursion (λ a. IsAttribute a.tag a.held) list
+
+-- whether a list of tags does with a tag what is wanted
+abbrev pub is_picked : List Part → Bool → List ℕ → Bool
+is_picked tags selected tag = if selected then selects tags tag else not (selects tags tag)
+
+abbrev pub picked_attributes : List Part → Bool → List Attribute → List Attribute
+picked_attributes tags selected list = filter (λ a. is_picked tags selected a.tag) list

@@ -1,0 +1,12 @@
+//! Attribute lists (RFC 2608, section 5), which contracts see as finite maps from tags.
+#![tactic(auto)]
+
+mod attrs;
+mod combining;
+mod held;
+pub mod laws;
+mod writing;
+
+pub use attr_values::{AttrFault, Value, read_value};
+pub use attrs::Attrs;
+pub use held::Held;
