@@ -1,5 +1,9 @@
+pub mod Combined
+pub mod DistinctValues
 pub mod Gathered
+pub mod GatheredMaps
 pub mod InnerCharacters
+pub mod JoinedMaps
 pub mod ListedTexts
 pub mod Meaning
 pub mod PrintedAttributes

@@ -1,7 +1,9 @@
 pub mod Codes
 pub mod Elements
+pub mod Gathering
 pub mod Lists
 pub mod Maps
+pub mod Pieces
 pub mod Reading
 pub mod Stored
 pub mod Texts

@@ -1,11 +1,12 @@
 -- What a list of attributes keeps.
-use Rattle.std.specs.Prelude.{ℕ, Bool, List, map, filter, not, if◌then◌else◌, T}
+use Rattle.std.specs.Prelude.{ℕ, Bool, List, map, filter, is_none, not, if◌then◌else◌, T}
 use Rattle.slp_text.specs.Tags.{Part, selects}
 use Rattle.std.specs.FinMap as fin
 use Rattle.std.specs.FinMap.{is_sorted}
 use Rattle.std.specs.List.{AllByRecursion}
 use Rattle.slp_text.specs.Words.{bytes_cmp}
-use Rattle.attr_list.specs.Lists.{Attributes}
+use Rattle.attr_list.specs.Lists.{Attributes, values_in}
+use Rattle.attr_list.specs.Elements.{Element}
 use Rattle.attr_list.specs.Texts.{IsAttribute}
 use Rattle.attr_list.specs.declared.attrs.Attribute.{Attribute}
 use Rattle.attr_list.specs.declared.held.Held.{Held}
@@ -31,3 +32,11 @@ is_picked tags selected tag = if selected then selects tags tag else not (select
 
 abbrev pub picked_attributes : List Part → Bool → List Attribute → List Attribute
 picked_attributes tags selected list = filter (λ a. is_picked tags selected a.tag) list
+
+-- those whose tags others do not have
+abbrev pub other_attributes : Attributes → List Attribute → List Attribute
+other_attributes others list = filter (λ a. is_none (fin.get others a.tag)) list
+
+-- an attribute as an element of a list
+abbrev pub element_stored : Attribute → Element
+element_stored a = record { tag = a.tag; values = values_in a.held }

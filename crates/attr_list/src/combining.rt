@@ -1,11 +1,15 @@
-ghost use Rattle.std.specs.Prelude.{◌≡◌, IfOk, OnErr};
+ghost use Rattle.std.specs.Prelude.{◌≡◌, ◌++◌, map, IfOk, OnErr};
 ghost use Rattle.std.specs.FinMap as fin;
 ghost use Rattle.slp_text.specs.Tags.{selects};
 ghost use Rattle.attr_values.specs.declared.fault.AttrFault.TheVariants as fault;
-ghost use Rattle.attr_list.specs.Maps.{attributes_without, selected_attributes};
-ghost use Rattle.attr_list.specs.Stored.{picked_attributes};
+ghost use Rattle.attr_list.specs.Maps.{attributes_without, selected_attributes, union_of, updated_attributes};
+ghost use Rattle.attr_list.specs.Pieces.{element_in};
+ghost use Rattle.attr_list.specs.Stored.{element_stored, other_attributes, picked_attributes};
 
 use crate::attrs::{Attribute, Attrs};
+use crate::elements::Element;
+use crate::gathering::join;
+use crate::held::copies;
 use attr_values::AttrFault;
 use slp_text::{NoMemory, TagList};
 use std::alloc::Global;
@@ -28,7 +32,71 @@ fn pick(
     Ok(picked)
 }
 
+// An attribute as an element of a list.
+fn element_of(alloc: Global, entry: &Attribute) -> Result<Element, NoMemory>
+    ensures { IfOk result (λ e. element_in e ≡ element_stored entry.now) }
+{
+    let tag = entry.tag.copy(alloc)?;
+    let values = copies(alloc, entry.held.values())?;
+    Ok(Element { tag, values })
+}
+
+// Appends attributes as elements of a list.
+fn append_elements(
+    alloc: Global,
+    entries: &[Attribute],
+    elements: &mut Vec<Element>,
+) -> Result<(), NoMemory>
+    ensures { IfOk result (λ _. map element_in elements.new.items ≡ map element_in elements.old.items ++ map element_stored entries.now) }
+{
+    for entry in entries {
+        elements.push(element_of(alloc, entry)?)?;
+    }
+    Ok(())
+}
+
+// The same of those whose tags others do not have.
+fn append_others(
+    alloc: Global,
+    entries: &[Attribute],
+    others: &Attrs,
+    elements: &mut Vec<Element>,
+) -> Result<(), NoMemory>
+    ensures { IfOk result (λ _. map element_in elements.new.items ≡ map element_in elements.old.items ++ map element_stored (other_attributes others.now entries.now)) }
+{
+    for entry in entries {
+        if others.get(&entry.tag).is_none() {
+            elements.push(element_of(alloc, entry)?)?;
+        }
+    }
+    Ok(())
+}
+
 impl Attrs {
+    /// The attributes with the tags of others as they are there. Want of memory is the only fault.
+    pub fn updated(&self, alloc: Global, more: &Attrs) -> Result<Attrs, AttrFault>
+        ensures value { IfOk result (λ a. a ≡ updated_attributes self.now more.now) }
+        ensures memory { OnErr result (result ≡ Err fault.NoMemory) }
+    {
+        let mut elements = Vec::new(alloc);
+        append_others(alloc, self.entries(), more, &mut elements)?;
+        append_elements(alloc, more.entries(), &mut elements)?;
+        let attributes = join(alloc, elements)?;
+        Ok(attributes)
+    }
+
+    /// Both joined as the elements of one list are, these first. Want of memory is the only fault.
+    pub fn union(&self, alloc: Global, more: &Attrs) -> Result<Attrs, AttrFault>
+        ensures value { IfOk result (λ a. a ≡ union_of self.now more.now) }
+        ensures memory { OnErr result (result ≡ Err fault.NoMemory) }
+    {
+        let mut elements = Vec::new(alloc);
+        append_elements(alloc, self.entries(), &mut elements)?;
+        append_elements(alloc, more.entries(), &mut elements)?;
+        let attributes = join(alloc, elements)?;
+        Ok(attributes)
+    }
+
     /// The attributes whose tags a list of tags does not select. Want of memory is the only fault.
     pub fn without(&self, alloc: Global, tags: &TagList) -> Result<Attrs, AttrFault>
         ensures value { IfOk result (λ a. a ≡ attributes_without self.now tags.now) }

@@ -3,6 +3,9 @@
 
 mod attrs;
 mod combining;
+mod distinct;
+mod elements;
+mod gathering;
 mod held;
 pub mod laws;
 mod writing;
