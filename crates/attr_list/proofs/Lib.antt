@@ -1,4 +1,5 @@
 pub mod Combined
+pub mod CutTexts
 pub mod DistinctValues
 pub mod Gathered
 pub mod GatheredMaps
@@ -8,6 +9,10 @@ pub mod ListedTexts
 pub mod Meaning
 pub mod PrintedAttributes
 pub mod ReadElements
+pub mod ReadLists
+pub mod ReadPieces
+pub mod ReadTags
+pub mod ReadValues
 pub mod SpelledElements
 pub mod StoredAttributes
 pub mod WhiteKeys

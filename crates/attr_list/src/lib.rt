@@ -8,6 +8,8 @@ mod elements;
 mod gathering;
 mod held;
 pub mod laws;
+mod parsing;
+mod reading;
 mod writing;
 
 pub use attr_values::{AttrFault, Value, read_value};

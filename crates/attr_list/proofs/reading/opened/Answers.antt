@@ -1,0 +1,11 @@
+use Rattle.std.proofs.Common.{◌∙◌, ap}
+use Rattle.std.specs.Prelude.{◌==◌}
+use Rattle.slp_text.specs.Ascii.{left_parenthesis}
+use Rattle.attr_values.specs.Rests.{rest_after}
+use Rattle.attr_list.proofs.CutTexts.{after-mark}
+use Rattle.attr_list.proofs.reading.opened.Goals as goal
+
+pub returns : goal.returns
+returns c =
+    after-mark left_parenthesis c.trim_start.result.now c.strip_prefix.result c.trim_start.utf8 c.strip_prefix.ensures.cases
+    ∙ ap (rest_after (λ d. d == left_parenthesis)) c.trim_start.ensures
