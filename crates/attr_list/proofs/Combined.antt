@@ -1,6 +1,6 @@
 -- Attributes that are joined, or updated.
 use Rattle.std.proofs.Common.{◌≡◌, ℕ, Bool, true, false, cond, T, List, [], ◌∷◌, ◌++◌, map, Option, Some, None, refl, sym, ap, ap₂, subst, ◌∙◌, append-nil}
-use Rattle.std.specs.Prelude.{◌||◌, ◌&&◌, is_none, if◌then◌else◌}
+use Rattle.std.specs.Prelude.{◌||◌, ◌&&◌, is_none, not, if◌then◌else◌}
 use Rattle.std.specs.FinMap as fin
 use Rattle.std.specs.FinMap.Entries.{below_all, find-where_key, is_sorted-where_key, where_key}
 use Rattle.std.specs.List.{AllByRecursion, list_any}
@@ -11,11 +11,12 @@ use Rattle.std.specs.declared.cmp.Ordering.TheVariants.{Less, Equal, Greater}
 use Rattle.std.proofs.lemmas.Grind.{flat_map-append}
 use Rattle.std.proofs.lemmas.List.Folds.{list_any-append}
 use Rattle.std.proofs.lemmas.Map.Lookups.{exact_bytes}
+use Rattle.slp_text.specs.Tags.{Part, selects}
 use Rattle.slp_text.specs.Words.{bytes_cmp, bytes_eq}
 use Rattle.attr_values.specs.Kinds.{IsValue}
 use Rattle.attr_list.specs.Elements.{Element}
 use Rattle.attr_list.specs.Lists.{Attributes, attributes_of, distinct_values, held_of, values_in, values_named}
-use Rattle.attr_list.specs.Maps.{elements_in, union_of, updated_attributes, with_entries}
+use Rattle.attr_list.specs.Maps.{attributes_without, elements_in, union_of, updated_attributes, with_entries}
 use Rattle.attr_list.specs.Pieces.{element_in, IsElement}
 use Rattle.attr_list.specs.Stored.{element_stored, other_attributes, pair_in, pairs_in, AreStored}
 use Rattle.attr_list.specs.Texts.{IsAttribute, IsHeld}
@@ -113,6 +114,21 @@ get-with_entries (p ∷ ps) a q s =
       | false ↦ λ f. refl
     ] refl
 
+-- ---- what is at a tag
+
+pub get-updated_attributes : (a more : Attributes) (q : List ℕ) → fin.get (updated_attributes a more) q ≡ option_or (fin.get more q) (fin.get a q)
+get-updated_attributes a more q = get-with_entries (fin.entries more) a q (fin.entries_sorted more) ∙ ap (λ o. option_or o (fin.get a q)) (sym (fin.get-entries more q))
+
+unless : {A : Type 0} (b : Bool) (o : Option A) → cond (not b) o None ≡ cond b None o
+unless true o = refl
+unless false o = refl
+
+pub get-attributes_without : (a : Attributes) (tags : List Part) (q : List ℕ) → fin.get (attributes_without a tags) q ≡ cond (selects tags q) None (fin.get a q)
+get-attributes_without a tags q = fin.get-retain_keys a (λ tag. not (selects tags tag)) q (λ x tie. ap (λ tag. not (selects tags tag)) (sym (exact_bytes q x tie))) ∙ unless (selects tags q) (fin.get a q)
+
+pub same_attributes : (a b : Attributes) → ((q : List ℕ) → fin.get a q ≡ fin.get b q) → a ≡ b
+same_attributes a b = fin.same_map ordered exact_bytes a b
+
 -- ---- updated
 
 pairs-others : (more : Attributes) (list : List Attribute) → pairs_in (other_attributes more list) ≡ where_key bytes_cmp (λ tag. is_none (fin.get more tag)) (pairs_in list)
@@ -160,8 +176,7 @@ module _ (m more : Attributes) (list added : List Attribute) (h : AreStored list
       ap₂ (λ es fs. attributes_of (es ++ fs)) (stored-elements (other_attributes more list)) (stored-elements added)
       ∙ fin.same_map ordered exact_bytes _ _ (λ q.
       get-attributes_of (map element_of (pairs_in (other_attributes more list)) ++ map element_of (pairs_in added)) q
-      ∙ at_tag q (fin.get more q) refl
-      ∙ sym (get-with_entries (fin.entries more) m q (fin.entries_sorted more) ∙ ap (λ o. option_or o (fin.get m q)) (sym (fin.get-entries more q))))
+      ∙ at_tag q (fin.get more q) refl ∙ sym (get-updated_attributes m more q))
 
 pub union-is : (m more : Attributes) (list added : List Attribute) → fin.entries m ≡ pairs_in list → fin.entries more ≡ pairs_in added
     → attributes_of (map element_stored list ++ map element_stored added) ≡ union_of m more

@@ -26,5 +26,3 @@ mod services;
 mod streams;
 #[cfg(test)]
 mod texts;
-#[cfg(test)]
-mod values;

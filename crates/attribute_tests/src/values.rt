@@ -1,5 +1,5 @@
 use crate::assertion::assert_holds;
-use attr_values::{AttrFault, Value, read_value};
+use attr_list::{AttrFault, Value, read_value};
 use std::alloc::Global;
 use std::test::Fail;
 
