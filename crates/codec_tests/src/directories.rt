@@ -155,8 +155,8 @@ fn change(
     }
 }
 
-// Whether a message that comes so often is answered so each time.
-fn are_answered(
+/// Whether a message that comes so often is answered so each time.
+pub fn are_answered(
     alloc: Global,
     directory: &mut Directory<ListRegistry>,
     moment: u32,

@@ -50,7 +50,7 @@ fn types_and_scopes_are_read_where_there_are_some(rt: HostRuntime) -> Result<(),
 }
 
 // What came of a message: its code, who decided, on which type in which scope, and the moment and the
-// deadline of an entry that is put.
+// deadline of an entry that is put or edited.
 type Told<'a> = (
     u16,
     Decider,
@@ -61,7 +61,7 @@ type Told<'a> = (
 
 fn told(judged: &Judged) -> Option<Told<'_>> {
     let (code, because, put) = match judged {
-        Judged::Accept(Change::Put(placed), because) => {
+        Judged::Accept(Change::Put(placed) | Change::Edit(placed), because) => {
             (0, because, Some((placed.moment, placed.entry.deadline)))
         }
         Judged::Deny(code, because) => (*code, because, None),

@@ -26,3 +26,5 @@ mod services;
 mod streams;
 #[cfg(test)]
 mod texts;
+#[cfg(test)]
+mod updates;

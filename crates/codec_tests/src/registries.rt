@@ -3,6 +3,7 @@ ghost use Rattle.slp_text.specs.Scopes.{printed_scopes};
 ghost use Rattle.std.specs.Arc.{arc_value};
 
 use crate::assertion::assert_holds;
+use attr_list::Attrs;
 use registry_core::{Entry, ListRegistry, Registry, RegistryFault};
 use service_url::{ServiceType, Url};
 use slp_text::{ScopeList, key};
@@ -33,7 +34,7 @@ pub fn one_scope(alloc: Global, scope: &str) -> Result<ScopeList, Fail>
     }
 }
 
-/// An entry in one scope.
+/// An entry in one scope, without attributes.
 pub fn entry_in(
     alloc: Global,
     scope: &str,
@@ -49,6 +50,7 @@ pub fn entry_in(
         language: key(alloc, language)?,
         kind: ServiceType::parse(alloc, kind)?,
         scopes: one_scope(alloc, scope)?,
+        attrs: Attrs::parse(alloc, "")?,
         deadline,
     };
     Ok(Arc::new(alloc, made)?)
@@ -58,6 +60,8 @@ pub fn entry_in(
 enum Step {
     // of a scope, a URL, a type and a language, with a deadline
     Put(&'static str, &'static str, &'static str, &'static str, u64, Result<(), RegistryFault>),
+    // of a URL and a language, with a deadline, and whether the pair is held
+    Edit(&'static str, &'static str, u64, bool),
     Sweep(u64),
     // the entries of a URL in these scopes
     Remove(&'static str, &'static str),
@@ -73,7 +77,7 @@ enum Step {
 }
 
 // The steps of a registry of no entry that takes three pairs.
-static STEPS: [(&str, &[Step]); 6] = [
+static STEPS: [(&str, &[Step]); 7] = [
     (
         "an empty registry takes three pairs",
         &[
@@ -97,6 +101,18 @@ static STEPS: [(&str, &[Step]); 6] = [
             Step::Length(3),
             Step::Deadline(LPR, "en", Some(15)),
             Step::Deadline(LPR, "de", Some(20)),
+        ],
+    ),
+    (
+        "edits set a pair that is held, and no other",
+        &[
+            Step::Edit(LPR, "DE", 25, true),
+            Step::Deadline(LPR, "de", Some(25)),
+            Step::Deadline(LPR, "en", Some(15)),
+            Step::Edit(IPP, "en", 40, false),
+            Step::Deadline(IPP, "en", None),
+            Step::Length(3),
+            Step::Edit(LPR, "de", 20, true),
         ],
     ),
     (
@@ -228,6 +244,22 @@ fn remove_url<R: Registry>(
     Ok(())
 }
 
+// Edits the entry of a pair, where it is held, and says whether it is.
+fn edit<R: Registry>(
+    alloc: Global,
+    registry: &mut R,
+    url: &str,
+    language: &str,
+    deadline: u64,
+) -> Result<bool, Fail> {
+    let entry = entry_in(alloc, "DEFAULT", url, PRINTER, language, deadline)?;
+    if registry.find(&entry.url, &entry.language).is_none() {
+        return Ok(false);
+    }
+    registry.edit(entry);
+    Ok(true)
+}
+
 // Whether what the step asks for holds.
 fn holds<R: Registry>(alloc: Global, registry: &R, step: &Step) -> Result<bool, Fail> {
     match step {
@@ -251,6 +283,9 @@ fn take_step<R: Registry>(alloc: Global, registry: &mut R, step: &Step) -> Resul
         Step::Put(scope, url, kind, language, at, want) => {
             let entry = entry_in(alloc, scope, url, kind, language, *at)?;
             Ok(registry.put(entry) == *want)
+        }
+        Step::Edit(url, language, at, want) => {
+            Ok(edit(alloc, registry, url, language, *at)? == *want)
         }
         Step::Sweep(now) => {
             registry.sweep(*now);

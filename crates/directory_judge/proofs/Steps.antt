@@ -1,25 +1,23 @@
 -- What each step of judging comes to.
-use Rattle.std.proofs.Common.{◌≡◌, ◌≢◌, ℕ, ◌+◌, ◌<◌, Bool, true, false, cond, List, [], ◌∷◌, length, Option, Some, None, refl, sym, ap, ap₂, subst, ◌∙◌, arith}
-use Rattle.std.specs.Prelude.{is_some, filter, unwrap_or, ◌==◌, ◌||◌}
+use Rattle.std.proofs.Common.{◌≡◌, ◌≢◌, ℕ, ◌+◌, ◌<◌, true, false, cond, List, [], ◌∷◌, length, Option, Some, None, refl, sym, ap, ap₂, subst, ◌∙◌, arith}
+use Rattle.std.specs.Prelude.{filter, unwrap_or, ◌==◌}
 use Rattle.std.specs.List.{list_any}
 use Rattle.std.specs.Option.{option_map, option_or}
-use Rattle.std.specs.Result.{result_ok}
 use Rattle.std.specs.FinMap as fin
 use Rattle.std.proofs.lemmas.Bool.Decides.{nat_tests}
 use Rattle.std.proofs.lemmas.Option.{none-some, same_Some}
 use Rattle.slp_text.specs.Keys.{key_of}
-use Rattle.slp_text.specs.Scopes.{scopes_of}
-use Rattle.slp_text.specs.Tags.{Part, tags_of}
-use Rattle.service_url.specs.Urls.{url_of}
+use Rattle.slp_text.specs.Tags.{Part}
 use Rattle.slp_messages.specs.declared.header.Header.{Header}
 use Rattle.slp_messages.specs.declared.message.Registration.{Registration}
-use Rattle.slp_messages.specs.declared.message.Withdrawal.{Withdrawal}
-use Rattle.access_rules.specs.declared.rule.Action.TheVariants.{Register}
+use Rattle.access_rules.specs.declared.rule.Action.TheVariants.{Register, Withdraw}
 use Rattle.registry_core.specs.declared.entry.Entry.{Entry}
-use Rattle.registry_core.specs.Entries.{pair_of, is_of_url}
-use Rattle.directory_judge.specs.History.{Putting, Put}
-use Rattle.directory_judge.specs.Contents.{entry_of}
-use Rattle.directory_judge.specs.Judgements.{Grounds, Judgement, Accepts, Ignores, Waits, names_tags, judgement_in_scopes, judgement_of_texts, judgement_of_withdrawal, entries_in, first_of, is_kept, concerned_entries, judgement_of_entries, judgement_of_url, by_step, denial, denial_of, denial_of_new, denial_of_old, denial_of_room, pair_in, putting_of, allowance, judgement_of_particulars, IsJudgement}
+use Rattle.registry_core.specs.Entries.{Pair, is_of_url}
+use Rattle.slp_text.specs.Words.{texts_eq}
+use Rattle.directory_judge.proofs.SameTexts.{texts_itself}
+use Rattle.directory_judge.specs.History.{Put, Set}
+use Rattle.directory_judge.specs.Judgements.{Grounds, Judgement, Accepts, Ignores, act_of, judgement_in_scopes, judgement_of_removal, judgement_of_tagged, judgement_of_tags, judgement_of_texts, entries_in, first_of, is_kept, concerned_entries, judgement_of_entries, judgement_of_url, by_step, denial, denial_by, denial_in, denial_of, denial_of_live, denial_of_new, denial_of_room, pair_in, putting_of, release, removal_event, setting_of, allowance, judgement_of_particulars, IsJudgement}
+use Rattle.directory_judge.specs.NamedEntries.{particulars_named, IsActOf, IsJudgedNamed}
 use Rattle.directory_judge.specs.declared.reason.Because.{Because}
 use Rattle.directory_judge.specs.declared.reason.Decider.TheVariants as decider
 use Rattle.directory_judge.specs.declared.judgement.Judged.{Judged}
@@ -29,19 +27,23 @@ use Rattle.directory_judge.specs.Withdrawals.{withdrawal_of_texts}
 
 -- ---- what is registered
 
--- what was answered is what the last steps come to, for what registers this entry
-abbrev pub IsJudgementBy : Grounds → Entry → Because → Judged → Type 0
-IsJudgementBy g e b j =
-    (p : Putting) → entry_of g.now p ≡ e
-    → IsJudgement g.live j (unwrap_or (option_or (denial_of_old g (fin.get g.live (pair_of e))) (denial_of_room g (pair_of e) (record { url = e.url; kind = e.kind; scopes = e.scopes }))) (Accepts (record { moment = g.now; act = Put p }) b))
-
 module _ (g : Grounds) (h : Header) (r : Registration) (t : Particulars) where
   accepts : Judgement
-  accepts = Accepts (record { moment = g.now; act = Put (putting_of g h r t) }) (allowance g t)
+  accepts = Accepts (record { moment = g.now; act = act_of h r t }) (allowance g t)
 
   -- what is judged by the pair
   by_pair : Option Judgement
-  by_pair = option_or (denial_of_old g (fin.get g.live (pair_in h r))) (denial_of_room g (pair_in h r) t)
+  by_pair = option_or (denial_of_live g h.flags.fresh t (fin.get g.live (pair_in h r))) (denial_of_room g (pair_in h r) t)
+
+  -- the entry that is named
+  abbrev entry_in : Entry
+  entry_in = record { url = r.entry.url; language = key_of h.language; kind = t.kind; scopes = t.scopes; attrs = t.attrs; deadline = g.now + r.entry.lifetime }
+
+  act-of : IsActOf g.now h.flags.fresh entry_in (act_of h r t)
+  act-of = elim (h.flags.fresh) as (λ b. IsActOf g.now b entry_in (cond b (Put (putting_of h r t)) (Set (setting_of h r t)))) [
+    | true ↦ (putting_of h r t, refl, refl)
+    | false ↦ (setting_of h r t, refl, record { pair = refl; attributes = refl; deadline = refl })
+  ]
 
   pub judgement-unsupported : length t.scopes ≡ 0 → judgement_of_particulars g h r t ≡ denial (by_step decider.Scope (Some t.kind))
   unfolding by_pair accepts
@@ -64,13 +66,16 @@ module _ (g : Grounds) (h : Header) (r : Registration) (t : Particulars) where
         ∙ ap (λ d. unwrap_or (option_or (option_map denial d) by_pair) accepts) is
 
     -- what the steps come to that look at an entry's pair
-    pub IsJudgement-entry : (e : Entry) (b : Because) (j : Judged) → denial_of g.rules g.asker Register t.kind t.scopes ≡ None → t.url ≡ r.entry.url → e ≡ record { url = t.url; language = key_of h.language; kind = t.kind; scopes = t.scopes; deadline = g.now + r.entry.lifetime }
-        → b ≡ allowance g t → IsJudgementBy g e b j → IsJudgement g.live j (judgement_of_particulars g h r t)
+    pub IsJudgement-named : (e : Entry) (b : Because) (j : Judged) → denial_of g.rules g.asker Register t.kind t.scopes ≡ None → t.url ≡ r.entry.url
+        → e ≡ record { url = t.url; language = key_of h.language; kind = t.kind; scopes = t.scopes; attrs = t.attrs; deadline = g.now + r.entry.lifetime }
+        → b ≡ allowance g t → IsJudgedNamed g h.flags.fresh e b j → IsJudgement g.live j (judgement_of_particulars g h r t)
     unfolding by_pair accepts
-    IsJudgement-entry e b j allowed named is by_first by =
-        let made : e ≡ entry_of g.now (putting_of g h r t) = is ∙ ap (λ url. record { url = url; language = key_of h.language; kind = t.kind; scopes = t.scopes; deadline = g.now + r.entry.lifetime }) named in
-        let at : IsJudgementBy g (entry_of g.now (putting_of g h r t)) (allowance g t) j = subst (λ x. IsJudgementBy g (entry_of g.now (putting_of g h r t)) x j) by_first (subst (λ x. IsJudgementBy g x b j) made by) in
-        subst (IsJudgement g.live j) (sym (judgement-allowed allowed)) (at (putting_of g h r t) refl)
+    IsJudgement-named e b j allowed named is by_first by =
+        let made : e ≡ entry_in = is ∙ ap (λ url. record { url = url; language = key_of h.language; kind = t.kind; scopes = t.scopes; attrs = t.attrs; deadline = g.now + r.entry.lifetime }) named in
+        let at : IsJudgedNamed g h.flags.fresh entry_in (allowance g t) j = subst (λ x. IsJudgedNamed g h.flags.fresh entry_in x j) by_first (subst (λ x. IsJudgedNamed g h.flags.fresh x b j) made by) in
+        let same : ◌≡◌ {A = Particulars} (particulars_named entry_in) t = λ i. record { url = sym named i; kind = t.kind; scopes = t.scopes; attrs = t.attrs } in
+        subst (IsJudgement g.live j) (sym (judgement-allowed allowed))
+        (subst (λ (x : Particulars). IsJudgement g.live j (unwrap_or (option_or (denial_of_live g h.flags.fresh x (fin.get g.live (pair_in h r))) (denial_of_room g (pair_in h r) x)) accepts)) same (at (act_of h r t) act-of))
 
 -- ---- a withdrawal
 
@@ -81,39 +86,35 @@ judgement-some g url scopes first kept some first_is kept_is =
     ap (λ b. cond b (judgement_of_entries g url scopes (first_of (concerned_entries g url scopes)) (first_of (filter (is_kept g.rules g.asker) (concerned_entries g url scopes)))) Ignores) some
     ∙ ap₂ (judgement_of_entries g url scopes) first_is kept_is
 
-within-some : (g : Grounds) (url : List ℕ) (scopes : List (List ℕ)) → scopes ≢ [] → judgement_in_scopes g url scopes ≡ judgement_of_url g url scopes
-within-some g url [] some = absurd (some refl)
-within-some g url (s ∷ ss) some = refl
+within-some : (g : Grounds) (q : Pair) (tags : List Part) (scopes : List (List ℕ)) → scopes ≢ [] → judgement_in_scopes g q tags scopes ≡ judgement_of_tags g q tags scopes
+within-some g q tags [] some = absurd (some refl)
+within-some g q tags (s ∷ ss) some = refl
 
-or_false : (a b : Bool) → a ≡ false → b ≡ false → (a || b) ≡ false
-or_false a b x y = ap₂ (λ p q. p || q) x y
+tags-some : (g : Grounds) (q : Pair) (tags : List Part) (scopes : List (List ℕ)) → tags ≢ [] → judgement_of_tags g q tags scopes ≡ judgement_of_removal g q tags scopes
+tags-some g q [] scopes some = absurd (some refl)
+tags-some g q (p ∷ ps) scopes some = refl
 
--- a withdrawal whose tags are read and name nothing, by what it is of
-judgement_of_texts-withdrawn : (g : Grounds) (url : Option (List ℕ)) (tags : Option (List Part)) (scopes : Option (List (List ℕ))) (w : Withdrawn) → is_some tags ≡ true → withdrawal_of_texts g.site url scopes ≡ Some w
-    → judgement_of_texts g url tags scopes ≡ judgement_in_scopes g w.url w.scopes
-judgement_of_texts-withdrawn g (Some url) None scopes w h e = cc
-judgement_of_texts-withdrawn g None tags scopes w h e = absurd (none-some w e)
-judgement_of_texts-withdrawn g (Some url) (Some tags) None w h e = absurd (none-some w e)
-judgement_of_texts-withdrawn g (Some url) (Some tags) (Some scopes) w h e = ap (λ (x : Withdrawn). judgement_in_scopes g x.url x.scopes) (same_Some _ w e)
+-- a withdrawal whose URL and scopes are read, by what it is of
+module _ (g : Grounds) (language : List ℕ) (tags : List Part) (w : Withdrawn) where
+  withdrawn-texts : (url : Option (List ℕ)) (scopes : Option (List (List ℕ))) → withdrawal_of_texts g.site url scopes ≡ Some w → judgement_of_texts g language url (Some tags) scopes ≡ judgement_in_scopes g (w.url, language) tags w.scopes
+  withdrawn-texts None scopes e = absurd (none-some w e)
+  withdrawn-texts (Some url) None e = absurd (none-some w e)
+  withdrawn-texts (Some url) (Some scopes) e = ap (λ (x : Withdrawn). judgement_in_scopes g (x.url, language) tags x.scopes) (same_Some _ w e)
 
-untagged : (g : Grounds) (h : Header) (w : Withdrawal) → h.flags.multicast ≡ false → names_tags (result_ok (tags_of w.tags)) ≡ false
-    → judgement_of_withdrawal g h w ≡ judgement_of_texts g (result_ok (url_of w.entry.url)) (result_ok (tags_of w.tags)) (result_ok (scopes_of w.scopes))
-untagged g h w one no_tag =
-    let tags = result_ok (tags_of w.tags) in
-    ap (λ b. cond b Waits (judgement_of_texts g (result_ok (url_of w.entry.url)) tags (result_ok (scopes_of w.scopes)))) (or_false h.flags.multicast (names_tags tags) one no_tag)
+  module _ (url : Option (List ℕ)) (scopes : Option (List (List ℕ))) (is : withdrawal_of_texts g.site url scopes ≡ Some w) (some : w.scopes ≢ []) where
+    of_tags : judgement_of_texts g language url (Some tags) scopes ≡ judgement_of_tags g (w.url, language) tags w.scopes
+    of_tags = withdrawn-texts url scopes is ∙ within-some g (w.url, language) tags w.scopes some
 
-module _ (g : Grounds) (h : Header) (w : Withdrawal) (asked : Withdrawn) (one : h.flags.multicast ≡ false) (no_tag : names_tags (result_ok (tags_of w.tags)) ≡ false) (tags_are : is_some (result_ok (tags_of w.tags)) ≡ true) (is : withdrawal_of_texts g.site (result_ok (url_of w.entry.url)) (result_ok (scopes_of w.scopes)) ≡ Some asked) where
-  judged-within : judgement_of_withdrawal g h w ≡ judgement_in_scopes g asked.url asked.scopes
-  judged-within = untagged g h w one no_tag ∙ judgement_of_texts-withdrawn g (result_ok (url_of w.entry.url)) (result_ok (tags_of w.tags)) (result_ok (scopes_of w.scopes)) asked tags_are is
+    pub judgement-whole : tags ≡ [] → judgement_of_texts g language url (Some tags) scopes ≡ judgement_of_url g w.url w.scopes
+    judgement-whole none = of_tags ∙ ap (λ ts. judgement_of_tags g (w.url, language) ts w.scopes) none
 
-  pub judgement-asked : asked.scopes ≢ [] → judgement_of_withdrawal g h w ≡ judgement_of_url g asked.url asked.scopes
-  judgement-asked some = judged-within ∙ within-some g asked.url asked.scopes some
+    pub judgement-tagged : tags ≢ [] → judgement_of_texts g language url (Some tags) scopes ≡ judgement_of_removal g (w.url, language) tags w.scopes
+    judgement-tagged named = of_tags ∙ tags-some g (w.url, language) tags w.scopes named
 
--- the test of a list of tags, where it is read
-pub no_tag : (tags : Option (List Part)) (b : Option Bool) → b ≡ option_map (λ t. names_tags (Some t)) tags → unwrap_or b false ≡ false → names_tags tags ≡ false
-no_tag None b e h = refl
-no_tag (Some t) b e h = sym (ap (λ (o : Option Bool). unwrap_or o false) e) ∙ h
+-- ---- a withdrawal of tags
 
-pub tags-read : (tags : Option (List Part)) (b : Option Bool) → b ≡ option_map (λ t. names_tags (Some t)) tags → is_some b ≡ true → is_some tags ≡ true
-tags-read None b e h = sym (ap is_some e) ∙ h
-tags-read (Some t) b e h = refl
+pub tagged-some : (g : Grounds) (q : Pair) (tags : List Part) (scopes : List (List ℕ)) (e : Entry) → fin.get g.live q ≡ Some e → e.scopes ≡ scopes
+    → judgement_of_removal g q tags scopes ≡ unwrap_or (denial_in g Withdraw e.kind e.scopes) (Accepts (removal_event g q tags) (release g e))
+tagged-some g q tags scopes e found same =
+    ap (judgement_of_tagged g q tags scopes) found
+    ∙ ap (λ b. cond b (unwrap_or (denial_in g Withdraw e.kind e.scopes) (Accepts (removal_event g q tags) (release g e))) (denial_by decider.Scope)) (ap (λ ss. texts_eq ss scopes) same ∙ texts_itself scopes)

@@ -3,9 +3,10 @@ use Rattle.std.specs.Prelude.{ℕ, ◌+◌, Option, Some, None}
 use Rattle.std.specs.Arc.{arc_value}
 use Rattle.std.specs.FinMap as fin
 use Rattle.access_rules.specs.Deciding.{SiteRules}
+use Rattle.attr_list.specs.Maps.{attributes_without, updated_attributes}
 use Rattle.registry_core.specs.declared.entry.Entry.{Entry}
 use Rattle.registry_core.specs.Entries.{Entries}
-use Rattle.directory_judge.specs.History.{Putting, Withdrawing, Put, Set, Remove, Withdraw, Sweep, Reload, Event}
+use Rattle.directory_judge.specs.History.{Putting, Setting, Removing, Withdrawing, Put, Set, Remove, Withdraw, Sweep, Reload, Event}
 use Rattle.directory_judge.specs.declared.change.Change.{Change}
 use Rattle.directory_judge.specs.declared.change.Change.TheVariants as change
 
@@ -19,12 +20,21 @@ pub data Content : Type 0 where
 
 abbrev pub content : Change → Content
 content (change.Put placed) = Stores placed.moment (arc_value placed.entry)
+content (change.Edit placed) = Edits placed.moment (arc_value placed.entry)
 content (change.Withdraw moment w) = Withdraws moment (record { url = (arc_value w).url; scopes = (arc_value w).scopes })
 content (change.Sweep moment) = Sweeps moment
 
 -- the entry that a registration founds at a moment
 abbrev pub entry_of : ℕ → Putting → Entry
-entry_of moment p = record { url = p.url; language = p.language; kind = p.kind; scopes = p.scopes; deadline = moment + p.lifetime }
+entry_of moment p = record { url = p.url; language = p.language; kind = p.kind; scopes = p.scopes; attrs = p.attributes; deadline = moment + p.lifetime }
+
+-- an entry that an update sets at a moment: the tags that it names hold what it says, the others what they held
+abbrev pub entry_set : ℕ → Setting → Entry → Entry
+entry_set moment s e = record e { attrs = updated_attributes e.attrs s.attributes; deadline = moment + s.lifetime }
+
+-- an entry without the tags that are taken away
+abbrev pub entry_without : Removing → Entry → Entry
+entry_without r e = record e { attrs = attributes_without e.attrs r.tags }
 
 -- an edit of what is held, if something is
 abbrev pub edit_of : ℕ → Option Entry → (Entry → Entry) → Content
@@ -35,8 +45,8 @@ edit_of moment (Some e) f = Edits moment (f e)
 abbrev pub content_on : Entries → Event → Content
 content_on live c = elim c.act [
   | Put p ↦ Stores c.moment (entry_of c.moment p)
-  | Set s ↦ edit_of c.moment (fin.get live (s.url, s.language)) (λ e. record e { deadline = c.moment + s.lifetime })
-  | Remove r ↦ edit_of c.moment (fin.get live (r.url, r.language)) (λ e. e)
+  | Set s ↦ edit_of c.moment (fin.get live (s.url, s.language)) (entry_set c.moment s)
+  | Remove r ↦ edit_of c.moment (fin.get live (r.url, r.language)) (entry_without r)
   | Withdraw w ↦ Withdraws c.moment w
   | Sweep ↦ Sweeps c.moment
   | Reload rs ↦ Reloads c.moment rs

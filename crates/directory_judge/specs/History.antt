@@ -2,8 +2,8 @@
 use Rattle.std.specs.Prelude.{ℕ, max, List, [], ◌∷◌, Option, None}
 use Rattle.std.specs.Option.{option_or}
 use Rattle.access_rules.specs.Deciding.{SiteRules}
+use Rattle.attr_list.specs.Lists.{Attributes}
 use Rattle.slp_text.specs.Tags.{Part}
-use Rattle.directory_judge.specs.Attributes.{Attributes}
 
 -- a registration
 pub record Putting : Type 0 where

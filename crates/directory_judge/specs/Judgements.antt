@@ -1,5 +1,5 @@
 -- How registrations and withdrawals are judged: the first step whose fault is there, else they are accepted (RFC 2608, sections 7, 9.3 and 10.6).
-use Rattle.std.specs.Prelude.{◌≡◌, ℕ, ◌≤◌, Bool, true, false, not, ◌==◌, ◌&&◌, ◌||◌, List, [], ◌∷◌, map, filter, find, length, codes, slice_get, Option, Some, None, is_none, nat_le, unwrap_or, Result, Ok, Err, if◌then◌else◌, refl}
+use Rattle.std.specs.Prelude.{◌≡◌, ℕ, ◌≤◌, Bool, false, not, ◌==◌, ◌&&◌, ◌||◌, List, [], ◌∷◌, map, filter, find, length, codes, slice_get, Option, Some, None, is_none, nat_le, unwrap_or, Result, Ok, Err, if◌then◌else◌, refl}
 use Rattle.std.specs.Coded as coded
 use Rattle.std.specs.Coded.{Coded, coded×, coded_ℕ}
 use Rattle.std.specs.Option.{option_copied, option_or, option_map, option_map_or}
@@ -11,7 +11,7 @@ use Rattle.std.specs.FinMap as fin
 use Rattle.slp_text.specs.Keys.{key_of}
 use Rattle.slp_text.specs.Scopes.{scopes_of, common_scopes}
 use Rattle.slp_text.specs.Tags.{Part, tags_of}
-use Rattle.slp_text.specs.Words.{bytes_eq, bytes_cmp, is_blank}
+use Rattle.slp_text.specs.Words.{bytes_eq, bytes_cmp, texts_eq}
 use Rattle.slp_messages.specs.declared.code.TheConstants.{OK, LANGUAGE_NOT_SUPPORTED, PARSE_ERROR, INVALID_REGISTRATION, SCOPE_NOT_SUPPORTED, AUTHENTICATION_UNKNOWN, VERSION_NOT_SUPPORTED, INTERNAL_ERROR, DIRECTORY_BUSY, OPTION_NOT_UNDERSTOOD, INVALID_UPDATE}
 use Rattle.slp_messages.specs.declared.header.Header.{Header}
 use Rattle.slp_messages.specs.declared.message.Message.{Message}
@@ -25,10 +25,12 @@ use Rattle.access_rules.specs.Deciding.{SiteRules, deciding}
 use Rattle.access_rules.specs.declared.rule.Action.{Action}
 use Rattle.access_rules.specs.declared.rule.Action.TheVariants.{Register, Withdraw}
 use Rattle.access_rules.specs.declared.rules.Verdict.{Verdict}
+use Rattle.attr_list.specs.Lists.{Attributes}
+use Rattle.attr_list.specs.Reading.{attributes_in}
 use Rattle.registry_core.specs.declared.entry.Entry.{Entry}
 use Rattle.registry_core.specs.Entries.{Entries, entries_code, Pair, is_of_url, is_registered}
 use Rattle.directory_judge.specs.History as history
-use Rattle.directory_judge.specs.History.{Putting, Put, Event}
+use Rattle.directory_judge.specs.History.{Putting, Setting, Removing, Act, Put, Event}
 use Rattle.directory_judge.specs.Contents.{content, content_on}
 use Rattle.directory_judge.specs.Sites.{Site, site_code}
 use Rattle.directory_judge.specs.declared.particulars.Particulars.{Particulars}
@@ -153,19 +155,9 @@ abbrev pub is_agent : Option (List ℕ) → Bool
 is_agent (Some kind) = bytes_eq kind agent_type
 is_agent None = false
 
--- Registrations of which nothing comes yet: updates, those with attributes, those sent to many, and those of a directory agent.
+-- Registrations of which nothing comes yet: those sent to many, and those of a directory agent.
 abbrev pub is_ignored : Header → Registration → Bool
-is_ignored h r = not h.flags.fresh || h.flags.multicast || not (is_blank r.attributes) || is_agent (result_ok (type_of r.kind))
-
--- the list of tags has a part
-abbrev pub names_tags : Option (List Part) → Bool
-names_tags None = false
-names_tags (Some []) = false
-names_tags (Some (p ∷ ps)) = true
-
--- withdrawals of which nothing comes yet: those of tags, and those sent to many
-abbrev pub is_unjudged : Header → Withdrawal → Bool
-is_unjudged h w = h.flags.multicast || names_tags (result_ok (tags_of w.tags))
+is_ignored h r = h.flags.multicast || is_agent (result_ok (type_of r.kind))
 
 -- ---- what a registration names
 
@@ -173,28 +165,29 @@ is_unjudged h w = h.flags.multicast || names_tags (result_ok (tags_of w.tags))
 abbrev pub denial_by : Decider → Judgement
 denial_by d = denial (by_step d None)
 
--- the URL, the type, and those of the scopes that the site supports; or the first fault, where something is not read
-abbrev pub particulars_of_texts : Site → Option (List ℕ) → Option (List ℕ) → Option (List (List ℕ)) → Result Particulars Judgement
-particulars_of_texts site (Some kind) (Some url) (Some scopes) = Ok (record { url = url; kind = kind; scopes = common_scopes site.scopes scopes })
-particulars_of_texts site (Some kind) (Some url) None = Err (denial_by decider.Parse)
-particulars_of_texts site (Some kind) None scopes = Err (denial_by decider.Registration)
-particulars_of_texts site None url scopes = Err (denial_by decider.Registration)
+-- the URL, the type, the attributes, and those of the scopes that the site supports; or the first fault, where something is not read
+abbrev pub particulars_of_texts : Site → Option (List ℕ) → Option (List ℕ) → Option Attributes → Option (List (List ℕ)) → Result Particulars Judgement
+particulars_of_texts site (Some kind) (Some url) (Some attrs) (Some scopes) = Ok (record { url = url; kind = kind; scopes = common_scopes site.scopes scopes; attrs = attrs })
+particulars_of_texts site (Some kind) (Some url) (Some attrs) None = Err (denial_by decider.Parse)
+particulars_of_texts site (Some kind) (Some url) None scopes = Err (denial (by_step decider.Attributes (Some kind)))
+particulars_of_texts site (Some kind) None attrs scopes = Err (denial_by decider.Registration)
+particulars_of_texts site None url attrs scopes = Err (denial_by decider.Registration)
 
 -- a registration has a language and a lifetime first of all
 abbrev pub particulars : Site → Header → Registration → Result Particulars Judgement
 particulars site h r =
     if length h.language == 0 || r.entry.lifetime == 0 then Err (denial_by decider.Registration)
-    else particulars_of_texts site (result_ok (type_of r.kind)) (result_ok (url_of r.entry.url)) (result_ok (scopes_of r.scopes))
+    else particulars_of_texts site (result_ok (type_of r.kind)) (result_ok (url_of r.entry.url)) (result_ok (attributes_in r.attributes)) (result_ok (scopes_of r.scopes))
 
 -- what the code finds of it
 abbrev pub particulars_in : Reading → Result Particulars Judgement
 particulars_in (read.Read p) = Ok p
-particulars_in (read.Denied d) = Err (denial_by d)
+particulars_in (read.Denied because) = Err (denial because)
 
 -- the URL that is found is the one that is named, and the scopes are no more than a site has
 abbrev pub AreParticularsOf : List ℕ → Reading → Type 0
 AreParticularsOf url (read.Read p) = (p.url ≡ url) × (length p.scopes ≤ 16)
-AreParticularsOf url (read.Denied d) = Unit {0}
+AreParticularsOf url (read.Denied because) = Unit {0}
 
 -- ---- the further steps of a registration, each with the judgement where its fault is there
 
@@ -213,18 +206,38 @@ denial_of_scopes t = if length t.scopes == 0 then Some (denial (by_step decider.
 abbrev pub denial_of_new : Grounds → Particulars → Option Judgement
 denial_of_new g t = denial_in g Register t.kind t.scopes
 
--- nor may what it would replace
+-- nor may what a fresh one would replace
 abbrev pub denial_of_old : Grounds → Option Entry → Option Judgement
 denial_of_old g None = None
 denial_of_old g (Some e) = denial_in g Register e.kind e.scopes
+
+-- what an update is of must be live, and of just its type and scopes
+abbrev pub denial_of_update : Particulars → Option Entry → Option Judgement
+denial_of_update t None = Some (denial (by_step decider.Update (Some t.kind)))
+denial_of_update t (Some e) =
+    if not (bytes_eq e.kind t.kind) then Some (denial (by_step decider.Update (Some t.kind)))
+    else if not (texts_eq e.scopes t.scopes) then Some (denial (by_step decider.Scope (Some t.kind)))
+    else None
+
+-- what is live of the pair speaks against a fresh registration, or against an update
+abbrev pub denial_of_live : Grounds → Bool → Particulars → Option Entry → Option Judgement
+denial_of_live g fresh t o = if fresh then denial_of_old g o else denial_of_update t o
 
 -- the pair is not live, and the live entries fill the capacity
 abbrev pub denial_of_room : Grounds → Pair → Particulars → Option Judgement
 denial_of_room g q t = if is_none (fin.get g.live q) && (nat_le g.site.capacity (fin.len g.live)) then Some (denial (by_step decider.Full (Some t.kind))) else None
 
 -- the registration that is made
-abbrev pub putting_of : Grounds → Header → Registration → Particulars → Putting
-putting_of g h r t = record { url = r.entry.url; language = key_of h.language; kind = t.kind; scopes = t.scopes; attributes = fin.empty; lifetime = r.entry.lifetime }
+abbrev pub putting_of : Header → Registration → Particulars → Putting
+putting_of h r t = record { url = r.entry.url; language = key_of h.language; kind = t.kind; scopes = t.scopes; attributes = t.attrs; lifetime = r.entry.lifetime }
+
+-- the update that is made
+abbrev pub setting_of : Header → Registration → Particulars → Setting
+setting_of h r t = record { url = r.entry.url; language = key_of h.language; attributes = t.attrs; lifetime = r.entry.lifetime }
+
+-- a fresh registration founds an entry, another updates one
+abbrev pub act_of : Header → Registration → Particulars → Act
+act_of h r t = if h.flags.fresh then Put (putting_of h r t) else history.Set (setting_of h r t)
 
 -- what decided on the first stored scope
 abbrev pub allowance : Grounds → Particulars → Because
@@ -235,9 +248,9 @@ judgement_of_particulars g h r t =
     unwrap_or
     (option_or (denial_of_scopes t)
     (option_or (denial_of_new g t)
-    (option_or (denial_of_old g (fin.get g.live (pair_in h r)))
+    (option_or (denial_of_live g h.flags.fresh t (fin.get g.live (pair_in h r)))
     (denial_of_room g (pair_in h r) t))))
-    (Accepts (record { moment = g.now; act = Put (putting_of g h r t) }) (allowance g t))
+    (Accepts (record { moment = g.now; act = act_of h r t }) (allowance g t))
 
 abbrev pub judgement_of_reading : Grounds → Header → Registration → Result Particulars Judgement → Judgement
 judgement_of_reading g h r (Ok t) = judgement_of_particulars g h r t
@@ -246,7 +259,7 @@ judgement_of_reading g h r (Err j) = j
 abbrev pub judgement_of_registration : Grounds → Header → Registration → Judgement
 judgement_of_registration g h r = if is_ignored h r then Waits else judgement_of_reading g h r (particulars g.site h r)
 
--- ---- withdrawals
+-- ---- withdrawals of a URL
 
 abbrev pub entries_in : Entries → List Entry
 entries_in m = map (λ p. p.1) (fin.entries m)
@@ -297,19 +310,44 @@ judgement_of_url g url scopes =
     then judgement_of_entries g url scopes (first_of (concerned_entries g url scopes)) (first_of (filter (is_kept g.rules g.asker) (concerned_entries g url scopes)))
     else Ignores
 
-abbrev pub judgement_in_scopes : Grounds → List ℕ → List (List ℕ) → Judgement
-judgement_in_scopes g url [] = denial_by decider.Scope
-judgement_in_scopes g url (s ∷ ss) = judgement_of_url g url (s ∷ ss)
+-- ---- withdrawals of tags
 
--- a URL, a list of tags and scopes that were read, each if it is one
-abbrev pub judgement_of_texts : Grounds → Option (List ℕ) → Option (List Part) → Option (List (List ℕ)) → Judgement
-judgement_of_texts g (Some url) (Some tags) (Some scopes) = judgement_in_scopes g url (common_scopes g.site.scopes scopes)
-judgement_of_texts g (Some url) (Some tags) None = denial_by decider.Parse
-judgement_of_texts g (Some url) None scopes = denial_by decider.Parse
-judgement_of_texts g None tags scopes = denial_by decider.Parse
+abbrev pub removal_event : Grounds → Pair → List Part → Event
+removal_event g q tags = record { moment = g.now; act = history.Remove (record { url = q.0; language = q.1; tags = tags }) }
 
+-- what is live of the pair must be of just these scopes, and its withdrawal allowed; where nothing is live, nothing is changed
+abbrev pub judgement_of_tagged : Grounds → Pair → List Part → List (List ℕ) → Option Entry → Judgement
+judgement_of_tagged g q tags scopes None = Ignores
+judgement_of_tagged g q tags scopes (Some e) =
+    if texts_eq e.scopes scopes then unwrap_or (denial_in g Withdraw e.kind e.scopes) (Accepts (removal_event g q tags) (release g e))
+    else denial_by decider.Scope
+
+abbrev pub judgement_of_removal : Grounds → Pair → List Part → List (List ℕ) → Judgement
+judgement_of_removal g q tags scopes = judgement_of_tagged g q tags scopes (fin.get g.live q)
+
+-- ---- withdrawals of either kind
+
+-- a list of tags that has no part withdraws the whole
+abbrev pub judgement_of_tags : Grounds → Pair → List Part → List (List ℕ) → Judgement
+judgement_of_tags g q [] scopes = judgement_of_url g q.0 scopes
+judgement_of_tags g q (p ∷ ps) scopes = judgement_of_removal g q (p ∷ ps) scopes
+
+abbrev pub judgement_in_scopes : Grounds → Pair → List Part → List (List ℕ) → Judgement
+judgement_in_scopes g q tags [] = denial_by decider.Scope
+judgement_in_scopes g q tags (s ∷ ss) = judgement_of_tags g q tags (s ∷ ss)
+
+-- a URL, a list of tags and scopes that were read, each if it is one, and the language
+abbrev pub judgement_of_texts : Grounds → List ℕ → Option (List ℕ) → Option (List Part) → Option (List (List ℕ)) → Judgement
+judgement_of_texts g language (Some url) (Some tags) (Some scopes) = judgement_in_scopes g (url, language) tags (common_scopes g.site.scopes scopes)
+judgement_of_texts g language (Some url) (Some tags) None = denial_by decider.Parse
+judgement_of_texts g language (Some url) None scopes = denial_by decider.Parse
+judgement_of_texts g language None tags scopes = denial_by decider.Parse
+
+-- nothing comes yet of those sent to many
 abbrev pub judgement_of_withdrawal : Grounds → Header → Withdrawal → Judgement
-judgement_of_withdrawal g h w = if is_unjudged h w then Waits else judgement_of_texts g (result_ok (url_of w.entry.url)) (result_ok (tags_of w.tags)) (result_ok (scopes_of w.scopes))
+judgement_of_withdrawal g h w =
+    if h.flags.multicast then Waits
+    else judgement_of_texts g (key_of h.language) (result_ok (url_of w.entry.url)) (result_ok (tags_of w.tags)) (result_ok (scopes_of w.scopes))
 
 -- ---- messages that may change something
 
@@ -342,6 +380,7 @@ judgement g (message.ServiceAdvert h a) = Waits
 -- what was decided, with what it was decided on
 abbrev pub judgement_in : Decision → Judged
 judgement_in (decision.Founded placed d) = judged.Accept (change.Put placed) (because_of_placed d placed)
+judgement_in (decision.Edited placed d) = judged.Accept (change.Edit placed) (because_of_placed d placed)
 judgement_in (decision.Judged j) = j
 
 -- the code of it, and who decided on what, where there is a verdict

@@ -3,11 +3,11 @@ use Rattle.std.specs.Prelude.{◌≡◌, ℕ, ◌+◌, ◌<◌, Bool, true, fals
 use Rattle.std.specs.List.{list_any}
 use Rattle.std.specs.FinMap as fin
 use Rattle.access_rules.specs.Deciding.{SiteRules}
+use Rattle.attr_list.specs.declared.held.Held.{Held}
 use Rattle.slp_text.specs.Tags.{selects}
 use Rattle.slp_text.specs.Words.{bytes_eq, texts_eq}
 use Rattle.registry_core.specs.declared.entry.Entry.{Entry}
 use Rattle.registry_core.specs.Entries.{Pair, Entries, pair_of, pair_eq}
-use Rattle.directory_judge.specs.Attributes.{Held}
 use Rattle.directory_judge.specs.History.{Putting, Put, Set, Remove, Withdraw, Sweep, Reload, Event, History, now, last_that}
 
 abbrev pub if_true : {A : Type 0} → Bool → Option A → Option A
@@ -93,13 +93,14 @@ founding q h = unless_withdrawn (since_put q h) (last_that (put_of q) h)
 abbrev pub tag_at : Pair → List ℕ → History → Option (Option Held)
 tag_at q tag h = last_that (held_of q tag) h
 
--- An entry stands: its type and scopes are its founding's, its deadline what the last event says that sets one.
--- (Entries do not hold attributes yet: those of the pair are `tag_at`.)
+-- An entry stands: its type and scopes are its founding's, each tag holds what the last event says that speaks of it, and the deadline is what the last
+-- event says that sets one.
 pub record Stands (h : History) (e : Entry) : Type 0 where
   pub by : Putting
   pub founded : founding (pair_of e) h ≡ Some by
   pub kind : e.kind ≡ by.kind
   pub scopes : e.scopes ≡ by.scopes
+  pub attributes : (tag : List ℕ) → tag_at (pair_of e) tag h ≡ Some (fin.get e.attrs tag)
   pub deadline : last_that (deadline_of (pair_of e)) h ≡ Some e.deadline
 
 -- it stands, and its deadline is still to come

@@ -6,7 +6,7 @@ use service_url::Url;
 use slp_text::ScopeList;
 use std::sync::Arc;
 
-/// An entry that a registration founds, of 1 to 16 scopes, and the moment of that in seconds.
+/// An entry of 1 to 16 scopes, as a change leaves it, and the moment of that in seconds.
 #[derive(Drop)]
 pub struct Placed {
     pub moment: u32,
@@ -25,7 +25,10 @@ pub struct Withdrawn {
 /// A change of a directory, at its moment in seconds.
 #[derive(Drop)]
 pub enum Change {
+    /// A registration founds an entry.
     Put(Placed),
+    /// An entry that is held gets other attributes, or another deadline.
+    Edit(Placed),
     Withdraw(u32, Arc<Withdrawn>),
     Sweep(u32),
 }

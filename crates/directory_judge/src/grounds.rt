@@ -1,6 +1,7 @@
-ghost use Rattle.std.specs.Prelude.{◌≡◌, nat_le};
+ghost use Rattle.std.specs.Prelude.{◌≡◌, nat_le, IfSome};
 ghost use Rattle.std.specs.Option.{option_copied, option_map};
 ghost use Rattle.std.specs.FinMap as fin;
+ghost use Rattle.registry_core.specs.Entries.{pair_of};
 ghost use Rattle.directory_judge.specs.Judgements.{ruling_on, ruling_in};
 
 use crate::ruling::Ruling;
@@ -66,7 +67,8 @@ impl<'a, R: Registry> Grounds<'a, R> {
 
     /// The entry of a pair, where it is live.
     pub fn live_entry(&self, url: &Url, language: &Key) -> Option<&'a Entry>
-        ensures { option_copied result ≡ fin.get self.now.live (url.now, language.now) }
+        ensures value { option_copied result ≡ fin.get self.now.live (url.now, language.now) }
+        ensures pair { IfSome result (λ e. pair_of e.now ≡ (url.now, language.now)) }
     {
         match self.registry.find(url, language) {
             Some(entry) if entry.deadline > u64::from(self.moment) => Some(entry),

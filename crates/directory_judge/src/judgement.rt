@@ -20,16 +20,18 @@ pub enum Judged {
     Deny(u16, Because),
 }
 
-/// The same, with no copy of what the entry of an accepted registration has.
+/// The same, with no copy of what the entry of an accepted registration or update has.
 #[derive(Drop)]
 pub enum Decision {
     /// A registration is accepted: who decided, on the type of its entry in the first of its scopes.
     Founded(Placed, Decider),
+    /// An update is accepted, in the same way.
+    Edited(Placed, Decider),
     Judged(Judged),
 }
 
-// Who decided on the type of an entry that is founded, in the first of its scopes.
-fn founding_reason(placed: &Placed, decider: Decider) -> Reason<'_>
+// Who decided on the type of an entry that is registered or updated, in the first of its scopes.
+fn registering_reason(placed: &Placed, decider: Decider) -> Reason<'_>
     ensures { because_of result ≡ because_of_placed decider placed.now }
 {
     Reason {
@@ -47,7 +49,11 @@ impl Decision {
         match self {
             Decision::Founded(placed, decider) => Some(Finding {
                 code: code::OK,
-                reason: founding_reason(placed, *decider),
+                reason: registering_reason(placed, *decider),
+            }),
+            Decision::Edited(placed, decider) => Some(Finding {
+                code: code::OK,
+                reason: registering_reason(placed, *decider),
             }),
             Decision::Judged(Judged::Accept(_, because)) => Some(Finding {
                 code: code::OK,
@@ -68,6 +74,7 @@ impl Decision {
     {
         match self {
             Decision::Founded(placed, _) => Some(Change::Put(placed)),
+            Decision::Edited(placed, _) => Some(Change::Edit(placed)),
             Decision::Judged(Judged::Accept(change, _)) => Some(change),
             Decision::Judged(_) => None,
         }
@@ -79,8 +86,12 @@ impl Decision {
     {
         match self {
             Decision::Founded(placed, decider) => {
-                let because = founding_reason(&placed, decider).copy(alloc)?;
+                let because = registering_reason(&placed, decider).copy(alloc)?;
                 Ok(Judged::Accept(Change::Put(placed), because))
+            }
+            Decision::Edited(placed, decider) => {
+                let because = registering_reason(&placed, decider).copy(alloc)?;
+                Ok(Judged::Accept(Change::Edit(placed), because))
             }
             Decision::Judged(judged) => Ok(judged),
         }

@@ -7,8 +7,10 @@ mod judgement;
 mod particulars;
 mod reason;
 mod registrations;
+mod removals;
 mod ruling;
 mod site;
+mod updates;
 mod withdrawals;
 
 pub use change::{Change, Placed, Withdrawn};

@@ -1,34 +1,39 @@
-ghost use Rattle.std.specs.Prelude.{◌≡◌, ◌≤◌, length, IfOk, IfSome, Some};
+ghost use Rattle.std.specs.Prelude.{◌≡◌, ◌≤◌, length, IfOk, IfSome, Some, None, Err};
 ghost use Rattle.std.specs.Option.{option_copied, option_map};
 ghost use Rattle.std.specs.Result.{result_ok};
+ghost use Rattle.slp_text.specs.Keys.{key_of};
 ghost use Rattle.slp_text.specs.Scopes.{scopes_of, common_scopes};
 ghost use Rattle.slp_text.specs.Tags.{tags_of};
 ghost use Rattle.slp_messages.specs.Views.{header_in, registration_in};
 ghost use Rattle.service_url.specs.Types.{type_of};
 ghost use Rattle.service_url.specs.Urls.{url_of};
+ghost use Rattle.attr_list.specs.Reading.{attributes_in};
 ghost use Rattle.directory_judge.specs.Judgements as spec;
-ghost use Rattle.directory_judge.specs.Judgements.{particulars, particulars_in, AreParticularsOf};
+ghost use Rattle.directory_judge.specs.Judgements.{by_step, denial, particulars, particulars_in, AreParticularsOf};
 
-use crate::reason::Decider;
+use crate::reason::{Because, Decider};
 use crate::site::Site;
+use attr_list::{AttrFault, Attrs};
 use service_url::{ServiceType, Url, UrlFault};
 use slp_messages::{KeptHeader, RegistrationView};
-use slp_text::{NoMemory, ScopeList, TagList, TextFault};
+use slp_text::{Key, NoMemory, ScopeList, TagList, TextFault, key};
 use std::alloc::Global;
 
-/// What a registration names: its URL, its type, and those of its scopes that the site supports.
+/// What a registration names: its URL, its type, those of its scopes that the site supports, and its
+/// attributes.
 #[derive(Drop)]
 pub struct Particulars {
     pub url: Url,
     pub kind: ServiceType,
     pub scopes: ScopeList,
+    pub attrs: Attrs,
 }
 
-/// What is found of a registration: what it names, or the step that finds the first fault.
+/// What is found of a registration: what it names, or which step finds the first fault.
 #[derive(Drop)]
 pub enum Reading {
     Read(Particulars),
-    Denied(Decider),
+    Denied(Because),
 }
 
 /// The type that no one registers.
@@ -78,8 +83,8 @@ pub fn read_supported(alloc: Global, site: &Site, text: &str) -> Result<Option<S
     Ok(Some(scopes.within(site.scopes())))
 }
 
-// The tags that a text names, if it is a list of tags.
-fn read_tags(alloc: Global, text: &str) -> Result<Option<TagList>, NoMemory>
+/// The tags that a text names, if it is a list of tags (RFC 2608, section 9.4).
+pub fn read_tags(alloc: Global, text: &str) -> Result<Option<TagList>, NoMemory>
     ensures { IfOk result (λ t. t ≡ result_ok (tags_of text.now)) }
 {
     match TagList::parse(alloc, text) {
@@ -89,13 +94,25 @@ fn read_tags(alloc: Global, text: &str) -> Result<Option<TagList>, NoMemory>
     }
 }
 
-/// Whether a list of tags has a part, if the text is a list of tags.
-pub fn names_tags(alloc: Global, text: &str) -> Result<Option<bool>, NoMemory>
-    ensures { IfOk result (λ b. b ≡ option_map (λ t. spec.names_tags (Some t)) (result_ok (tags_of text.now))) }
+/// The attributes that a text means, if it is a list of attributes (RFC 2608, section 5).
+pub fn read_attributes(alloc: Global, text: &str) -> Result<Option<Attrs>, NoMemory>
+    ensures { IfOk result (λ a. a ≡ result_ok (attributes_in text.now)) }
 {
-    match read_tags(alloc, text)? {
-        Some(tags) => Ok(Some(!tags.is_empty())),
-        None => Ok(None),
+    match Attrs::parse(alloc, text) {
+        Ok(attrs) => Ok(Some(attrs)),
+        Err(AttrFault::NoMemory) => Err(NoMemory),
+        Err(_) => Ok(None),
+    }
+}
+
+/// The language that a tag names.
+pub fn read_language(alloc: Global, tag: &str) -> Result<Key, NoMemory>
+    ensures { IfOk result (λ k. k ≡ key_of tag.now) }
+{
+    match key(alloc, tag) {
+        Ok(language) => Ok(language),
+        Err(TextFault::NoMemory) => Err(NoMemory),
+        Err(_) => unreachable!(),
     }
 }
 
@@ -107,6 +124,17 @@ pub fn is_agent(kind: Option<&ServiceType>) -> bool
         Some(kind) => kind.text() == AGENT_TYPE,
         None => false,
     }
+}
+
+// What a step finds, by which a type may be known.
+fn denied_by(decider: Decider, kind: Option<ServiceType>) -> Reading
+    ensures { particulars_in result ≡ Err (denial (by_step decider kind)) }
+{
+    Reading::Denied(Because {
+        decider,
+        kind,
+        scope: None,
+    })
 }
 
 /// What a registration names, whose type was read already (RFC 2608, section 9.3).
@@ -122,16 +150,24 @@ pub fn name(
     ensures url { IfOk result (AreParticularsOf registration.now.entry.url.now) }
 {
     if header.language.is_empty() || registration.entry.lifetime == 0 {
-        return Ok(Reading::Denied(Decider::Registration));
+        return Ok(denied_by(Decider::Registration, None));
     }
     let Some(kind) = kind else {
-        return Ok(Reading::Denied(Decider::Registration));
+        return Ok(denied_by(Decider::Registration, None));
     };
     let Some(url) = read_url(alloc, registration.entry.url)? else {
-        return Ok(Reading::Denied(Decider::Registration));
+        return Ok(denied_by(Decider::Registration, None));
+    };
+    let Some(attrs) = read_attributes(alloc, registration.attributes)? else {
+        return Ok(denied_by(Decider::Attributes, Some(kind)));
     };
     let Some(scopes) = read_supported(alloc, site, registration.scopes)? else {
-        return Ok(Reading::Denied(Decider::Parse));
+        return Ok(denied_by(Decider::Parse, None));
     };
-    Ok(Reading::Read(Particulars { url, kind, scopes }))
+    Ok(Reading::Read(Particulars {
+        url,
+        kind,
+        scopes,
+        attrs,
+    }))
 }

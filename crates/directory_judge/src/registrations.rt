@@ -1,48 +1,26 @@
-ghost use Rattle.std.specs.Prelude.{◌≡◌, ◌<◌, ◌≤◌, ◌+◌, IfOk, length, unwrap_or};
+ghost use Rattle.std.specs.Prelude.{◌≡◌, ◌<◌, ◌≤◌, ◌+◌, IfOk, length, true};
 ghost use Rattle.std.specs.FinMap as fin;
 ghost use Rattle.std.specs.Option.{option_map, option_or};
 ghost use Rattle.slp_text.specs.Keys.{key_of};
 ghost use Rattle.slp_messages.specs.Views.{header_in, message_in, registration_in};
 ghost use Rattle.registry_core.specs.Entries.{outlives, passing_entries, pair_of};
-ghost use Rattle.directory_judge.specs.History.{Putting, Put};
-ghost use Rattle.directory_judge.specs.Contents.{entry_of};
-ghost use Rattle.std.specs.Arc.{arc_value};
-ghost use Rattle.directory_judge.specs.declared.judgement.Judged.TheVariants as judged;
-ghost use Rattle.directory_judge.specs.Judgements.{Accepts, because_of, code_by, denial_of_old, denial, denial_of_room, because_of_entry, judgement_in, judgement_of_particulars, judgement_of_registration, judgement, IsChange, IsJudgement};
-ghost use Rattle.directory_judge.specs.declared.particulars.Particulars.{Particulars};
+ghost use Rattle.directory_judge.specs.Judgements.{because_of, because_of_entry, denial_of_old, denial_of_room, judgement_in, judgement_of_particulars, judgement_of_registration, judgement, IsChange, IsJudgement};
+ghost use Rattle.directory_judge.specs.Judgements as spec;
+ghost use Rattle.directory_judge.specs.NamedEntries.{particulars_named, IsJudgedNamed};
 
 use crate::change::Placed;
 use crate::grounds::Grounds;
 use crate::judgement::{Decision, Judged};
-use crate::particulars::{Particulars, Reading, is_agent, name, read_kind};
+use crate::particulars::{Particulars, Reading, is_agent, name, read_kind, read_language};
 use crate::reason::{Decider, Reason};
-use crate::ruling::{deny, deny_by};
+use crate::ruling::{denial, denied};
 use crate::site::Site;
 use access_rules::{Action, Addr, Rules};
 use registry_core::{Entry, Registry};
 use slp_messages::{ChangeView, KeptHeader, Message, RegistrationView};
-use slp_text::{Key, NoMemory, TextFault, is_blank, key};
+use slp_text::NoMemory;
 use std::alloc::Global;
 use std::sync::Arc;
-
-// The language that a tag names.
-fn read_language(alloc: Global, tag: &str) -> Result<Key, NoMemory>
-    ensures { IfOk result (λ k. k ≡ key_of tag.now) }
-{
-    match key(alloc, tag) {
-        Ok(language) => Ok(language),
-        Err(TextFault::NoMemory) => Err(NoMemory),
-        Err(_) => unreachable!(),
-    }
-}
-
-// A denial, with copies of what was decided on.
-fn denial(alloc: Global, reason: Reason<'_>) -> Result<Decision, NoMemory>
-    ensures { IfOk result (λ j. judgement_in j ≡ judged.Deny (code_by reason.entry.decider) (because_of reason.entry)) }
-{
-    let judged = deny(alloc, reason)?;
-    Ok(Decision::Judged(judged))
-}
 
 impl<'a, R: Registry> Grounds<'a, R> {
     // What speaks against an entry that is allowed: what is live of its pair must be allowed too, and
@@ -50,7 +28,7 @@ impl<'a, R: Registry> Grounds<'a, R> {
     fn objection<'b>(&self, entry: &'b Entry) -> Option<Reason<'b>>
     where
         'a: 'b,
-        ensures { option_map (λ r. denial (because_of r)) result ≡ option_or (denial_of_old self.now (fin.get self.now.live (pair_of entry.now))) (denial_of_room self.now (pair_of entry.now) (record { url = entry.now.url; kind = entry.now.kind; scopes = entry.now.scopes })) }
+        ensures { option_map (λ r. spec.denial (because_of r)) result ≡ option_or (denial_of_old self.now (fin.get self.now.live (pair_of entry.now))) (denial_of_room self.now (pair_of entry.now) (particulars_named entry.now)) }
     {
         match self.live_entry(&entry.url, &entry.language) {
             None if self.is_full() => Some(Reason::of_step(Decider::Full, Some(&entry.kind))),
@@ -62,47 +40,64 @@ impl<'a, R: Registry> Grounds<'a, R> {
         }
     }
 
-    // Judges an entry that is allowed by who decided on it.
-    fn judge_entry(
-        &self,
-        alloc: Global,
-        entry: Arc<Entry>,
-        decider: Decider,
-    ) -> Result<Decision, NoMemory>
-        requires scoped { 0 < length (arc_value entry).scopes }
-        requires few_scopes { length (arc_value entry).scopes ≤ 16 }
-        ensures { let e = arc_value entry in
-            IfOk result (λ j. (p : Putting) → entry_of self.now.now p ≡ e →
-            let t : Particulars = record { url = e.url; kind = e.kind; scopes = e.scopes } in
-            IsJudgement self.now.live (judgement_in j) (unwrap_or (option_or (denial_of_old self.now (fin.get self.now.live (pair_of e))) (denial_of_room self.now (pair_of e) t)) (Accepts (record { moment = self.now.now; act = Put p }) (because_of_entry decider e)))) }
+    // Judges a fresh registration of the entry that is named, as `judge_update` an update.
+    fn judge_new(&self, alloc: Global, named: Entry, decider: Decider) -> Result<Decision, NoMemory>
+        requires scoped { 0 < length named.scopes }
+        requires few_scopes { length named.scopes ≤ 16 }
+        ensures { IfOk result (λ j. IsJudgedNamed self.now true named (because_of_entry decider named) (judgement_in j)) }
     {
-        if let Some(reason) = self.objection(&entry) {
+        if let Some(reason) = self.objection(&named) {
             return denial(alloc, reason);
         }
+        let entry = Arc::new(alloc, named)?;
         let moment = self.moment;
         Ok(Decision::Founded(Placed { moment, entry }, decider))
     }
 
-    // The entry that a registration founds.
-    fn founded(
+    // Judges either.
+    fn judge_named(
+        &self,
+        alloc: Global,
+        named: Entry,
+        fresh: bool,
+        decider: Decider,
+    ) -> Result<Decision, NoMemory>
+        requires scoped { 0 < length named.scopes }
+        requires few_scopes { length named.scopes ≤ 16 }
+        ensures { IfOk result (λ j. IsJudgedNamed self.now fresh named (because_of_entry decider named) (judgement_in j)) }
+    {
+        if fresh {
+            self.judge_new(alloc, named, decider)
+        } else {
+            self.judge_update(alloc, named, decider)
+        }
+    }
+
+    // The entry that a registration names.
+    fn named(
         &self,
         alloc: Global,
         header: &KeptHeader<'_>,
         registration: &RegistrationView<'_>,
         particulars: Particulars,
-    ) -> Result<Arc<Entry>, NoMemory>
-        ensures { IfOk result (λ e. arc_value e ≡ record { url = particulars.url; language = key_of header.now.language.now; kind = particulars.kind; scopes = particulars.scopes; deadline = self.now.now + registration.now.entry.lifetime }) }
+    ) -> Result<Entry, NoMemory>
+        ensures { IfOk result (λ e. e ≡ record { url = particulars.url; language = key_of header.now.language.now; kind = particulars.kind; scopes = particulars.scopes; attrs = particulars.attrs; deadline = self.now.now + registration.now.entry.lifetime }) }
     {
-        let Particulars { url, kind, scopes } = particulars;
         let language = read_language(alloc, header.language)?;
-        let entry = Entry {
+        let Particulars {
+            url,
+            kind,
+            scopes,
+            attrs,
+        } = particulars;
+        Ok(Entry {
             url,
             language,
             kind,
             scopes,
+            attrs,
             deadline: u64::from(self.moment) + u64::from(registration.entry.lifetime),
-        };
-        Ok(Arc::new(alloc, entry)?)
+        })
     }
 
     // Judges what a registration names, of a language and a lifetime.
@@ -117,13 +112,12 @@ impl<'a, R: Registry> Grounds<'a, R> {
         requires few_scopes { length particulars.scopes ≤ 16 }
         ensures { IfOk result (λ j. IsJudgement self.now.live (judgement_in j) (judgement_of_particulars self.now (header_in header.now) (registration_in registration.now) particulars)) }
     {
-        let entry = self.founded(alloc, header, registration, particulars)?;
-        let read: &Entry = &entry;
-        match self.rule(Action::Register, &read.kind, &read.scopes) {
-            None => denial(alloc, Reason::of_step(Decider::Scope, Some(&read.kind))),
+        let named = self.named(alloc, header, registration, particulars)?;
+        match self.rule(Action::Register, &named.kind, &named.scopes) {
+            None => denial(alloc, Reason::of_step(Decider::Scope, Some(&named.kind))),
             Some(ruling) if ruling.verdict.allow => {
                 let decider = ruling.decider();
-                self.judge_entry(alloc, entry, decider)
+                self.judge_named(alloc, named, header.flags.fresh, decider)
             }
             Some(ruling) => denial(alloc, ruling.reason()),
         }
@@ -139,15 +133,11 @@ impl<'a, R: Registry> Grounds<'a, R> {
         ensures { IfOk result (λ j. IsJudgement self.now.live (judgement_in j) (judgement_of_registration self.now (header_in header.now) (registration_in registration.now))) }
     {
         let kind = read_kind(alloc, registration.kind)?;
-        if !header.flags.fresh
-            || header.flags.multicast
-            || !is_blank(registration.attributes)
-            || is_agent(kind.as_ref())
-        {
+        if header.flags.multicast || is_agent(kind.as_ref()) {
             return Ok(Decision::Judged(Judged::Unjudged));
         }
         match name(alloc, self.site, header, registration, kind)? {
-            Reading::Denied(decider) => Ok(Decision::Judged(deny_by(decider))),
+            Reading::Denied(because) => Ok(Decision::Judged(denied(because))),
             Reading::Read(particulars) => self.judge_particulars(
                 alloc,
                 header,

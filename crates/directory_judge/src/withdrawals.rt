@@ -1,27 +1,28 @@
-ghost use Rattle.std.specs.Prelude.{◌≡◌, ◌<◌, length, filter, IfOk};
+ghost use Rattle.std.specs.Prelude.{◌≡◌, ◌<◌, ◌≤◌, length, filter, IfOk, IfSome, Some};
 ghost use Rattle.std.specs.List.{list_any};
 ghost use Rattle.std.specs.Arc.{arc_value};
 ghost use Rattle.std.specs.Option.{option_map};
 ghost use Rattle.std.specs.Result.{result_ok};
+ghost use Rattle.slp_text.specs.Keys.{key_of};
 ghost use Rattle.slp_text.specs.Scopes.{scopes_of};
 ghost use Rattle.slp_messages.specs.Views.{header_in, withdrawal_in};
 ghost use Rattle.service_url.specs.Urls.{url_of};
 ghost use Rattle.registry_core.specs.Entries.{is_of_url};
-ghost use Rattle.directory_judge.specs.Judgements.{concerned_entries, entries_in, first_of, is_kept, judgement_of_url, judgement_of_withdrawal, IsJudgement};
+ghost use Rattle.directory_judge.specs.Judgements.{concerned_entries, entries_in, first_of, is_kept, judgement_of_texts, judgement_of_url, judgement_of_withdrawal, IsJudgement};
 ghost use Rattle.directory_judge.specs.Walks.{earlier_ruling, entry_in, walk_with, IsRuledWalk, IsVisit};
 ghost use Rattle.directory_judge.specs.Withdrawals.{withdrawal_of_texts};
 
 use crate::change::{Change, Withdrawn};
 use crate::grounds::Grounds;
 use crate::judgement::Judged;
-use crate::particulars::{names_tags, read_supported, read_url};
+use crate::particulars::{read_supported, read_tags, read_url};
 use crate::reason::Decider;
 use crate::ruling::{Ruling, deny, deny_by};
 use crate::site::Site;
 use access_rules::Action;
 use registry_core::{Entry, Registry};
 use slp_messages::{KeptHeader, WithdrawalView};
-use slp_text::{NoMemory, ScopeList};
+use slp_text::{NoMemory, ScopeList, TagList};
 use std::alloc::Global;
 use std::cmp::Ordering;
 use std::sync::Arc;
@@ -32,7 +33,8 @@ fn read_withdrawn(
     site: &Site,
     withdrawal: &WithdrawalView<'_>,
 ) -> Result<Option<Arc<Withdrawn>>, NoMemory>
-    ensures { IfOk result (λ w. option_map arc_value w ≡ withdrawal_of_texts site.now (result_ok (url_of withdrawal.now.entry.url.now)) (result_ok (scopes_of withdrawal.now.scopes.now))) }
+    ensures value { IfOk result (λ w. option_map arc_value w ≡ withdrawal_of_texts site.now (result_ok (url_of withdrawal.now.entry.url.now)) (result_ok (scopes_of withdrawal.now.scopes.now))) }
+    ensures few { IfOk result (λ w. IfSome w (λ a. length (arc_value a).scopes ≤ 16)) }
 {
     let Some(url) = read_url(alloc, withdrawal.entry.url)? else {
         return Ok(None);
@@ -158,6 +160,28 @@ impl<'a, R: Registry> Grounds<'a, R> {
         Ok(Judged::Accept(Change::Withdraw(self.moment, withdrawn), because))
     }
 
+    // Judges a withdrawal of some tags, or where there are none of a URL.
+    fn judge_asked(
+        &self,
+        alloc: Global,
+        header: &KeptHeader<'_>,
+        withdrawal: &WithdrawalView<'_>,
+        tags: &TagList,
+    ) -> Result<Judged, NoMemory>
+        ensures { IfOk result (λ j. IsJudgement self.now.live j (judgement_of_texts self.now (key_of header.now.language.now) (result_ok (url_of withdrawal.now.entry.url.now)) (Some tags.now) (result_ok (scopes_of withdrawal.now.scopes.now)))) }
+    {
+        let Some(withdrawn) = read_withdrawn(alloc, self.site, withdrawal)? else {
+            return Ok(deny_by(Decider::Parse));
+        };
+        if withdrawn.scopes.is_empty() {
+            return Ok(deny_by(Decider::Scope));
+        }
+        if tags.is_empty() {
+            return self.judge_stored(alloc, withdrawn);
+        }
+        self.judge_removal(alloc, header.language, &withdrawn, tags)
+    }
+
     /// Judges a withdrawal, step by step (RFC 2608, section 10.6).
     pub fn judge_withdrawal(
         &self,
@@ -167,19 +191,12 @@ impl<'a, R: Registry> Grounds<'a, R> {
     ) -> Result<Judged, NoMemory>
         ensures { IfOk result (λ j. IsJudgement self.now.live j (judgement_of_withdrawal self.now (header_in header.now) (withdrawal_in withdrawal.now))) }
     {
-        let tags = names_tags(alloc, withdrawal.tags)?;
-        if header.flags.multicast || tags.unwrap_or(false) {
+        if header.flags.multicast {
             return Ok(Judged::Unjudged);
         }
-        if tags.is_none() {
-            return Ok(deny_by(Decider::Parse));
+        match read_tags(alloc, withdrawal.tags)? {
+            Some(tags) => self.judge_asked(alloc, header, withdrawal, &tags),
+            None => Ok(deny_by(Decider::Parse)),
         }
-        let Some(withdrawn) = read_withdrawn(alloc, self.site, withdrawal)? else {
-            return Ok(deny_by(Decider::Parse));
-        };
-        if withdrawn.scopes.is_empty() {
-            return Ok(deny_by(Decider::Scope));
-        }
-        self.judge_stored(alloc, withdrawn)
     }
 }

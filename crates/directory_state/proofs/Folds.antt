@@ -7,6 +7,9 @@ use Rattle.std.proofs.lemmas.Option.{none-some, same_Some}
 use borrow.Author.Tests.{ltb-true, lt-ltb}
 use Rattle.std.specs.Cmp.{eq_by_cmp_equiv}
 use Rattle.std.specs.FinMap as fin
+use Rattle.attr_list.specs.Lists.{Attributes}
+use Rattle.attr_list.proofs.Combined.{same_attributes}
+use Rattle.slp_text.specs.Tags.{selects}
 use Rattle.slp_text.specs.Words.{bytes_eq, texts_eq}
 use Rattle.registry_core.specs.declared.entry.Entry.{Entry}
 use Rattle.registry_core.specs.Entries.{Pair, Entries, pair_cmp, pair_of, pair_eq, outlives, passing_entries}
@@ -14,7 +17,7 @@ use Rattle.registry_core.proofs.Lists.{pair_total, pair_exact, cmp-pair_eq, pair
 use Rattle.directory_answers.specs.Calls.{Opening}
 use Rattle.directory_judge.specs.History.{Putting, Withdrawing, Act, Put, Set, Remove, Withdraw, Sweep, Reload, Event, History, clock, now, last_that}
 use Rattle.directory_judge.specs.Contents.{Content, Stores, Edits, Withdraws, Sweeps, Reloads}
-use Rattle.directory_judge.specs.Meaning.{if_true, put_of, withdraws, deadline_of, rules_of, since_put, unless_withdrawn, founding, Stands, Live, AreLive}
+use Rattle.directory_judge.specs.Meaning.{if_true, put_of, withdraws, held_of, deadline_of, rules_of, since_put, unless_withdrawn, founding, tag_at, Stands, Live, AreLive}
 use Rattle.directory_state.specs.Folds.{Fold, IsEditOf, StandsFor}
 use Rattle.directory_state.specs.State.{State, is_full_for, is_withdrawn, entries_with, entries_edited, state_made}
 pub use Rattle.directory_judge.proofs.Maps.{if_kept-some, some-if_kept}
@@ -25,14 +28,19 @@ use Rattle.directory_state.proofs.States.{is_full-parts}
 pub record Silent (q : Pair) (c : Event) : Type 0 where
   pub put : put_of q c ≡ None
   pub withdrawn : (p : Putting) → withdraws p c ≡ false
+  pub held : (tag : List ℕ) → held_of q tag c ≡ None
   pub deadline : deadline_of q c ≡ None
 
 unless_withdrawn-cons : (c : Event) (h : History) (o : Option Putting) → ((p : Putting) → withdraws p c ≡ false) → unless_withdrawn (c ∷ h) o ≡ unless_withdrawn h o
 unless_withdrawn-cons c h None keeps = refl
 unless_withdrawn-cons c h (Some p) keeps = rw (keeps p) refl
 
+-- an event that neither registers a pair nor withdraws anything leaves its founding
+pub founding-kept : (q : Pair) (c : Event) (h : History) → put_of q c ≡ None → ((p : Putting) → withdraws p c ≡ false) → founding q (c ∷ h) ≡ founding q h
+founding-kept q c h put keeps = rw put (unless_withdrawn-cons c (since_put q h) (last_that (put_of q) h) keeps)
+
 founding-silent : (q : Pair) (c : Event) (h : History) → Silent q c → founding q (c ∷ h) ≡ founding q h
-founding-silent q c h s = rw s.put (unless_withdrawn-cons c (since_put q h) (last_that (put_of q) h) s.withdrawn)
+founding-silent q c h s = founding-kept q c h s.put s.withdrawn
 
 module _ (c : Event) (h : History) (e : Entry) (s : Silent (pair_of e) c) where
   pub Stands-before : Stands (c ∷ h) e → Stands h e
@@ -41,6 +49,7 @@ module _ (c : Event) (h : History) (e : Entry) (s : Silent (pair_of e) c) where
     founded = sym (founding-silent (pair_of e) c h s) ∙ t.founded;
     kind = t.kind;
     scopes = t.scopes;
+    attributes = λ tag. rw (s.held tag) at (t.attributes tag);
     deadline = rw s.deadline at t.deadline;
   }
 
@@ -50,22 +59,24 @@ module _ (c : Event) (h : History) (e : Entry) (s : Silent (pair_of e) c) where
     founded = founding-silent (pair_of e) c h s ∙ t.founded;
     kind = t.kind;
     scopes = t.scopes;
+    attributes = λ tag. rw (s.held tag) (t.attributes tag);
     deadline = rw s.deadline t.deadline;
   }
 
 -- ---- one entry stands of a pair
 
-same_entry : (u v : List ℕ) (l m : List ℕ) (k j : List ℕ) (s t : List (List ℕ)) (d f : ℕ) → u ≡ v → l ≡ m → k ≡ j → s ≡ t → d ≡ f
-    → ◌≡◌ {A = Entry} (record { url = u; language = l; kind = k; scopes = s; deadline = d }) (record { url = v; language = m; kind = j; scopes = t; deadline = f })
-same_entry u v l m k j s t d f e1 e2 e3 e4 e5 = λ i. record { url = e1 i; language = e2 i; kind = e3 i; scopes = e4 i; deadline = e5 i }
+same_entry : (u v : List ℕ) (l m : List ℕ) (k j : List ℕ) (s t : List (List ℕ)) (a b : Attributes) (d f : ℕ) → u ≡ v → l ≡ m → k ≡ j → s ≡ t → a ≡ b → d ≡ f
+    → ◌≡◌ {A = Entry} (record { url = u; language = l; kind = k; scopes = s; attrs = a; deadline = d }) (record { url = v; language = m; kind = j; scopes = t; attrs = b; deadline = f })
+same_entry u v l m k j s t a b d f e1 e2 e3 e4 e5 e6 = λ i. record { url = e1 i; language = e2 i; kind = e3 i; scopes = e4 i; attrs = e5 i; deadline = e6 i }
 
 pub Stands-unique : (h : History) (e f : Entry) → pair_of e ≡ pair_of f → Stands h e → Stands h f → e ≡ f
 Stands-unique h e f pair s t =
     let founded : s.by ≡ t.by = same_Some _ _ (sym s.founded ∙ ap (λ q. founding q h) pair ∙ t.founded) in
-    same_entry e.url f.url e.language f.language e.kind f.kind e.scopes f.scopes e.deadline f.deadline
+    same_entry e.url f.url e.language f.language e.kind f.kind e.scopes f.scopes e.attrs f.attrs e.deadline f.deadline
     (ap (λ q. q.0) pair) (ap (λ q. q.1) pair)
     (s.kind ∙ ap (λ (p : Putting). p.kind) founded ∙ sym t.kind)
     (s.scopes ∙ ap (λ (p : Putting). p.scopes) founded ∙ sym t.scopes)
+    (same_attributes e.attrs f.attrs (λ tag. same_Some _ _ (sym (s.attributes tag) ∙ ap (λ q. tag_at q tag h) pair ∙ t.attributes tag)))
     (same_Some _ _ (sym s.deadline ∙ ap (λ q. last_that (deadline_of q) h) pair ∙ t.deadline))
 
 -- ---- maps of live entries
@@ -157,6 +168,7 @@ Silent-put : (moment : ℕ) (p : Putting) (q : Pair) → pair_eq (p.url, p.langu
 Silent-put moment p q h = record {
   put = ap (λ b. if_true b (Some p)) h;
   withdrawn = λ _. refl;
+  held = λ tag. ap (λ b. if_true b (Some (fin.get p.attributes tag))) h;
   deadline = ap (λ b. if_true b (Some (moment + p.lifetime))) h;
 }
 
@@ -253,7 +265,7 @@ module _ (moment : ℕ) (w : Withdrawing) (h : History) (e : Entry) where
   Stands-unwithdrawn t =
       let k = unless-parts (record { moment = moment; act = Withdraw w } ∷ since_put (pair_of e) h) (last_that (put_of (pair_of e)) h) t.by t.founded in
       let f = or_false (withdraws t.by (record { moment = moment; act = Withdraw w })) (list_any (withdraws t.by) (since_put (pair_of e) h)) k.1 in (
-        record { by = t.by; founded = unless-state_made (since_put (pair_of e) h) (last_that (put_of (pair_of e)) h) t.by k.0 f.1; kind = t.kind; scopes = t.scopes; deadline = t.deadline },
+        record { by = t.by; founded = unless-state_made (since_put (pair_of e) h) (last_that (put_of (pair_of e)) h) t.by k.0 f.1; kind = t.kind; scopes = t.scopes; attributes = t.attributes; deadline = t.deadline },
         sym (same_words t.by (last_put-pair (pair_of e) h t.by k.0) t.scopes) ∙ f.0,
       )
 
@@ -266,6 +278,7 @@ module _ (moment : ℕ) (w : Withdrawing) (h : History) (e : Entry) where
         founded = unless-state_made (record { moment = moment; act = Withdraw w } ∷ since_put (pair_of e) h) (last_that (put_of (pair_of e)) h) t.by k.0 (ap (λ b. b || list_any (withdraws t.by) (since_put (pair_of e) h)) plain ∙ k.1);
         kind = t.kind;
         scopes = t.scopes;
+        attributes = t.attributes;
         deadline = t.deadline;
       }
 
@@ -300,8 +313,15 @@ Fold-withdraw o h moment w s fold le =
 Silent-edit : (moment : ℕ) (a : Act) (r q : Pair) → IsEditOf r a → pair_eq r q ≡ false → Silent q (record { moment = moment; act = a })
 Silent-edit moment (Set s) r q of h =
     let k : pair_eq (s.url, s.language) q ≡ false = subst (λ (x : Pair). pair_eq x q ≡ false) (sym of) h in
-    record { put = refl; withdrawn = λ p. refl; deadline = ap (λ b. if_true b (Some (moment + s.lifetime))) k }
-Silent-edit moment (Remove s) r q of h = record { put = refl; withdrawn = λ p. refl; deadline = refl }
+    record {
+      put = refl;
+      withdrawn = λ p. refl;
+      held = λ tag. ap (λ b. if_true (b && is_some (fin.get s.attributes tag)) (Some (fin.get s.attributes tag))) k;
+      deadline = ap (λ b. if_true b (Some (moment + s.lifetime))) k;
+    }
+Silent-edit moment (Remove s) r q of h =
+    let k : pair_eq (s.url, s.language) q ≡ false = subst (λ (x : Pair). pair_eq x q ≡ false) (sym of) h in
+    record { put = refl; withdrawn = λ p. refl; held = λ tag. ap (λ b. if_true (b && selects s.tags tag) (Some None)) k; deadline = refl }
 Silent-edit moment (Put p) r q of h = absurd of
 Silent-edit moment (Withdraw w) r q of h = absurd of
 Silent-edit moment Sweep r q of h = absurd of
@@ -381,7 +401,7 @@ Fold-state_made o h (Sweeps moment) c s fold le possible stands =
     subst (λ (x : Event). Fold o (x ∷ h) (state_made (Sweeps moment) s)) (sym same)
     (record {
       entries = AreLive-quiet (record { moment = moment; act = Sweep }) h (passing_entries (outlives moment) s.entries) later
-          (λ q. record { put = refl; withdrawn = λ p. refl; deadline = refl }) (AreLive-swept h moment s.entries later fold.entries);
+          (λ q. record { put = refl; withdrawn = λ p. refl; held = λ tag. refl; deadline = refl }) (AreLive-swept h moment s.entries later fold.entries);
       ruled = fold.ruled;
       placed = fold.placed;
       clocks = ap (max moment) fold.clocks;
@@ -392,7 +412,7 @@ Fold-state_made o h (Reloads moment rs) c s fold le possible stands =
     subst (λ (x : Event). Fold o (x ∷ h) (state_made (Reloads moment rs) s)) (sym same)
     (record {
       entries = AreLive-quiet (record { moment = moment; act = Reload rs }) h (passing_entries (outlives moment) s.entries) later
-          (λ q. record { put = refl; withdrawn = λ p. refl; deadline = refl }) (AreLive-swept h moment s.entries later fold.entries);
+          (λ q. record { put = refl; withdrawn = λ p. refl; held = λ tag. refl; deadline = refl }) (AreLive-swept h moment s.entries later fold.entries);
       ruled = refl;
       placed = fold.placed;
       clocks = ap (max moment) fold.clocks;

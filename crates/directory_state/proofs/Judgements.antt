@@ -1,22 +1,21 @@
 -- The judgement over a state is the verdict at its history.
-use Rattle.std.proofs.Common.{◌≡◌, ℕ, ◌∷◌, max, true, refl, sym, ap, subst, arith, inl, inr}
+use Rattle.std.proofs.Common.{◌≡◌, ℕ, max, refl, sym, ap, subst, arith}
 use Rattle.access_rules.specs.Deciding.{SiteRules}
-use Rattle.registry_core.specs.Entries.{Entries, pair_eq, outlives, passing_entries}
-use Rattle.registry_core.proofs.Lists.{pair_eq-same}
+use Rattle.registry_core.specs.Entries.{Entries, outlives, passing_entries}
 use Rattle.slp_messages.specs.declared.message.Message.{Message}
 use Rattle.directory_answers.specs.Calls.{Opening}
 use Rattle.directory_judge.specs.declared.judgement.Judged.{Judged}
 use Rattle.directory_judge.specs.declared.judgement.Judged.TheVariants as judged
-use Rattle.directory_judge.specs.History.{Putting, Put, Event, History, clock, now}
-use Rattle.directory_judge.specs.Judgements.{Grounds, Judgement, judgement, IsJudgement, putting_of}
-use Rattle.directory_judge.specs.Contents.{content_on, entry_of}
-use Rattle.directory_judge.specs.Meaning.{AreLive, Stands, rules}
+use Rattle.directory_judge.specs.History.{History, clock, now}
+use Rattle.directory_judge.specs.Judgements.{Grounds, Judgement, judgement, IsJudgement}
+use Rattle.directory_judge.specs.Meaning.{AreLive, rules}
 use Rattle.directory_judge.specs.Sites.{Site}
 use Rattle.directory_state.specs.Folds.{Fold, StandsFor}
 use Rattle.directory_state.specs.State.{State}
 use Rattle.directory_answers.specs.Verdicts.{grounds, IsVerdict}
 use Rattle.directory_state.specs.Folds.{IsJudgedAs}
-use Rattle.directory_state.proofs.AcceptedChanges.{accepted}
+use Rattle.directory_state.proofs.AcceptedChanges.{accepted, possible_act, AreLive-acting}
+use Rattle.directory_state.proofs.EventContents.{stands_on}
 use Rattle.directory_state.proofs.Folds.{AreLive-swept}
 
 -- the entries of the state that outlive the moment of a call are those that are live at it
@@ -31,38 +30,24 @@ AreLive-state o h m s fold =
     let over : AreLive h (now h m) (passing_entries (outlives (now h m)) s.entries) = AreLive-swept h (now h m) s.entries (omega arith) fold.entries in
     subst (λ (n : ℕ). AreLive h m (passing_entries (outlives n) s.entries)) (sym (ap (max m) fold.clocks)) (AreLive-called h m _ over)
 
--- what a registration founds stands after it
-pub Stands-put : (moment : ℕ) (p : Putting) (h : History) → Stands (record { moment = moment; act = Put p } ∷ h) (entry_of moment p)
-Stands-put moment p h =
-    let own : pair_eq (p.url, p.language) (p.url, p.language) ≡ true = pair_eq-same (p.url, p.language) in
-    record {
-      by = p;
-      founded = rw own refl;
-      kind = refl;
-      scopes = refl;
-      deadline = rw own refl;
-    }
-
 same_grounds : (a b : SiteRules) (site other : Site) (live : Entries) (m n asker : ℕ) → a ≡ b → site ≡ other → m ≡ n
     → ◌≡◌ {A = Grounds} (record { rules = a; site = site; live = live; now = m; asker = asker }) (record { rules = b; site = other; live = live; now = n; asker = asker })
 same_grounds a b site other live m n asker e p f = λ i. record { rules = e i; site = p i; live = live; now = f i; asker = asker }
 
 -- a change that holds what an accepted event asks for stands for it
-stands_for : (o : Opening) (h : History) (live : Entries) (m asker : ℕ) (sent : Message) (j : Judged) → IsJudgement live j (judgement (grounds o h live m asker) sent) → IsJudgedAs h j (judgement (grounds o h live m asker) sent)
-stands_for o h live m asker sent (judged.Accept change because) is =
-    let g = grounds o h live m asker in (
-      is.0,
+stands_for : (o : Opening) (h : History) (live : Entries) (m asker : ℕ) (sent : Message) (j : Judged) → AreLive h m live
+    → IsJudgement live j (judgement (grounds o h live m asker) sent) → IsJudgedAs h j (judgement (grounds o h live m asker) sent)
+stands_for o h live m asker sent (judged.Accept change because) are_live is =
+    let c = is.0 in
+    let by = accepted (grounds o h live m asker) sent c because is.1 in
+    let possible = possible_act o h m c.moment asker live sent by.moment are_live c.act by.act in (
+      c,
       is.1,
-      subst (λ x. StandsFor h x is.0) (sym is.2) (elim (accepted g sent is.0 because is.1) [
-        | inl by ↦
-            let p = putting_of g by.header by.registration by.particulars in
-            subst (λ (c : Event). StandsFor h (content_on live c) c) (sym by.accepted.event) (refl, p, refl, refl, Stands-put (now h m) p h)
-        | inr by ↦ subst (λ (c : Event). StandsFor h (content_on live c) c) (sym by.event) (refl, refl)
-      ]),
+      subst (λ x. StandsFor h x c) (sym is.2) (stands_on o.site.capacity h live c.moment (AreLive-acting h m c.moment live by.moment are_live) c.act possible),
     )
-stands_for o h live m asker sent judged.Nothing is = is
-stands_for o h live m asker sent judged.Unjudged is = is
-stands_for o h live m asker sent (judged.Deny code because) is = is
+stands_for o h live m asker sent judged.Nothing are_live is = is
+stands_for o h live m asker sent judged.Unjudged are_live is = is
+stands_for o h live m asker sent (judged.Deny code because) are_live is = is
 
 module _ (o : Opening) (h : History) (s : State) (fold : Fold o h s) where
   judged_as : (m asker : ℕ) (sent : Message) (j : Judged)
@@ -74,7 +59,7 @@ module _ (o : Opening) (h : History) (s : State) (fold : Fold o h s) where
       let there = subst (λ (g : Grounds). IsJudgement live j (judgement g sent)) same is in (
         judgement (grounds o h live m asker) sent,
         record { live = live; are_live = AreLive-state o h m s fold; is = refl },
-        stands_for o h live m asker sent j there,
+        stands_for o h live m asker sent j (AreLive-state o h m s fold) there,
       )
 
   -- the same of what was judged with the clock and the rules of the state

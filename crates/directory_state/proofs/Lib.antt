@@ -1,5 +1,6 @@
 pub mod AcceptedChanges
 pub mod Cuts
+pub mod EventContents
 pub mod Folds
 pub mod Founders
 pub mod Histories

@@ -153,6 +153,14 @@ impl<R: Registry> Directory<R> {
                 self.registry.sweep(u64::from(moment));
                 let _ = self.registry.put(entry);
             }
+            Change::Edit(placed) => {
+                let Placed { moment, entry } = placed;
+                self.clock = self.now(moment);
+                self.registry.sweep(u64::from(moment));
+                if self.registry.find(&entry.url, &entry.language).is_some() {
+                    self.registry.edit(entry);
+                }
+            }
             Change::Withdraw(moment, withdrawn) => {
                 self.clock = self.now(moment);
                 self.registry.sweep(u64::from(moment));

@@ -107,6 +107,13 @@ impl Registry for ListRegistry {
         }
     }
 
+    fn edit(&mut self, entry: Arc<Entry>) {
+        let named: &Entry = &entry;
+        if let Some(place) = place_of(&self.entries, &named.url, &named.language) {
+            self.entries[place] = entry;
+        }
+    }
+
     fn sweep(&mut self, now: u64) {
         self.entries.retain(|e| e.deadline > now);
     }

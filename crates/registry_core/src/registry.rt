@@ -1,4 +1,4 @@
-ghost use Rattle.std.specs.Prelude.{◌≡◌, ◌<◌, ◌≤◌, ◌∷◌, [], ◌↔◌, length, filter, not, IsErrOf, OnOk, OnErr, IfSome, MatchOption, None};
+ghost use Rattle.std.specs.Prelude.{◌≡◌, ◌<◌, ◌≤◌, ◌∷◌, [], ◌↔◌, length, filter, is_some, not, true, IsErrOf, OnOk, OnErr, IfSome, MatchOption, None};
 ghost use Rattle.std.specs.Arc.{arc_value};
 ghost use Rattle.std.specs.FinMap as fin;
 ghost use Rattle.std.specs.Option.{option_copied};
@@ -51,6 +51,14 @@ pub trait Registry {
         ensures err { OnErr result (contents self.new ≡ contents self.old) }
         ensures room { limit self.new ≡ limit self.old };
 
+    /// Sets the entry of a pair that is held, and of no other.
+    fn edit(&mut self, entry: Arc<Entry>)
+        requires scoped { 0 < length (arc_value entry).scopes }
+        requires few_scopes { length (arc_value entry).scopes ≤ 16 }
+        requires held { is_some (fin.get (contents self.old) (pair_of (arc_value entry))) ≡ true }
+        ensures edited { contents self.new ≡ fin.insert (contents self.old) (pair_of (arc_value entry)) (arc_value entry) }
+        ensures room { limit self.new ≡ limit self.old };
+
     /// Drops the entries whose deadline is at most `now`, a moment in seconds.
     fn sweep(&mut self, now: u64)
         ensures each { (q : Pair) → fin.get (contents self.new) q ≡ if_kept (outlives now) (fin.get (contents self.old) q) }
@@ -63,7 +71,8 @@ pub trait Registry {
 
     /// The entry of a URL and a language.
     fn find(&self, url: &Url, language: &Key) -> Option<&Entry>
-        ensures { option_copied result ≡ fin.get (contents self.now) (url.now, language.now) };
+        ensures value { option_copied result ≡ fin.get (contents self.now) (url.now, language.now) }
+        ensures pair { IfSome result (λ e. pair_of e.now ≡ (url.now, language.now)) };
 
     /// The next entry that stands in a scope and is of a type that the given one covers (`None`: of
     /// any type), with the number to go on from. The first number is 0. On a registry that stays as

@@ -13,3 +13,5 @@ mod scripts;
 mod sites;
 #[cfg(test)]
 mod streams;
+#[cfg(test)]
+mod updates;

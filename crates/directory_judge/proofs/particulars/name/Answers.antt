@@ -16,4 +16,4 @@ pub returns-clause-url : goal.returns-clause-url
 returns-clause-url c =
     let text = c.args.registration.now.entry.url.now in
     let read : result_ok (url_of text) ≡ Some c.in-Some-2.url = sym c.in_ok-url.ensures ∙ c.in-Some-2.is in
-    (sym (read-same (nat_lt longest_url (length text)) (is_url text) text c.in-Some-2.url read), rw c.in-Some-3.is at c.in_ok-scopes.ensures.few)
+    (sym (read-same (nat_lt longest_url (length text)) (is_url text) text c.in-Some-2.url read), rw c.in-Some-4.is at c.in_ok-scopes.ensures.few)

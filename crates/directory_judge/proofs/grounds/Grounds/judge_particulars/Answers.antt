@@ -1,6 +1,5 @@
 use Rattle.std.proofs.Common.{◌≡◌, ℕ, ◌<◌, List, [], ◌∷◌, None, Some, length, refl, sym, ap, subst, ◌∙◌, arith}
 use Rattle.std.specs.Prelude.{slice_get, unwrap_or}
-use Rattle.std.specs.Arc.{arc_value}
 use Rattle.std.specs.Option.{option_map}
 use Rattle.std.proofs.lemmas.Result.{IfOk-weaker}
 use Rattle.slp_messages.specs.Views.{header_in, registration_in}
@@ -14,7 +13,8 @@ use Rattle.directory_judge.specs.declared.judgement.Judged.TheVariants as judged
 use Rattle.directory_judge.specs.declared.ruling.Ruling.{Ruling}
 use Rattle.directory_judge.specs.declared.reason.Decider.TheVariants as decider
 use Rattle.directory_judge.proofs.Rulings.{no-scopes, ruling-allowed, ruling-denied, ruling-first, ruling-none, ruling_on-some}
-use Rattle.directory_judge.proofs.Steps.{judgement-denied, judgement-unsupported, IsJudgement-entry, IsJudgementBy}
+use Rattle.directory_judge.proofs.Steps.{judgement-denied, judgement-unsupported, IsJudgement-named}
+use Rattle.directory_judge.specs.NamedEntries.{IsJudgedNamed}
 use Rattle.directory_judge.proofs.grounds.Grounds.judge_particulars.Goals as goal
 
 pub returns-in-None : goal.returns-in-None
@@ -23,8 +23,8 @@ returns-in-None g c =
     let h = header_in c.args.header.now in
     let r = registration_in c.args.registration.now in
     let t = c.args.particulars in
-    let e = c.deref-read.result.now in
-    let is = c.deref-read.ensures ∙ c.in_ok-entry.ensures in
+    let e = c.in_ok-named.named in
+    let is = c.in_ok-named.ensures in
     let because = by_step decider.Scope (Some e.kind) in
     let none : length e.scopes ≡ 0 = no-scopes e.scopes (ruling-none on.rules on.asker Register e.kind e.scopes (sym c.rule.ensures ∙ ap (option_map ruling_in) c.in-None.is)).1 in
     let unsupported : judgement_of_particulars on h r t ≡ denial because =
@@ -50,19 +50,19 @@ returns-in-Some g c =
     let h = header_in c.args.header.now in
     let r = registration_in c.args.registration.now in
     let t = c.args.particulars in
-    let e = arc_value c.in_ok-entry.entry in
+    let e = c.in_ok-named.named in
     let b = because_of_entry c.decider-decider.result e in
-    let is = c.in_ok-entry.ensures in
-    let ruled = rw c.deref-read.ensures at c.in-Some.ensures in
+    let is = c.in_ok-named.ensures in
+    let ruled = c.in-Some.ensures in
     let there : 0 < length e.scopes = ruling_on-some on.rules on.asker Register e.kind e.scopes (ruling_in c.in-Some.ruling) (sym ruled) in
     let some : 0 < length t.scopes = subst (λ (x : Entry). 0 < length x.scopes) is there in
     let allowed : denial_of on.rules on.asker Register e.kind e.scopes ≡ None = ruling-allowed on.rules on.asker Register e.kind e.scopes c.in-Some.ruling (sym ruled) c.if-ruling.true in
     let first : b ≡ by_rule on.rules on.asker Register e.kind (unwrap_or (slice_get e.scopes 0) []) =
     founding-first on.rules on.asker e c.decider-decider.result c.in-Some.ruling there c.decider-decider.ensures (ruling-first on.rules on.asker Register e.kind e.scopes c.in-Some.ruling (sym ruled) allowed) in
-    IfOk-weaker c.judge_entry.result (λ j. IsJudgementBy on e b (judgement_in j)) _
-    (λ j. IsJudgement-entry on h r t some e b (judgement_in j) (sym (ap (λ (x : Entry). denial_of on.rules on.asker Register x.kind x.scopes) is) ∙ allowed) c.requires.url is
+    IfOk-weaker c.judge_named.result (λ j. IsJudgedNamed on h.flags.fresh e b (judgement_in j)) _
+    (λ j. IsJudgement-named on h r t some e b (judgement_in j) (sym (ap (λ (x : Entry). denial_of on.rules on.asker Register x.kind x.scopes) is) ∙ allowed) c.requires.url is
     (first ∙ ap (λ (x : Entry). by_rule on.rules on.asker Register x.kind (unwrap_or (slice_get x.scopes 0) [])) is))
-    c.judge_entry.ensures
+    c.judge_named.ensures
 
 pub returns-in-Some-2 : goal.returns-in-Some-2
 returns-in-Some-2 g c =
@@ -70,9 +70,9 @@ returns-in-Some-2 g c =
     let h = header_in c.args.header.now in
     let r = registration_in c.args.registration.now in
     let t = c.args.particulars in
-    let e = arc_value c.in_ok-entry.entry in
-    let is = c.in_ok-entry.ensures in
-    let ruled = rw c.deref-read.ensures at c.in-Some.ensures in
+    let e = c.in_ok-named.named in
+    let is = c.in_ok-named.ensures in
+    let ruled = c.in-Some.ensures in
     let there : 0 < length e.scopes = ruling_on-some on.rules on.asker Register e.kind e.scopes (ruling_in c.in-Some.ruling) (sym ruled) in
     let denies : denial_of on.rules on.asker Register e.kind e.scopes ≡ Some (because_in c.in-Some.ruling) = ruling-denied on.rules on.asker Register e.kind e.scopes c.in-Some.ruling (sym ruled) c.if-ruling.false in
     let judged_so : judgement_of_particulars on h r t ≡ denial (because_in c.in-Some.ruling) =

@@ -1,0 +1,40 @@
+-- What an update of an entry comes to that may be updated.
+use Rattle.std.proofs.Common.{◌≡◌, ℕ, false, cond, Some, None, sym, ap, ap₂, ◌∙◌}
+use Rattle.std.specs.Prelude.{◌&&◌, Option, is_none, nat_le, not, unwrap_or}
+use Rattle.std.specs.Option.{option_or}
+use Rattle.std.specs.FinMap as fin
+use Rattle.slp_text.specs.Words.{bytes_eq, texts_eq}
+use Rattle.attr_list.specs.Maps.{updated_attributes}
+use Rattle.registry_core.specs.declared.entry.Entry.{Entry}
+use Rattle.registry_core.specs.Entries.{Entries, Pair}
+use Rattle.directory_judge.specs.History.{Act, Setting, Set}
+use Rattle.directory_judge.specs.Contents.{Edits, content_on, edit_of, entry_set}
+use Rattle.directory_judge.specs.Judgements.{Grounds, Judgement, Accepts, by_step, denial, denial_of_update}
+use Rattle.directory_judge.specs.NamedEntries.{judgement_of_named, particulars_named, IsSettingOf, IsUpdatable}
+use Rattle.directory_judge.specs.declared.reason.Because.{Because}
+use Rattle.directory_judge.specs.declared.reason.Decider.TheVariants as decider
+use Rattle.directory_judge.proofs.SameTexts.{bytes_itself, texts_itself}
+
+-- nothing speaks against it
+pub judgement-updated : (g : Grounds) (e old : Entry) (a : Act) (because : Because) → IsUpdatable g.live e old → judgement_of_named g false e a because ≡ Accepts (record { moment = g.now; act = a }) because
+judgement-updated g e old a because u =
+    let accepts : Judgement = Accepts (record { moment = g.now; act = a }) because in
+    let update : Judgement = denial (by_step decider.Update (Some e.kind)) in
+    let other : Judgement = denial (by_step decider.Scope (Some e.kind)) in
+    let full : Judgement = denial (by_step decider.Full (Some e.kind)) in
+    ap (λ (o : Option Entry). unwrap_or (option_or (denial_of_update (particulars_named e) o) (cond (is_none o && nat_le g.site.capacity (fin.len g.live)) (Some full) None)) accepts) u.found
+    ∙ ap₂ (λ k s. unwrap_or (option_or (cond (not (bytes_eq k e.kind)) (Some update) (cond (not (texts_eq s e.scopes)) (Some other) None)) None) accepts) u.kind u.scopes
+    ∙ ap₂ (λ a b. unwrap_or (option_or (cond (not a) (Some update) (cond (not b) (Some other) None)) None) accepts) (bytes_itself e.kind) (texts_itself e.scopes)
+
+-- what is named, with the other attributes of what was there, is what the setting makes of that
+module _ (live : Entries) (moment : ℕ) (s : Setting) (e old : Entry) (u : IsUpdatable live e old) (of : IsSettingOf moment s e) where
+  updated-set : ◌≡◌ {A = Entry} (record e { attrs = updated_attributes old.attrs e.attrs }) (entry_set moment s old)
+  updated-set = λ i. record { url = (sym u.pair i).0; language = (sym u.pair i).1; kind = sym u.kind i; scopes = sym u.scopes i; attrs = updated_attributes old.attrs (sym of.attributes i); deadline = sym of.deadline i }
+
+  pub content-updated : (a : Act) → a ≡ Set s → Edits moment (record e { attrs = updated_attributes old.attrs e.attrs }) ≡ content_on live (record { moment = moment; act = a })
+  content-updated a is =
+      ap (Edits moment) updated-set
+      ∙ sym (
+      ap (λ x. content_on live (record { moment = moment; act = x })) is
+      ∙ ap (λ (q : Pair). edit_of moment (fin.get live q) (entry_set moment s)) of.pair
+      ∙ ap (λ o. edit_of moment o (entry_set moment s)) u.found)

@@ -1,0 +1,69 @@
+ghost use Rattle.std.specs.Prelude.{◌≡◌, ◌<◌, ◌≤◌, length, IfOk};
+ghost use Rattle.std.specs.Arc.{arc_value};
+ghost use Rattle.attr_list.specs.Maps.{attributes_without};
+ghost use Rattle.slp_text.specs.Keys.{key_of};
+ghost use Rattle.directory_judge.specs.Judgements.{judgement_of_removal, IsJudgement};
+
+use crate::change::{Change, Placed, Withdrawn};
+use crate::grounds::Grounds;
+use crate::judgement::Judged;
+use crate::particulars::read_language;
+use crate::reason::Decider;
+use crate::ruling::{deny, deny_by};
+use access_rules::Action;
+use registry_core::{Entry, Registry};
+use slp_text::{NoMemory, TagList};
+use std::alloc::Global;
+use std::sync::Arc;
+
+// A copy of an entry, without the tags that a list of tags selects.
+fn remaining(alloc: Global, entry: &Entry, tags: &TagList) -> Result<Arc<Entry>, NoMemory>
+    ensures { IfOk result (λ e. arc_value e ≡ record entry.now { attrs = attributes_without entry.now.attrs tags.now }) }
+{
+    let attrs = match entry.attrs.without(alloc, tags) {
+        Ok(attrs) => attrs,
+        Err(_) => return Err(NoMemory),
+    };
+    let left = Entry {
+        url: entry.url.copy(alloc)?,
+        language: entry.language.copy(alloc)?,
+        kind: entry.kind.copy(alloc)?,
+        scopes: entry.scopes.copy(alloc)?,
+        attrs,
+        deadline: entry.deadline,
+    };
+    Ok(Arc::new(alloc, left)?)
+}
+
+impl<R: Registry> Grounds<'_, R> {
+    /// Judges a withdrawal of tags by what is live of its URL in a language (RFC 2608, section 10.6).
+    pub fn judge_removal(
+        &self,
+        alloc: Global,
+        language: &str,
+        withdrawn: &Withdrawn,
+        tags: &TagList,
+    ) -> Result<Judged, NoMemory>
+        requires scoped { 0 < length withdrawn.now.scopes }
+        requires few_scopes { length withdrawn.now.scopes ≤ 16 }
+        ensures { IfOk result (λ j. IsJudgement self.now.live j (judgement_of_removal self.now (withdrawn.now.url, key_of language.now) tags.now withdrawn.now.scopes)) }
+    {
+        let language = read_language(alloc, language)?;
+        let Some(old) = self.live_entry(&withdrawn.url, &language) else {
+            return Ok(Judged::Nothing);
+        };
+        if old.scopes != withdrawn.scopes {
+            return Ok(deny_by(Decider::Scope));
+        }
+        match self.rule(Action::Withdraw, &old.kind, &old.scopes) {
+            None => Ok(deny_by(Decider::Scope)),
+            Some(ruling) if ruling.verdict.allow => {
+                let because = ruling.reason().copy(alloc)?;
+                let entry = remaining(alloc, old, tags)?;
+                let moment = self.moment;
+                Ok(Judged::Accept(Change::Edit(Placed { moment, entry }), because))
+            }
+            Some(ruling) => deny(alloc, ruling.reason()),
+        }
+    }
+}

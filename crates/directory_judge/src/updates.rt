@@ -1,0 +1,73 @@
+ghost use Rattle.std.specs.Prelude.{◌≡◌, ◌<◌, ◌≤◌, length, false, IfErr, IfOk, Some};
+ghost use Rattle.std.specs.FinMap as fin;
+ghost use Rattle.std.specs.Arc.{arc_value};
+ghost use Rattle.attr_list.specs.Maps.{updated_attributes};
+ghost use Rattle.registry_core.specs.Entries.{pair_of};
+ghost use Rattle.directory_judge.specs.Judgements.{because_of, because_of_entry, denial_of_update, judgement_in};
+ghost use Rattle.directory_judge.specs.Judgements as spec;
+ghost use Rattle.directory_judge.specs.NamedEntries.{particulars_named, IsJudgedNamed, IsUpdatable};
+
+use crate::change::Placed;
+use crate::grounds::Grounds;
+use crate::judgement::Decision;
+use crate::reason::{Decider, Reason};
+use crate::ruling::denial;
+use registry_core::{Entry, Registry};
+use slp_text::NoMemory;
+use std::alloc::Global;
+use std::sync::Arc;
+
+// The entry that is named, with the other attributes of the one that it updates.
+fn updated(alloc: Global, old: &Entry, named: Entry) -> Result<Arc<Entry>, NoMemory>
+    ensures { IfOk result (λ e. arc_value e ≡ record named { attrs = updated_attributes old.now.attrs named.attrs }) }
+{
+    let attrs = match old.attrs.updated(alloc, &named.attrs) {
+        Ok(attrs) => attrs,
+        Err(_) => return Err(NoMemory),
+    };
+    let entry = Entry { attrs, ..named };
+    Ok(Arc::new(alloc, entry)?)
+}
+
+impl<'a, R: Registry> Grounds<'a, R> {
+    // What is live of the pair that is named, if it has the type and the scopes that are named; else
+    // what speaks against the update.
+    fn updatable<'b>(&self, named: &'b Entry) -> Result<&'a Entry, Reason<'b>>
+        ensures ok { IfOk result (λ old. IsUpdatable self.now.live named.now old.now) }
+        ensures err { IfErr result (λ r. denial_of_update (particulars_named named.now) (fin.get self.now.live (pair_of named.now)) ≡ Some (spec.denial (because_of r))) }
+    {
+        let kind = Some(&named.kind);
+        let Some(old) = self.live_entry(&named.url, &named.language) else {
+            return Err(Reason::of_step(Decider::Update, kind));
+        };
+        if old.kind.text() != named.kind.text() {
+            return Err(Reason::of_step(Decider::Update, kind));
+        }
+        if old.scopes != named.scopes {
+            return Err(Reason::of_step(Decider::Scope, kind));
+        }
+        Ok(old)
+    }
+
+    /// Judges an update of the entry that is named, whose type the rules allowed in its scopes: who
+    /// decided so (RFC 2608, section 9.3).
+    pub fn judge_update(
+        &self,
+        alloc: Global,
+        named: Entry,
+        decider: Decider,
+    ) -> Result<Decision, NoMemory>
+        requires scoped { 0 < length named.scopes }
+        requires few_scopes { length named.scopes ≤ 16 }
+        ensures { IfOk result (λ j. IsJudgedNamed self.now false named (because_of_entry decider named) (judgement_in j)) }
+    {
+        match self.updatable(&named) {
+            Err(reason) => denial(alloc, reason),
+            Ok(old) => {
+                let entry = updated(alloc, old, named)?;
+                let moment = self.moment;
+                Ok(Decision::Edited(Placed { moment, entry }, decider))
+            }
+        }
+    }
+}
