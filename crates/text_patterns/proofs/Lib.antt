@@ -1,0 +1,5 @@
+pub mod Building
+pub mod Folding
+pub mod Ordered
+pub mod Pieces
+pub mod Runs

@@ -1,0 +1,90 @@
+ghost use Rattle.std.specs.Prelude.{◌≡◌, ◌∷◌, [], MatchOption, chars};
+ghost use Rattle.slp_text.specs.Keys as keys;
+ghost use Rattle.text_patterns.specs.Characters.{characters_left, folded_left, key_characters};
+
+use ucd_case::full_folding;
+
+/// The characters of the key of a text, which come one at a time: folded, and with white space squeezed.
+#[derive(Clone, Copy)]
+pub struct KeyCharacters<'a> {
+    rest: &'a str,
+    // What is left of the folding of a character.
+    folding: &'static [char],
+    // Whether a character came.
+    begun: bool,
+    // What comes after a space that stood for white space.
+    ahead: Option<char>,
+}
+
+pub fn is_white_space(c: char) -> bool
+    ensures { result ≡ keys.is_white c }
+{
+    c == ' ' || c == '\t' || c == '\n' || c == '\r'
+}
+
+// The first character of a text, and what comes after it.
+fn split_first(text: &str) -> Option<(char, &str)>
+    ensures { MatchOption result (chars text.now ≡ []) (λ p. chars text.now ≡ p.0 ∷ chars p.1.now) }
+{
+    let mut characters = text.chars();
+    let c = characters.next()?;
+    Some((c, characters.as_str()))
+}
+
+impl<'a> KeyCharacters<'a> {
+    /// Those of a text.
+    pub fn new(text: &'a str) -> KeyCharacters<'a>
+        ensures { characters_left result ≡ key_characters text.now }
+    {
+        KeyCharacters {
+            rest: text,
+            folding: &[],
+            begun: false,
+            ahead: None,
+        }
+    }
+
+    // The next character of the folded text.
+    fn next_folded(&mut self) -> Option<char>
+        ensures next { MatchOption result (folded_left self.old ≡ []) (λ c. folded_left self.old ≡ c ∷ folded_left self.new) }
+        ensures begun { self.new.begun ≡ self.old.begun }
+        ensures ahead { self.new.ahead ≡ self.old.ahead }
+    {
+        if let [first, rest @ ..] = self.folding {
+            self.folding = rest;
+            return Some(*first);
+        }
+        let (c, rest) = split_first(self.rest)?;
+        self.rest = rest;
+        match full_folding(c) {
+            [] => Some(c),
+            [first, rest @ ..] => {
+                self.folding = rest;
+                Some(*first)
+            }
+        }
+    }
+
+    /// The next one, if there is one. Takes no memory.
+    pub fn next(&mut self) -> Option<char>
+        ensures { MatchOption result (characters_left self.old ≡ []) (λ c. characters_left self.old ≡ c ∷ characters_left self.new) }
+    {
+        if let Some(c) = self.ahead {
+            self.ahead = None;
+            return Some(c);
+        }
+        let mut gap = false;
+        while let Some(c) = self.next_folded() {
+            if is_white_space(c) {
+                gap = true;
+            } else if gap && self.begun {
+                self.ahead = Some(c);
+                return Some(' ');
+            } else {
+                self.begun = true;
+                return Some(c);
+            }
+        }
+        None
+    }
+}
