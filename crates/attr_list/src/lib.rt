@@ -15,3 +15,4 @@ mod writing;
 pub use attr_values::{AttrFault, Value, read_value};
 pub use attrs::Attrs;
 pub use held::Held;
+pub use reading::{cut_at, opened, read_tag};

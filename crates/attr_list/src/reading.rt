@@ -21,8 +21,8 @@ struct Piece<'a> {
     rest: Option<&'a str>,
 }
 
-// What stands before the first of a mark, and what comes after it, if it is there.
-fn cut_at(text: &str, mark: char) -> (&str, Option<&str>)
+/// What stands before the first of a mark, and what comes after it, if it is there. Takes no memory.
+pub fn cut_at(text: &str, mark: char) -> (&str, Option<&str>)
     ensures before { chars result.0.now ≡ part_before mark (chars text.now) }
     ensures after { rest_of result.1 ≡ part_after mark (chars text.now) }
 {
@@ -32,8 +32,8 @@ fn cut_at(text: &str, mark: char) -> (&str, Option<&str>)
     }
 }
 
-// What comes after a `(` with which a text begins, after white space.
-fn opened(text: &str) -> Option<&str>
+/// What comes after a `(` with which a text begins, after white space. Takes no memory.
+pub fn opened(text: &str) -> Option<&str>
     ensures { rest_of result ≡ opened_rest (chars text.now) }
 {
     trim_start(text).strip_prefix('(')
@@ -64,8 +64,8 @@ fn tag_fault(e: TextFault) -> AttrFault
     }
 }
 
-// The key of a tag; an empty one is the given fault.
-fn read_tag(alloc: Global, text: &str, empty: AttrFault) -> Result<Key, AttrFault>
+/// The key of a tag, with its escapes read; an empty one is the given fault.
+pub fn read_tag(alloc: Global, text: &str, empty: AttrFault) -> Result<Key, AttrFault>
     ensures value { IsReading result (tag_or empty (chars text.now)) }
     ensures kind { IfOk result IsTagKey }
 {

@@ -9,5 +9,6 @@ mod value;
 mod writing;
 
 pub use fault::AttrFault;
-pub use reading::read_value;
+pub use integer::integer_of;
+pub use reading::{opaque_rest, read_value};
 pub use value::Value;

@@ -31,8 +31,8 @@ fn after_f(text: &str) -> Option<&str>
     text.strip_prefix(['F', 'f'])
 }
 
-// What comes after the `\FF`, of either case, with which opaque values begin.
-fn opaque_rest(text: &str) -> Option<&str>
+/// What comes after the `\FF`, of either case, with which opaque values begin. Takes no memory.
+pub fn opaque_rest(text: &str) -> Option<&str>
     ensures { rest_of result ≡ spec.opaque_rest (chars text.now) }
 {
     let escape = after_backslash(text)?;

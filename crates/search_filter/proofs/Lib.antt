@@ -1,0 +1,10 @@
+pub mod Connecting
+pub mod Faults
+pub mod Negations
+pub mod ParsedFilters
+pub mod ParsedItems
+pub mod PatternPieces
+pub mod ReadFilters
+pub mod ReadItems
+pub mod ReadTexts
+pub mod SpelledFilters

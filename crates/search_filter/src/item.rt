@@ -1,0 +1,85 @@
+ghost use Rattle.std.specs.Prelude.{◌≡◌, not, if◌then◌else◌};
+ghost use Rattle.std.specs.List.{list_any};
+ghost use Rattle.std.specs.Option.{option_copied};
+ghost use Rattle.search_filter.specs.Conditions as spec;
+ghost use Rattle.search_filter.specs.Conditions.{is_met, is_missed, item_holds, negated_item_holds};
+
+use crate::operand::Operand;
+use attr_list::{Attrs, Held, Value};
+use slp_text::Key;
+use text_patterns::Pattern;
+
+// What is asked of the values of a tag.
+#[derive(Drop)]
+pub enum Condition {
+    Present,
+    Equal(Operand),
+    AtLeast(Operand),
+    AtMost(Operand),
+    Like(Pattern),
+}
+
+// What is asked of a tag.
+#[derive(Drop)]
+pub struct Item {
+    pub tag: Key,
+    pub condition: Condition,
+}
+
+impl Condition {
+    fn meets(&self, value: &Value) -> bool
+        ensures { result ≡ spec.meets self.now value.now }
+    {
+        match self {
+            Condition::Present => true,
+            Condition::Equal(operand) => operand.is_equal(value),
+            Condition::AtLeast(operand) => operand.is_at_least(value),
+            Condition::AtMost(operand) => operand.is_at_most(value),
+            Condition::Like(pattern) => match value {
+                Value::Text(text) => pattern.matches(text.as_str()),
+                _ => false,
+            },
+        }
+    }
+
+    // Whether some value meets the condition.
+    fn meets_some(&self, values: &[Value]) -> bool
+        ensures { result ≡ list_any (spec.meets self.now) values.now }
+    {
+        values.iter().any(|value| self.meets(value))
+    }
+
+    // Whether some value does not.
+    fn misses_some(&self, values: &[Value]) -> bool
+        ensures { result ≡ list_any (λ v. not (spec.meets self.now v)) values.now }
+    {
+        values.iter().any(|value| !self.meets(value))
+    }
+
+    // Whether what a tag holds, if it is there, meets the condition, or its negation.
+    fn holds(&self, held: Option<&Held>, positive: bool) -> bool
+        ensures { result ≡ (if positive then is_met self.now (option_copied held.entry) else is_missed self.now (option_copied held.entry)) }
+    {
+        match (self, held) {
+            (_, None) => !positive,
+            (Condition::Present, Some(_)) => positive,
+            (_, Some(Held::Keyword)) => !positive,
+            (_, Some(Held::Values(values))) => {
+                if positive {
+                    self.meets_some(values.as_slice())
+                } else {
+                    self.misses_some(values.as_slice())
+                }
+            }
+        }
+    }
+}
+
+impl Item {
+    // Whether the item holds on attributes, or its negation. It takes no memory.
+    pub fn holds(&self, attributes: &Attrs, positive: bool) -> bool
+        ensures { result ≡ (if positive then item_holds self.now attributes.now else negated_item_holds self.now attributes.now) }
+    {
+        self.condition.holds(attributes.get(&self.tag), positive)
+    }
+}
