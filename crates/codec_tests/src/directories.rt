@@ -33,6 +33,7 @@ fn make_query(alloc: Global, scope: &str) -> Result<ServiceQuery, Fail> {
         kind: ServiceType::parse(alloc, "service:printer")?,
         scopes: ScopeList::parse(alloc, scope)?,
         language: key(alloc, "en")?,
+        filter: None,
     })
 }
 

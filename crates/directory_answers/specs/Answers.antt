@@ -1,5 +1,5 @@
 -- What is answered to bytes, and which change comes of them.
-use Rattle.std.specs.Prelude.{◌≡◌, ℕ, Bool, false, ◌==◌, ◌||◌, List, [], length, Option, Some, None, Result, Ok, Err, if◌then◌else◌}
+use Rattle.std.specs.Prelude.{◌≡◌, ◌⊎◌, ℕ, Bool, false, ◌==◌, ◌||◌, List, [], length, Option, Some, None, Result, Ok, Err, if◌then◌else◌}
 use Rattle.std.specs.List.{list_any}
 use Rattle.std.specs.Option.{option_map_or}
 use Rattle.slp_headers.specs.Headers.{Heading, heading_of}
@@ -15,7 +15,7 @@ use Rattle.directory_judge.specs.History.{History, Event, now}
 use Rattle.directory_judge.specs.Judgements.{Judgement, by_step, code_by, supports}
 use Rattle.directory_judge.specs.Sites.{Site}
 use Rattle.directory_judge.specs.declared.reason.Decider.TheVariants as decider
-use Rattle.directory_answers.specs.Items.{AreItems, IsOpenNow, Matches}
+use Rattle.directory_answers.specs.Items.{Answers, AreItems, IsForeign, IsOpenNow}
 use Rattle.directory_answers.specs.Calls.{Opening, Call}
 use Rattle.directory_answers.specs.Cuts.{IsCut, services_with}
 use Rattle.directory_answers.specs.Outcomes.{Outcome, silence, outcome, sent_of, code_outcome, denial_outcome, fault_outcome, acknowledgement_of}
@@ -78,15 +78,23 @@ sense_of site c = sense_under site c.own (heading_of c.bytes) (reading c.bytes)
 -- services are found among the entries that are open, at a moment, and as many are sent as fit
 pub record IsServiceAnswer (IsOpen : Entry → Type 0) (at limit : ℕ) (h : Heading) (q : ServiceQuery) (r : Outcome) : Type 0 where
   pub items : List UrlEntry
-  pub are : AreItems (Matches IsOpen q) at items
+  pub are : AreItems (Answers IsOpen q) at items
   pub whole : List ℕ
   pub cut : IsCut (length items) (services_with h items) limit whole
   pub sent : r ≡ outcome (sent_of h OK (length items == 0) whole) OK (by_step decider.Nobody (Some q.kind))
 
+-- the denial where nothing is in the language that is asked for
+abbrev pub language_outcome : Heading → ServiceQuery → Outcome
+language_outcome h q = code_outcome h (code_by decider.Language) (by_step decider.Language (Some q.kind))
+
+-- services are listed, or there are none in the language
+abbrev pub IsListed : (Entry → Type 0) → ℕ → ℕ → Heading → ServiceQuery → Outcome → Type 0
+IsListed IsOpen at limit h q r = (IsForeign IsOpen q × (r ≡ language_outcome h q)) ⊎ ((¬ IsForeign IsOpen q) × IsServiceAnswer IsOpen at limit h q r)
+
 -- what may come of a sense at a history, and the change that is made
 abbrev pub IsAnswerTo : Opening → History → Call → Sense → Outcome → Option Event → Type 0
 IsAnswerTo o h c (Settled it) r change = (r ≡ it) × (change ≡ None)
-IsAnswerTo o h c (Lists head q) r change = IsServiceAnswer (IsOpenNow o h c.moment c.asker q.scopes) (now h c.moment) c.limit head q r × (change ≡ None)
+IsAnswerTo o h c (Lists head q) r change = IsListed (IsOpenNow o h c.moment c.asker q.scopes) (now h c.moment) c.limit head q r × (change ≡ None)
 IsAnswerTo o h c (Changes head m) r change = (v : Judgement) × IsVerdict o h c.moment c.asker m v × (r ≡ acknowledgement_of head v) × (change ≡ change_in v)
 
 -- what may come of bytes at a history, and the change that is made

@@ -1,5 +1,6 @@
+ghost use Rattle.std.specs.Result.{result_ok};
+ghost use Rattle.search_filter.specs.Reading.{predicate_in};
 ghost use Rattle.std.specs.Prelude.{◌≡◌, ◌==◌, ◌||◌, not, length, IfOk, MatchResult, Some};
-ghost use Rattle.slp_text.specs.Words as spec;
 ghost use Rattle.slp_headers.specs.Headers.{has_flag, heading_in, heading_of};
 ghost use Rattle.slp_headers.specs.declared.flag.TheConstants.{MULTICAST};
 ghost use Rattle.slp_messages.specs.Views.{request_in};
@@ -9,6 +10,7 @@ ghost use Rattle.directory_answers.specs.Readings.{IsAsked, IsUnread};
 
 use crate::query::ServiceQuery;
 use directory_judge::{is_agent, read_kind, read_scopes};
+use search_filter::{Filter, FilterFault};
 use slp_text::{NoMemory, TextFault, is_blank, key};
 use slp_wire::{HeaderView, ServiceRequestView, WireFault, flag, read_service_request};
 use std::alloc::Global;
@@ -18,7 +20,7 @@ use std::alloc::Global;
 pub enum Question {
     /// Nothing that a directory answers.
     Silent,
-    /// Its type or its scopes are not read.
+    /// Its type, its scopes or its predicate are not read.
     Unreadable,
     Asks(ServiceQuery),
 }
@@ -27,8 +29,8 @@ pub enum Question {
 const OTHER_AGENT_TYPE: &str = "service:service-agent";
 
 /// What the service request in front of bytes asks, or the fault for which they are none. The header
-/// was read from them, and is that of a service request. Requests that are sent to many, that name
-/// responders or have a predicate, and those for directory agents are not answered yet.
+/// was read from them, and is that of a service request. Requests that are sent to many or name
+/// responders, and those for directory agents are not answered yet.
 pub fn asked(
     alloc: Global,
     header: &HeaderView<'_>,
@@ -66,22 +68,38 @@ fn question_in(
     let Some(scopes) = read_scopes(alloc, request.scopes)? else {
         return Ok(Question::Unreadable);
     };
+    let Some(filter) = read_predicate(alloc, request.predicate)? else {
+        return Ok(Question::Unreadable);
+    };
     match key(alloc, header.language) {
         Ok(language) => Ok(Question::Asks(ServiceQuery {
             kind,
             scopes,
             language,
+            filter,
         })),
         Err(TextFault::NoMemory) => Err(NoMemory),
         Err(_) => unreachable!(),
     }
 }
 
-// Whether a request is sent to many, or names responders or has a predicate.
-fn is_odd(header: &HeaderView<'_>, request: &ServiceRequestView<'_>) -> bool
-    ensures { result ≡ (has_flag MULTICAST header.now.flags || not (length request.now.responders.now == 0) || not (spec.is_blank request.now.predicate.now)) }
+// The filter of a predicate, none where it is empty, if it is read.
+fn read_predicate(alloc: Global, predicate: &str) -> Result<Option<Option<Filter>>, NoMemory>
+    ensures { IfOk result (λ read. read ≡ result_ok (predicate_in predicate.now)) }
 {
-    header.flags & flag::MULTICAST != 0
-        || !request.responders.is_empty()
-        || !is_blank(request.predicate)
+    if is_blank(predicate) {
+        return Ok(Some(None));
+    }
+    match Filter::parse(alloc, predicate) {
+        Ok(filter) => Ok(Some(Some(filter))),
+        Err(FilterFault::NoMemory) => Err(NoMemory),
+        Err(_) => Ok(None),
+    }
+}
+
+// Whether a request is sent to many, or names responders.
+fn is_odd(header: &HeaderView<'_>, request: &ServiceRequestView<'_>) -> bool
+    ensures { result ≡ (has_flag MULTICAST header.now.flags || not (length request.now.responders.now == 0)) }
+{
+    header.flags & flag::MULTICAST != 0 || !request.responders.is_empty()
 }

@@ -6,6 +6,7 @@ pub mod Founders
 pub mod Histories
 pub mod Joins
 pub mod Judgements
+pub mod Languages
 pub mod LegalHistories
 pub mod Lifetimes
 pub mod Outcomes

@@ -1,5 +1,5 @@
 -- What is told at histories that differ by a sweep, or by what is not open.
-use Rattle.std.proofs.Common.{◌≡◌, ℕ, ◌≤◌, true, false, cond, List, ◌∷◌, Option, Some, None, Result, Ok, Err, refl, sym, ap, ap₂, subst, ◌∙◌, arith}
+use Rattle.std.proofs.Common.{◌≡◌, ℕ, ◌≤◌, true, false, cond, List, ◌∷◌, Option, Some, None, Result, Ok, Err, refl, sym, ap, ap₂, subst, ◌∙◌, arith, inl, inr}
 use Rattle.std.specs.Prelude.{◌↔◌, ◌==◌, length}
 use Rattle.std.specs.List.{list_any}
 use Rattle.slp_headers.specs.Headers.{Heading, heading_of}
@@ -16,8 +16,8 @@ use Rattle.directory_judge.specs.History.{History, Event, Sweep, clock, now}
 use Rattle.directory_judge.specs.Judgements.{by_step, code_by, supports}
 use Rattle.directory_judge.specs.declared.reason.Decider.TheVariants as decider
 use Rattle.directory_judge.specs.Sites.{Site}
-use Rattle.directory_answers.specs.Answers.{is_change_of, Sense, Settled, Lists, Changes, sense_of, sense_under, sense_of_message, sense_of_question, IsServiceAnswer, IsAnswerTo, IsAnswer, scopes_in, IsOpenTo}
-use Rattle.directory_answers.specs.Items.{IsOpenNow, Matches}
+use Rattle.directory_answers.specs.Answers.{is_change_of, Sense, Settled, Lists, Changes, sense_of, sense_under, sense_of_message, sense_of_question, IsServiceAnswer, IsListed, IsAnswerTo, IsAnswer, scopes_in, IsOpenTo}
+use Rattle.directory_answers.specs.Items.{Answers, IsForeign, IsOpenNow, Matches}
 use Rattle.directory_answers.specs.Calls.{Opening, Call, AreBytes}
 use Rattle.directory_answers.specs.Cuts.{IsCut, services_with}
 use Rattle.directory_answers.specs.Outcomes.{Outcome, silence, outcome, sent_of, code_outcome, acknowledgement_of}
@@ -96,20 +96,38 @@ stays_legal o h c r change bytes legal is = legal_by o h c (sense_of o.site c) r
 -- ---- what is seen alike is answered alike
 
 module _ (P Q : Entry → Type 0) (alike : (e : Entry) → P e ↔ Q e) (q : ServiceQuery) where
-  pub matched : (e : Entry) → Matches P q e ↔ Matches Q q e
+  matched : (e : Entry) → Matches P q e ↔ Matches Q q e
   matched e = (
     (λ a. record { opened = (alike e).0 a.opened; covered = a.covered }),
     (λ a. record { opened = (alike e).1 a.opened; covered = a.covered }),
   )
 
-  listed-carried : (n k limit : ℕ) (h : Heading) (r : Outcome) → n ≡ k → IsServiceAnswer P n limit h q r → IsServiceAnswer Q k limit h q r
-  listed-carried n k limit h r same is = record {
+  pub answered : (e : Entry) → Answers P q e ↔ Answers Q q e
+  answered e = (
+    (λ a. record { matched = (matched e).0 a.matched; wanted = a.wanted }),
+    (λ a. record { matched = (matched e).1 a.matched; wanted = a.wanted }),
+  )
+
+  pub foreign-carried : IsForeign P q → IsForeign Q q
+  foreign-carried f = record { filtered = f.filtered; other = f.other; matched = (matched f.other).0 f.matched; none = λ e m. f.none e ((matched e).1 m) }
+
+  items-carried : (n k limit : ℕ) (h : Heading) (r : Outcome) → n ≡ k → IsServiceAnswer P n limit h q r → IsServiceAnswer Q k limit h q r
+  items-carried n k limit h r same is = record {
     items = is.items;
-    are = same_entries (Matches P q) (Matches Q q) n k is.items (λ e. (matched e).0) (λ e. (matched e).1) same is.are;
+    are = same_entries (Answers P q) (Answers Q q) n k is.items (λ e. (answered e).0) (λ e. (answered e).1) same is.are;
     whole = is.whole;
     cut = is.cut;
     sent = is.sent;
   }
+
+flipped : (P Q : Entry → Type 0) → ((e : Entry) → P e ↔ Q e) → (e : Entry) → Q e ↔ P e
+flipped P Q alike e = ((alike e).1, (alike e).0)
+
+listed-carried : (P Q : Entry → Type 0) (alike : (e : Entry) → P e ↔ Q e) (q : ServiceQuery) (n k limit : ℕ) (h : Heading) (r : Outcome) → n ≡ k → IsListed P n limit h q r → IsListed Q k limit h q r
+listed-carried P Q alike q n k limit h r same is = elim is [
+  | inl none ↦ inl (foreign-carried P Q alike q none.0, none.1)
+  | inr some ↦ inr ((λ f. some.0 (foreign-carried Q P (flipped P Q alike) q f)), items-carried P Q alike q n k limit h r same some.1)
+]
 
 one_cut : (number : ℕ) (message_with : ℕ → Message) (limit : ℕ) (bytes others : List ℕ) → IsCut number message_with limit bytes → IsCut number message_with limit others → bytes ≡ others
 one_cut number message_with limit bytes others a b =
@@ -118,13 +136,25 @@ one_cut number message_with limit bytes others a b =
     let count : a.count ≡ b.count = omega (arith, up, down) in
     a.spelled ∙ ap (λ (n : ℕ). plain_bytes (message_with n)) count ∙ sym b.spelled
 
-listed-once : (P Q : Entry → Type 0) (n k limit : ℕ) (h : Heading) (q : ServiceQuery) (r s : Outcome) → n ≡ k → ((e : Entry) → P e ↔ Q e) → IsServiceAnswer P n limit h q r → IsServiceAnswer Q k limit h q s → r ≡ s
-listed-once P Q n k limit h q r s same alike a b =
-    let items : a.items ≡ b.items = same_items (Matches P q) (Matches Q q) n k a.items b.items same (matched P Q alike q) a.are b.are in
+items-once : (P Q : Entry → Type 0) (n k limit : ℕ) (h : Heading) (q : ServiceQuery) (r s : Outcome) → n ≡ k → ((e : Entry) → P e ↔ Q e) → IsServiceAnswer P n limit h q r → IsServiceAnswer Q k limit h q s → r ≡ s
+items-once P Q n k limit h q r s same alike a b =
+    let items : a.items ≡ b.items = same_items (Answers P q) (Answers Q q) n k a.items b.items same (answered P Q alike q) a.are b.are in
     let whole : a.whole ≡ b.whole = one_cut (length a.items) (services_with h a.items) limit a.whole b.whole a.cut (subst (λ (is : List UrlEntry). IsCut (length is) (services_with h is) limit b.whole) (sym items) b.cut) in
     a.sent
     ∙ ap₂ (λ (is : List UrlEntry) (w : List ℕ). outcome (sent_of h 0 (length is == 0) w) 0 (by_step decider.Nobody (Some q.kind))) items whole
     ∙ sym b.sent
+
+listed-once : (P Q : Entry → Type 0) (n k limit : ℕ) (h : Heading) (q : ServiceQuery) (r s : Outcome) → n ≡ k → ((e : Entry) → P e ↔ Q e) → IsListed P n limit h q r → IsListed Q k limit h q s → r ≡ s
+listed-once P Q n k limit h q r s same alike a b = elim a [
+  | inl none ↦ elim b [
+    | inl other ↦ none.1 ∙ sym other.1
+    | inr some ↦ absurd (some.0 (foreign-carried P Q alike q none.0))
+  ]
+  | inr some ↦ elim b [
+    | inl none ↦ absurd (some.0 (foreign-carried Q P (flipped P Q alike) q none.0))
+    | inr other ↦ items-once P Q n k limit h q r s same alike some.1 other.1
+  ]
+]
 
 -- ---- a sweep
 
@@ -145,7 +175,7 @@ sweep_by o h s c (Lists k q) r change le =
     let to : (e : Entry) → P e ↔ Q e = λ e. IsOpenNow-sweep o h s c.moment c.asker q.scopes e le in
     let at : now swept c.moment ≡ now h c.moment = omega (arith, le) in (
       (λ is. (listed-carried P Q to q (now swept c.moment) (now h c.moment) c.limit k r at is.0, is.1)),
-      (λ is. (listed-carried Q P (λ e. ((to e).1, (to e).0)) q (now h c.moment) (now swept c.moment) c.limit k r (sym at) is.0, is.1)),
+      (λ is. (listed-carried Q P (flipped P Q to) q (now h c.moment) (now swept c.moment) c.limit k r (sym at) is.0, is.1)),
     )
 sweep_by o h s c (Changes k m) r change le = (
   (λ is. (is.0, (verdict-sweep o h s c.moment c.asker m is.0 le).0 is.1, is.2, is.3)),

@@ -1,6 +1,6 @@
 -- What is seen answers the question.
-use Rattle.std.proofs.Common.{◌≡◌, ℕ, ◌+◌, ◌≤◌, max, Bool, true, false, cond, List, [], ◌∷◌, map, get_or, Some, None, refl, sym, ap, ap₂, subst, ◌∙◌, arith, inl, inr}
-use Rattle.std.specs.Prelude.{◌&&◌, ◌||◌, IsTrue, slice_get, filter, find, Contains}
+use Rattle.std.proofs.Common.{◌≡◌, ℕ, ◌+◌, ◌≤◌, max, Bool, true, false, cond, List, [], ◌∷◌, map, get_or, Some, None, Result, Ok, Err, refl, sym, ap, ap₂, subst, ◌∙◌, arith, inl, inr}
+use Rattle.std.specs.Prelude.{◌&&◌, ◌||◌, IsTrue, IfOk, IsErrOf, is_some, slice_get, filter, find, Contains}
 use Rattle.std.specs.List.{list_any, All, AllByRecursion}
 use Rattle.std.specs.BTreeMap.{is_at}
 use Rattle.std.specs.declared.cmp.Ordering.TheVariants.{Less}
@@ -10,7 +10,8 @@ use Rattle.std.proofs.lemmas.List.Elements.{All-nil, All-cons, All-weaker, All-a
 use Rattle.std.proofs.lemmas.Map.Entries.{place_from_lookup}
 use Rattle.std.proofs.lemmas.Map.Text.{is_eq-slice_cmp}
 use Rattle.std.proofs.lemmas.Option.{none-some, same_Some, slice_get_within, get_or_from_slice_get, slice_get-get_or, slice_get-map}
-use Rattle.std.specs.Option.{option_map}
+use Rattle.std.specs.Option.{option_map, option_map_or}
+use Rattle.std.specs.Result.{IsErrAnd}
 use borrow.Author.Tests.{ltb-true, lt-ltb}
 use Rattle.std.specs.FinMap as fin
 use Rattle.slp_text.proofs.KeySets.{bytes_same}
@@ -21,6 +22,7 @@ use Rattle.registry_core.specs.Entries.{Entries, pair_of, is_of, outlives, has_s
 use Rattle.registry_core.proofs.Lists.{pair_eq-true, pair_eq-same}
 use Rattle.service_url.specs.Types.{covers}
 use Rattle.slp_text.specs.Words.{bytes_eq, bytes_cmp, IsAscending}
+use Rattle.search_filter.specs.Filters.{holds}
 use Rattle.slp_messages.specs.declared.message.UrlEntry.{UrlEntry}
 use Rattle.directory_answers.specs.Calls.{Opening}
 use Rattle.directory_judge.specs.History.{History, now}
@@ -28,15 +30,17 @@ use Rattle.directory_judge.specs.Judgements.{supports}
 use Rattle.directory_judge.specs.Meaning.{AreLive, rules}
 use Rattle.directory_judge.specs.Sites.{Site}
 use Rattle.directory_answers.specs.declared.query.ServiceQuery.{ServiceQuery}
-use Rattle.directory_answers.specs.Items.{IsOpenNow, Matches, IsItem, AreItems, AreServices}
+use Rattle.directory_answers.specs.Items.{is_wanted, Answers, IsForeign, IsOpenNow, Matches, IsItem, AreItems, AreServices}
 use Rattle.directory_state.specs.Deadlines.{UrlDeadline, urls_of}
-use Rattle.directory_state.specs.Searches.{deadlines_with, is_seen, seen_entries, item_at}
+use Rattle.directory_state.specs.declared.search.Spoken.TheVariants.{Others}
+use Rattle.directory_state.specs.Searches.{deadlines_with, entries_in, is_found, is_seen, found_entries, seen_entries, spoken_of, item_at}
 use Rattle.directory_state.specs.Folds.{Fold}
 use Rattle.directory_state.specs.State.{State}
 use Rattle.directory_answers.specs.Verdicts.{IsLegal}
 use Rattle.directory_state.proofs.Folds.{if_kept-some, some-if_kept}
 use Rattle.directory_state.proofs.Joins.{is_same, is_same-itself, reversed, latest_in, ascending-deadlines_with}
-use Rattle.directory_state.proofs.SeenUrls.{latest, latest-deadlines_with, latest-ge, latest-from, latest-some, here, there}
+use Rattle.directory_state.proofs.SeenUrls.{no_other, latest, latest-deadlines_with, latest-ge, latest-from, latest-some, here, there}
+use Rattle.directory_state.proofs.Languages.{others-some, others-none, others-of}
 use Rattle.directory_state.proofs.Lifetimes.{last-deadline}
 
 bytes_eq-same : (a : List ℕ) → bytes_eq a a ≡ true
@@ -114,56 +118,93 @@ found_all (x ∷ es) d =
 contains-find : (es : List Entry) (e : Entry) → IsDistinct es → Contains es e → find (is_of (pair_of e)) es ≡ Some e
 contains-find es e d h = All-contains (λ e. find (is_of (pair_of e)) es ≡ Some e) es e (found_all es d) h
 
--- ---- what is seen in the scopes
+-- ---- what passes in the scopes
 
--- the scope in which an entry was seen
-pub record SeenIn (listing : List ℕ → List Entry) (rs : SiteRules) (site : Site) (n asker : ℕ) (scopes : List (List ℕ)) (e : Entry) : Type 0 where
+-- the scope in which an entry passes
+pub record PassesIn (listing : List ℕ → List Entry) (passes : List ℕ → Entry → Bool) (site : Site) (scopes : List (List ℕ)) (e : Entry) : Type 0 where
   pub scope : List ℕ
   pub requested : Contains scopes scope
   pub supported : supports site scope ≡ true
   pub listed : Contains (listing scope) e
-  pub seen : is_seen rs n asker scope e ≡ true
+  pub passed : passes scope e ≡ true
 
-module _ (listing : List ℕ → List Entry) (rs : SiteRules) (site : Site) (n asker : ℕ) where
-  filtered : (s : List ℕ) (scopes : List (List ℕ)) → supports site s ≡ true → All (SeenIn listing rs site n asker (s ∷ scopes)) (filter (is_seen rs n asker s) (listing s))
+module _ (listing : List ℕ → List Entry) (passes : List ℕ → Entry → Bool) (site : Site) where
+  filtered : (s : List ℕ) (scopes : List (List ℕ)) → supports site s ≡ true → All (PassesIn listing passes site (s ∷ scopes)) (filter (passes s) (listing s))
   filtered s scopes is k d h =
-      let p = is_seen rs n asker s in
+      let p = passes s in
       record {
         scope = s;
         requested = here s scopes;
         supported = is;
         listed = All-filter p (Contains (listing s)) (listing s) (All-contains_itself (listing s)) k d h;
-        seen = filter_passes p (listing s) k d h;
+        passed = filter_passes p (listing s) k d h;
       }
 
-  all_seen-from : (scopes : List (List ℕ)) → All (SeenIn listing rs site n asker scopes) (seen_entries listing rs site n asker scopes)
-  all_seen-from [] = All-nil (SeenIn listing rs site n asker [])
-  all_seen-from (s ∷ scopes) =
-      let P = SeenIn listing rs site n asker (s ∷ scopes) in
-      let part = filter (is_seen rs n asker s) (listing s) in
+  all_pass : (scopes : List (List ℕ)) → All (PassesIn listing passes site scopes) (entries_in listing passes site scopes)
+  all_pass [] = All-nil (PassesIn listing passes site [])
+  all_pass (s ∷ scopes) =
+      let P = PassesIn listing passes site (s ∷ scopes) in
+      let part = filter (passes s) (listing s) in
       let first : All P (cond (supports site s) part []) =
       elim (supports site s) as (λ b. supports site s ≡ b → All P (cond b part [])) [ true ↦ λ t. filtered s scopes t | false ↦ λ _. All-nil P ] refl in
-      All-append P (cond (supports site s) part []) (seen_entries listing rs site n asker scopes) first
-      (All-weaker (SeenIn listing rs site n asker scopes) P
-      (λ e i. record { scope = i.scope; requested = there s i.scope scopes i.requested; supported = i.supported; listed = i.listed; seen = i.seen })
-      (seen_entries listing rs site n asker scopes) (all_seen-from scopes))
+      All-append P (cond (supports site s) part []) (entries_in listing passes site scopes) first
+      (All-weaker (PassesIn listing passes site scopes) P
+      (λ e i. record { scope = i.scope; requested = there s i.scope scopes i.requested; supported = i.supported; listed = i.listed; passed = i.passed })
+      (entries_in listing passes site scopes) (all_pass scopes))
 
   module _ (e : Entry) where
     abbrev IsShown : List (List ℕ) → List ℕ → Type 0
-    IsShown scopes s = supports site s ≡ true → Contains (listing s) e → is_seen rs n asker s e ≡ true → Contains (seen_entries listing rs site n asker scopes) e
+    IsShown scopes s = supports site s ≡ true → Contains (listing s) e → passes s e ≡ true → Contains (entries_in listing passes site scopes) e
 
-    all_seen-to : (scopes : List (List ℕ)) → All (IsShown scopes) scopes
-    all_seen-to [] = All-nil (IsShown [])
-    all_seen-to (s ∷ scopes) =
-        let part = filter (is_seen rs n asker s) (listing s) in
+    all_shown : (scopes : List (List ℕ)) → All (IsShown scopes) scopes
+    all_shown [] = All-nil (IsShown [])
+    all_shown (s ∷ scopes) =
+        let part = filter (passes s) (listing s) in
         All-cons (IsShown (s ∷ scopes)) s scopes
-        (λ is listed seen. Contains-append_left (cond (supports site s) part []) (seen_entries listing rs site n asker scopes) e
-        (subst (λ b. Contains (cond b part []) e) (sym is) (Contains-filter (is_seen rs n asker s) (listing s) e listed seen)))
+        (λ is listed passed. Contains-append_left (cond (supports site s) part []) (entries_in listing passes site scopes) e
+        (subst (λ b. Contains (cond b part []) e) (sym is) (Contains-filter (passes s) (listing s) e listed passed)))
         (All-weaker (IsShown scopes) (IsShown (s ∷ scopes))
-        (λ t shown is listed seen. Contains-append_right (cond (supports site s) part []) (seen_entries listing rs site n asker scopes) e (shown is listed seen)) scopes (all_seen-to scopes))
+        (λ t shown is listed passed. Contains-append_right (cond (supports site s) part []) (entries_in listing passes site scopes) e (shown is listed passed)) scopes (all_shown scopes))
 
-    all_seen-has : (scopes : List (List ℕ)) → SeenIn listing rs site n asker scopes e → Contains (seen_entries listing rs site n asker scopes) e
-    all_seen-has scopes i = All-contains (IsShown scopes) scopes i.scope (all_seen-to scopes) i.requested i.supported i.listed i.seen
+    entries-from : (scopes : List (List ℕ)) → Contains (entries_in listing passes site scopes) e → PassesIn listing passes site scopes e
+    entries-from scopes has = All-contains (PassesIn listing passes site scopes) (entries_in listing passes site scopes) e (all_pass scopes) has
+
+    entries-have : (scopes : List (List ℕ)) → PassesIn listing passes site scopes e → Contains (entries_in listing passes site scopes) e
+    entries-have scopes i = All-contains (IsShown scopes) scopes i.scope (all_shown scopes) i.requested i.supported i.listed i.passed
+
+-- ---- what is found is seen, and asked for
+
+module _ (listing : List ℕ → List Entry) (rs : SiteRules) (site : Site) (n asker : ℕ) (query : ServiceQuery) (e : Entry) where
+  found-from : Contains (found_entries listing rs site n asker query) e → Contains (seen_entries listing rs site n asker query.scopes) e × IsTrue (is_wanted query e)
+  found-from has =
+      let i = entries-from listing (is_found query rs n asker) site e query.scopes has in
+      let parts = and_parts (is_seen rs n asker i.scope e) (is_wanted query e) i.passed in (
+        entries-have listing (is_seen rs n asker) site e query.scopes (record { scope = i.scope; requested = i.requested; supported = i.supported; listed = i.listed; passed = parts.0 }),
+        parts.1,
+      )
+
+  found-has : Contains (seen_entries listing rs site n asker query.scopes) e → IsTrue (is_wanted query e) → Contains (found_entries listing rs site n asker query) e
+  found-has has wanted =
+      let i = entries-from listing (is_seen rs n asker) site e query.scopes has in
+      entries-have listing (is_found query rs n asker) site e query.scopes
+      (record { scope = i.scope; requested = i.requested; supported = i.supported; listed = i.listed; passed = ap₂ ◌&&◌ i.passed wanted })
+
+-- where there is a filter, what is asked for has the language
+wanted-language : (query : ServiceQuery) (e : Entry) → IsTrue (is_some query.filter) → IsTrue (is_wanted query e) → bytes_eq e.language query.language ≡ true
+wanted-language query e filtered wanted =
+    elim query.filter as (λ o. is_some o ≡ true → option_map_or (λ f. bytes_eq e.language query.language && holds f e.attrs) o true ≡ true → bytes_eq e.language query.language ≡ true) [
+      | None ↦ λ k _. absurd cc
+      | Some f ↦ λ _ k. (and_parts (bytes_eq e.language query.language) (holds f e.attrs) k).0
+    ] filtered wanted
+
+-- where nothing that is seen has the language, nothing is found by a filter
+pub nothing_found : (listing : List ℕ → List Entry) (rs : SiteRules) (site : Site) (n asker : ℕ) (query : ServiceQuery) → IsTrue (is_some query.filter)
+    → spoken_of query (seen_entries listing rs site n asker query.scopes) ≡ Others → found_entries listing rs site n asker query ≡ []
+nothing_found listing rs site n asker query filtered others =
+    let none : (e : Entry) → Contains (found_entries listing rs site n asker query) e → ⊥ = λ e has.
+    let found = found-from listing rs site n asker query e has in
+    no_other (bytes_eq e.language query.language) (wanted-language query e filtered found.1) (others-none query (seen_entries listing rs site n asker query.scopes) others e found.0) in
+    (elim (found_entries listing rs site n asker query) as (λ es. ((e : Entry) → Contains es e → ⊥) → es ≡ []) [ [] ↦ λ _. refl | e ∷ es ↦ λ h. absurd (h e (here e es)) ]) none
 
 -- ---- what is seen answers
 
@@ -176,13 +217,13 @@ module _ (o : Opening) (h : History) (m asker : ℕ) (query : ServiceQuery) (lis
   listing-of : (s : List ℕ) → Contains query.scopes s → supports o.site s ≡ true → IsListing (is_at_place s (Some query.kind)) live (listing s)
   listing-of s has in_site = listings has.0 s (slice_get-get_or query.scopes has.0 s has.1 ∙ ap Some has.2) in_site
 
-  seen-answers : (e : Entry) → SeenIn listing (rules o.rules h) o.site n asker query.scopes e → Matches (IsOpenNow o h m asker query.scopes) query e
+  seen-answers : (e : Entry) → PassesIn listing (is_seen (rules o.rules h) n asker) o.site query.scopes e → Matches (IsOpenNow o h m asker query.scopes) query e
   seen-answers e i =
       let l = listing-of i.scope i.requested i.supported in
       let found = contains-find (listing i.scope) e l.once i.listed in
       let k = if_kept-some (is_at_place i.scope (Some query.kind)) (fin.get live (pair_of e)) e (sym (l.each (pair_of e)) ∙ found) in
       let place = and_parts (covers query.kind e.kind) (has_scope i.scope e) k.1 in
-      let seen = and_parts (outlives n e) (deciding (rules o.rules h) asker See e.kind i.scope).allow i.seen in
+      let seen = and_parts (outlives n e) (deciding (rules o.rules h) asker See e.kind i.scope).allow i.passed in
       let lives = ((are (pair_of e) e).0 k.0).1 in
       record {
         opened = record {
@@ -198,7 +239,7 @@ module _ (o : Opening) (h : History) (m asker : ℕ) (query : ServiceQuery) (lis
         covered = place.0;
       }
 
-  answers-seen : (e : Entry) → Matches (IsOpenNow o h m asker query.scopes) query e → SeenIn listing (rules o.rules h) o.site n asker query.scopes e
+  answers-seen : (e : Entry) → Matches (IsOpenNow o h m asker query.scopes) query e → PassesIn listing (is_seen (rules o.rules h) n asker) o.site query.scopes e
   answers-seen e a =
       let s = a.opened.open_to.scope in
       let in_site = contains-list_any o.site.scopes s a.opened.open_to.supported in
@@ -210,7 +251,7 @@ module _ (o : Opening) (h : History) (m asker : ℕ) (query : ServiceQuery) (lis
         requested = a.opened.open_to.requested;
         supported = in_site;
         listed = find-contains (is_of (pair_of e)) (listing s) e (l.each (pair_of e) ∙ some-if_kept (is_at_place s (Some query.kind)) (fin.get live (pair_of e)) e got place);
-        seen = ap₂ ◌&&◌ (lt-ltb n e.deadline (omega (arith, is, a.opened.live.lasts))) a.opened.open_to.allowed;
+        passed = ap₂ ◌&&◌ (lt-ltb n e.deadline (omega (arith, is, a.opened.live.lasts))) a.opened.open_to.allowed;
       }
 
 -- ---- the items of what is seen
@@ -277,21 +318,66 @@ module _ (P : Entry → Type 0) (n : ℕ) (es : List Entry) (sound : (e : Entry)
 
 -- ---- the answer
 
-pub services-are : (o : Opening) (h : History) (s : State) (m asker n : ℕ) (query : ServiceQuery) (listing : List ℕ → List Entry)
-    → Fold o h s → IsLegal o h → n ≡ max m s.clock → AreListings listing s.site query s.entries
-    → AreServices o h m asker query (map (item_at n) (deadlines_with (seen_entries listing s.rules s.site n asker query.scopes) []))
-services-are o h s m asker n query listing fold legal is listings =
-    let P = Matches (IsOpenNow o h m asker query.scopes) query in
-    let same : n ≡ now h m = is ∙ ap (max m) fold.clocks in
-    let es = seen_entries listing (rules o.rules h) o.site n asker query.scopes in
-    let there : AreListings listing o.site query s.entries = subst (λ (x : Site). AreListings listing x query s.entries) fold.placed listings in
-    subst (λ rs. AreServices o h m asker query (map (item_at n) (deadlines_with (seen_entries listing rs s.site n asker query.scopes) []))) (sym fold.ruled)
-    (subst (λ (x : Site). AreServices o h m asker query (map (item_at n) (deadlines_with (seen_entries listing (rules o.rules h) x n asker query.scopes) []))) (sym fold.placed)
-    (subst (λ t. AreItems P t (map (item_at n) (deadlines_with es []))) same
-    (items-are P n es
-    (λ e has. seen-answers o h m asker query listing s.entries n same fold.entries there e
-    (All-contains (SeenIn listing (rules o.rules h) o.site n asker query.scopes) es e (all_seen-from listing (rules o.rules h) o.site n asker query.scopes) has))
-    (λ e holds. all_seen-has listing (rules o.rules h) o.site n asker e query.scopes (answers-seen o h m asker query listing s.entries n same fold.entries there e holds))
-    (λ e holds.
-    let k = last-deadline o h (pair_of e) e.deadline legal holds.opened.live.stands.deadline in
-    omega (arith, same, k)))))
+module _ (o : Opening) (h : History) (s : State) (m asker n : ℕ) (query : ServiceQuery) (listing : List ℕ → List Entry)
+    (fold : Fold o h s) (is : n ≡ max m s.clock) (listings : AreListings listing s.site query s.entries) where
+  abbrev IsOpen : Entry → Type 0
+  IsOpen = IsOpenNow o h m asker query.scopes
+
+  abbrev seen : List Entry
+  seen = seen_entries listing s.rules s.site n asker query.scopes
+
+  abbrev found : List Entry
+  found = found_entries listing s.rules s.site n asker query
+
+  at_now : n ≡ now h m
+  at_now = is ∙ ap (max m) fold.clocks
+
+  -- what holds by the rules and the site of the history holds by those of its state
+  by_state : (F : SiteRules → Site → Type 0) → F (rules o.rules h) o.site → F s.rules s.site
+  by_state F holds = subst (λ rs. F rs s.site) (sym fold.ruled) (subst (λ x. F (rules o.rules h) x) (sym fold.placed) holds)
+
+  listed_there : AreListings listing o.site query s.entries
+  listed_there = subst (λ (x : Site). AreListings listing x query s.entries) fold.placed listings
+
+  seen-match : (e : Entry) → Contains seen e → Matches IsOpen query e
+  seen-match e = by_state (λ rs x. Contains (seen_entries listing rs x n asker query.scopes) e → Matches IsOpen query e)
+      (λ has. seen-answers o h m asker query listing s.entries n at_now fold.entries listed_there e (entries-from listing (is_seen (rules o.rules h) n asker) o.site e query.scopes has))
+
+  match-seen : (e : Entry) → Matches IsOpen query e → Contains seen e
+  match-seen e matched = by_state (λ rs x. Contains (seen_entries listing rs x n asker query.scopes) e)
+      (entries-have listing (is_seen (rules o.rules h) n asker) o.site e query.scopes (answers-seen o h m asker query listing s.entries n at_now fold.entries listed_there e matched))
+
+  found-answers : (e : Entry) → Contains found e → Answers IsOpen query e
+  found-answers e has =
+      let found = found-from listing s.rules s.site n asker query e has in
+      record { matched = seen-match e found.0; wanted = found.1 }
+
+  answers-found : (e : Entry) → Answers IsOpen query e → Contains found e
+  answers-found e a = found-has listing s.rules s.site n asker query e (match-seen e a.matched) a.wanted
+
+  pub services-are : IsLegal o h → AreServices o h m asker query (map (item_at n) (deadlines_with found []))
+  services-are legal =
+      subst (λ t. AreItems (Answers IsOpen query) t (map (item_at n) (deadlines_with found []))) at_now
+      (items-are (Answers IsOpen query) n found found-answers answers-found
+      (λ e holds.
+      let k = last-deadline o h (pair_of e) e.deadline legal holds.matched.opened.live.stands.deadline in
+      omega (arith, at_now, k)))
+
+  -- what is seen in other languages alone is what matches
+  pub foreign-is : IsTrue (is_some query.filter) → spoken_of query seen ≡ Others → IsForeign IsOpen query
+  foreign-is filtered others =
+      let some = others-some query seen others in record {
+        filtered = filtered;
+        other = some.0;
+        matched = seen-match some.0 some.1;
+        none = λ e matched. others-none query seen others e (match-seen e matched);
+      }
+
+  pub is-foreign : IsForeign IsOpen query → spoken_of query seen ≡ Others
+  is-foreign f = others-of query seen f.other (match-seen f.other f.matched) (λ e has. f.none e (seen-match e has))
+
+-- ---- a fault that is passed on
+
+pub passed_on : {A B E : Type 0} (r : Result A E) (x e : E) (F : Type 0) → IsErrAnd r (λ y. y ≡ x) → (IsErrOf {T = B} (Err x) e → F) → (IsErrOf r e → F) × IfOk r (λ _. F → ⊥)
+passed_on (Ok a) x e F is foreign = absurd is
+passed_on (Err y) x e F is foreign = ((λ k. let same : x ≡ e = cc in foreign (ap Err same)), tt)

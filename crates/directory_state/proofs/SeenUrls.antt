@@ -8,13 +8,12 @@ use Rattle.std.proofs.lemmas.Bool.{cases_lt}
 use Rattle.std.proofs.lemmas.List.Elements.{All-nil, All-cons, All-contains, Contains-append_left, Contains-append_right}
 use Rattle.std.proofs.lemmas.Option.{none-some, same_Some, slice_get_within, get_or_from_slice_get, slice_get-get_or}
 use borrow.Author.Count.{below_more}
-use Rattle.access_rules.specs.Deciding.{SiteRules}
 use Rattle.registry_core.specs.declared.entry.Entry.{Entry}
 use Rattle.slp_text.specs.Words.{bytes_cmp, IsAscending}
 use Rattle.directory_judge.specs.Judgements.{supports}
 use Rattle.directory_judge.specs.Sites.{Site}
 use Rattle.directory_state.specs.Deadlines.{UrlDeadline, with_deadline, urls_of}
-use Rattle.directory_state.specs.Searches.{deadlines_with, cut, is_seen, seen_entries}
+use Rattle.directory_state.specs.Searches.{deadlines_with, cut, entries_in}
 use Rattle.directory_state.proofs.Cuts.{cut-joined}
 use Rattle.directory_state.proofs.Joins.{is_same, is_same-itself, reversed, latest_in, none_before_first, ascending-with_deadline}
 
@@ -98,20 +97,26 @@ any_supported sup scopes i s done at is whole =
     sym whole ∙ ap (λ xs. done || list_any sup xs) (drop_here scopes i s at) ∙ ap (λ b. done || (b || list_any sup (drop (i + 1) scopes))) is
     ∙ (elim done as (λ d. (d || true) ≡ true) [ true ↦ refl | false ↦ refl ])
 
-module _ (listing : List ℕ → List Entry) (rs : SiteRules) (site : Site) (now asker : ℕ) (scopes : List (List ℕ)) (i : ℕ) (s : List ℕ) (at : slice_get scopes i ≡ Some s) where
-  pub seen-turn : (cost : List ℕ → ℕ) (left : ℕ) (b : Bool) (before after : List UrlDeadline) → supports site s ≡ b
-      → after ≡ cond b (cut cost left (deadlines_with (filter (is_seen rs now asker s) (listing s)) before)) before
-      → cut cost left (deadlines_with (seen_entries listing rs site now asker (drop (i + 1) scopes)) after) ≡ cut cost left (deadlines_with (seen_entries listing rs site now asker (drop i scopes)) before)
-  seen-turn cost left b before after is step =
-      let rest = seen_entries listing rs site now asker (drop (i + 1) scopes) in
-      let part = filter (is_seen rs now asker s) (listing s) in
+module _ (listing : List ℕ → List Entry) (passes : List ℕ → Entry → Bool) (site : Site) (scopes : List (List ℕ)) (i : ℕ) (s : List ℕ) (at : slice_get scopes i ≡ Some s) where
+  -- what passes in the scope comes before what passes in those that are left
+  pub entries-turn : (b : Bool) → supports site s ≡ b
+      → entries_in listing passes site (drop i scopes) ≡ cond b (filter (passes s) (listing s)) [] ++ entries_in listing passes site (drop (i + 1) scopes)
+  entries-turn b is =
+      let rest = entries_in listing passes site (drop (i + 1) scopes) in
+      ap (entries_in listing passes site) (drop_here scopes i s at) ∙ ap (λ t. cond t (filter (passes s) (listing s)) [] ++ rest) is
+
+  pub deadlines-turn : (cost : List ℕ → ℕ) (left : ℕ) (b : Bool) (before after : List UrlDeadline) → supports site s ≡ b
+      → after ≡ cond b (cut cost left (deadlines_with (filter (passes s) (listing s)) before)) before
+      → cut cost left (deadlines_with (entries_in listing passes site (drop (i + 1) scopes)) after) ≡ cut cost left (deadlines_with (entries_in listing passes site (drop i scopes)) before)
+  deadlines-turn cost left b before after is step =
+      let rest = entries_in listing passes site (drop (i + 1) scopes) in
+      let part = filter (passes s) (listing s) in
       ap (λ ps. cut cost left (deadlines_with rest ps)) step
       ∙ (elim b as (λ t. cut cost left (deadlines_with rest (cond t (cut cost left (deadlines_with part before)) before)) ≡ cut cost left (deadlines_with (cond t part [] ++ rest) before)) [
         | true ↦ cut-joined cost left rest (deadlines_with part before) ∙ ap (cut cost left) (sym (deadlines_with-append part rest before))
         | false ↦ refl
       ])
-      ∙ ap (λ t. cut cost left (deadlines_with (cond t part [] ++ rest) before)) (sym is)
-      ∙ ap (λ xs. cut cost left (deadlines_with (seen_entries listing rs site now asker xs) before)) (sym (drop_here scopes i s at))
+      ∙ ap (λ xs. cut cost left (deadlines_with xs before)) (sym (entries-turn b is))
 
   pub supported-turn : (b done after : Bool) → supports site s ≡ b → after ≡ (done || b)
       → (done || list_any (supports site) (drop i scopes)) ≡ list_any (supports site) scopes

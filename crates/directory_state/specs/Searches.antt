@@ -7,13 +7,17 @@ use Rattle.registry_core.specs.declared.entry.Entry.{Entry}
 use Rattle.slp_messages.specs.declared.message.UrlEntry.{UrlEntry}
 use Rattle.directory_judge.specs.Judgements.{supports}
 use Rattle.directory_judge.specs.Sites.{Site}
+use Rattle.directory_answers.specs.Items.{is_wanted}
+use Rattle.directory_answers.specs.declared.query.ServiceQuery.{ServiceQuery}
 use Rattle.directory_state.specs.Deadlines.{UrlDeadline, with_deadline, total_cost, urls_of}
 use Rattle.std.specs.List.{AllByRecursion}
 use Rattle.std.specs.Ordering.{is_le}
-use Rattle.slp_text.specs.Words.{bytes_cmp}
+use Rattle.slp_text.specs.Words.{bytes_cmp, bytes_eq}
 use Rattle.directory_state.specs.declared.search.Shortlist.{Shortlist}
 use Rattle.directory_state.specs.declared.search.Room.{Room}
 use Rattle.directory_state.specs.declared.search.Search.{Search}
+use Rattle.directory_state.specs.declared.search.Spoken.{Spoken}
+use Rattle.directory_state.specs.declared.search.Spoken.TheVariants.{Nothing, Others, Asked}
 
 -- ---- what is seen
 
@@ -26,11 +30,27 @@ deadlines_with (e ∷ es) ps = deadlines_with es (with_deadline e.url e.deadline
 abbrev pub is_seen : SiteRules → ℕ → ℕ → List ℕ → Entry → Bool
 is_seen rules now asker scope e = outlives now e && (deciding rules asker See e.kind scope).allow
 
--- what is seen in those of the scopes that the site supports, where the listing says what stands in each
+-- it is seen, and asked for
+abbrev pub is_found : ServiceQuery → SiteRules → ℕ → ℕ → List ℕ → Entry → Bool
+is_found query rules now asker scope e = is_seen rules now asker scope e && is_wanted query e
+
+-- what was seen: nothing, or something, in the language that is asked for or in others alone
+abbrev pub spoken_of : ServiceQuery → List Entry → Spoken
+spoken_of query [] = Nothing
+spoken_of query (e ∷ es) = if bytes_eq e.language query.language then Asked else (elim (spoken_of query es) [ Nothing ↦ Others | Others ↦ Others | Asked ↦ Asked ])
+
+-- what passes in those of the scopes that the site supports, where the listing says what stands in each
+abbrev pub entries_in : (List ℕ → List Entry) → (List ℕ → Entry → Bool) → Site → List (List ℕ) → List Entry
+entries_in listing passes site [] = []
+entries_in listing passes site (s ∷ scopes) = (if supports site s then filter (passes s) (listing s) else []) ++ entries_in listing passes site scopes
+
+-- what is seen there
 abbrev pub seen_entries : (List ℕ → List Entry) → SiteRules → Site → ℕ → ℕ → List (List ℕ) → List Entry
-seen_entries listing rules site now asker [] = []
-seen_entries listing rules site now asker (s ∷ scopes) =
-    (if supports site s then filter (is_seen rules now asker s) (listing s) else []) ++ seen_entries listing rules site now asker scopes
+seen_entries listing rules site now asker = entries_in listing (is_seen rules now asker) site
+
+-- what is found there
+abbrev pub found_entries : (List ℕ → List Entry) → SiteRules → Site → ℕ → ℕ → ServiceQuery → List Entry
+found_entries listing rules site now asker query = entries_in listing (is_found query rules now asker) site query.scopes
 
 -- what is answered of a URL and its latest deadline
 abbrev pub item_at : ℕ → UrlDeadline → UrlEntry
@@ -77,4 +97,4 @@ pub record IsBound (cost : List ℕ → ℕ) (left : ℕ) (url : List ℕ) (ps :
 
 -- what is kept, with what is seen of these entries of a scope
 abbrev pub shortlist_with : Shortlist → Search → List ℕ → List Entry → List UrlDeadline
-shortlist_with k s scope es = cut_in k.room (deadlines_with (filter (is_seen s.rules.now s.moment s.asker scope) es) k.latest)
+shortlist_with k s scope es = cut_in k.room (deadlines_with (filter (is_found s.query.now s.rules.now s.moment s.asker scope) es) k.latest)

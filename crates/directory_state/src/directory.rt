@@ -1,4 +1,4 @@
-ghost use Rattle.std.specs.Prelude.{◌≡◌, ◌∷◌, [], max, map, List, IfOk, IfErr, IsErrOf, ◌≤◌, ◌↔◌, ◌⊎◌, false};
+ghost use Rattle.std.specs.Prelude.{◌≡◌, ◌∷◌, [], max, map, List, IfOk, IsErrOf, ◌≤◌, ◌↔◌, false};
 ghost use Rattle.std.specs.List.{list_any};
 ghost use Rattle.std.specs.Arc.{arc_value};
 ghost use Rattle.std.specs.FinMap as fin;
@@ -7,7 +7,7 @@ ghost use Rattle.directory_judge.specs.History.{History, Event};
 ghost use Rattle.directory_judge.specs.Judgements.{IsChange, Judgement, judgement_in, supports};
 ghost use Rattle.directory_judge.specs.Contents.{content};
 ghost use Rattle.directory_answers.specs.Calls.{Opening};
-ghost use Rattle.directory_answers.specs.Items.{AreServices};
+ghost use Rattle.directory_answers.specs.Items.{AreServices, IsForeign, IsOpenNow};
 ghost use Rattle.directory_state.specs.Deadlines.{UrlDeadline};
 ghost use Rattle.directory_state.specs.Searches.{item_at, cut_in, IsSmall, IsKept};
 ghost use Rattle.directory_state.specs.Fronts.{IsFront, items_in, size_in};
@@ -184,7 +184,8 @@ impl<R: Registry> Directory<R> {
     ) -> Result<Shortlist<'_>, QueryFault>
         requires { IsSmall room }
         ensures scope { IsErrOf result QueryFault.Scope ↔ (list_any (supports self.now.site) query.now.scopes ≡ false) }
-        ensures faults { IfErr result (λ e. (e ≡ QueryFault.Scope) ⊎ (e ≡ QueryFault.NoMemory)) }
+        ensures language { (o : Opening) (h : History) → Fold o h self.now → IsLegal o h
+            → (IsErrOf result QueryFault.Language → IsForeign (IsOpenNow o h moment asker query.now.scopes) query.now) × IfOk result (λ _. ¬ IsForeign (IsOpenNow o h moment asker query.now.scopes) query.now) }
         ensures kept { IfOk result (λ kept. IsKept kept × (kept.room ≡ room)) }
         ensures items { (o : Opening) (h : History) → Fold o h self.now → IsLegal o h
             → IfOk result (λ kept. (all : List UrlDeadline) × AreServices o h moment asker query.now (map (item_at (max moment self.now.clock)) all) × (kept.latest ≡ cut_in room all)) }
@@ -200,7 +201,9 @@ impl<R: Registry> Directory<R> {
     }
 
     /// The URLs of the live entries that are open to the asker and match the question, in byte order,
-    /// each once and with the greatest remaining lifetime in seconds (RFC 2608, section 8.2).
+    /// each once and with the greatest remaining lifetime in seconds (RFC 2608, section 8.2). With a filter they
+    /// are those in the language of the question on which it holds; where something matches, but nothing in
+    /// that language, the answer is `Language`.
     pub fn services(
         &self,
         alloc: Global,
@@ -209,7 +212,8 @@ impl<R: Registry> Directory<R> {
         query: &ServiceQuery,
     ) -> Result<Vec<UrlEntry>, QueryFault>
         ensures scope { IsErrOf result QueryFault.Scope ↔ (list_any (supports self.now.site) query.now.scopes ≡ false) }
-        ensures faults { IfErr result (λ e. (e ≡ QueryFault.Scope) ⊎ (e ≡ QueryFault.NoMemory)) }
+        ensures language { (o : Opening) (h : History) → Fold o h self.now → IsLegal o h
+            → (IsErrOf result QueryFault.Language → IsForeign (IsOpenNow o h moment asker query.now.scopes) query.now) × IfOk result (λ _. ¬ IsForeign (IsOpenNow o h moment asker query.now.scopes) query.now) }
         ensures items { (o : Opening) (h : History) → Fold o h self.now → IsLegal o h
             → IfOk result (λ items. AreServices o h moment asker query.now items.items) }
     {
@@ -230,7 +234,8 @@ impl<R: Registry> Directory<R> {
         requires small { room.bytes ≤ 65535 }
         requires small_each { room.each ≤ 65535 }
         ensures scope { IsErrOf result QueryFault.Scope ↔ (list_any (supports self.now.site) query.now.scopes ≡ false) }
-        ensures faults { IfErr result (λ e. (e ≡ QueryFault.Scope) ⊎ (e ≡ QueryFault.NoMemory)) }
+        ensures language { (o : Opening) (h : History) → Fold o h self.now → IsLegal o h
+            → (IsErrOf result QueryFault.Language → IsForeign (IsOpenNow o h moment asker query.now.scopes) query.now) × IfOk result (λ _. ¬ IsForeign (IsOpenNow o h moment asker query.now.scopes) query.now) }
         ensures items { (o : Opening) (h : History) → Fold o h self.now → IsLegal o h
             → IfOk result (λ found. (all : List UrlEntry) × AreServices o h moment asker query.now all × IsFront room all (items_in found) found.is_cut) }
         ensures fits { IfOk result (λ found. size_in room (items_in found) ≤ room.bytes) }

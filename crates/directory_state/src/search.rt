@@ -1,10 +1,11 @@
-ghost use Rattle.std.specs.Prelude.{◌≡◌, ◌+◌, ◌-◌, ◌<◌, ◌↔◌, ◌⊎◌, [], ◌∷◌, ℕ, List, false, length, map, filter, take, IfOk, IfErr, IsErrOf, IfSome, IfNone, MatchOption, OnErr, IsTrue, slice_get, Some};
+ghost use Rattle.std.specs.Prelude.{◌≡◌, ◌≢◌, ◌+◌, ◌-◌, ◌<◌, ◌↔◌, [], ◌∷◌, ℕ, List, false, length, map, filter, take, IfOk, IfErr, IsErrOf, IfSome, IfNone, MatchOption, OnErr, IsTrue, slice_get, Some, is_some, MatchResult};
 ghost use Rattle.std.specs.List.{list_any};
 ghost use Rattle.registry_core.specs.Entries.{is_at_place, IsListing};
 ghost use Rattle.directory_judge.specs.Judgements.{supports};
 ghost use Rattle.directory_state.specs.Deadlines.{UrlDeadline, with_deadline, total_cost};
-ghost use Rattle.directory_state.specs.Searches.{deadlines_with, is_seen, seen_entries, item_at, cost_in, bytes_in, cut_in, shortlist_with, IsBound, IsCounted, IsSmall, IsKept};
+ghost use Rattle.directory_state.specs.Searches.{deadlines_with, found_entries, is_found, is_seen, seen_entries, spoken_of, item_at, cost_in, bytes_in, cut_in, shortlist_with, IsBound, IsCounted, IsSmall, IsKept};
 ghost use Rattle.directory_state.specs.Fronts.{IsFront, items_in};
+ghost use Rattle.directory_state.specs.declared.search.Spoken.TheVariants as spoken_is;
 
 use crate::deadlines::Deadlines;
 use access_rules::{Action, Addr, Rules};
@@ -42,6 +43,68 @@ pub struct Search<'q> {
     pub moment: u64,
     pub rules: &'q Rules,
     pub site: &'q Site,
+}
+
+/// What was seen, by its language.
+#[derive(Clone, Copy)]
+pub enum Spoken {
+    Nothing,
+    /// Something, and nothing in the language that is asked for.
+    Others,
+    /// Something in the language that is asked for.
+    Asked,
+}
+
+impl Search<'_> {
+    // Whether an entry is live, and open to the asker in a scope.
+    fn sees(&self, entry: &Entry, scope: &Key) -> bool
+        ensures { result ≡ is_seen self.now.rules.now self.now.moment self.now.asker scope.now entry.now }
+    {
+        entry.deadline > self.moment
+            && self
+                .rules
+                .decide(self.asker, Action::See, &entry.kind, scope)
+                .allow
+    }
+
+    // What is seen in a scope, by its language.
+    fn spoken_in<R: Registry>(&self, registry: &R, scope: &Key) -> Spoken
+        ensures spoken { result ≡ spoken_of self.now.query.now (filter (is_seen self.now.rules.now self.now.moment self.now.asker scope.now) (R.rest_at registry.now scope.now (Some self.now.query.now.kind) 0)) }
+        ensures listing { IsListing (is_at_place scope.now (Some self.now.query.now.kind)) (R.contents registry.now) (R.rest_at registry.now scope.now (Some self.now.query.now.kind) 0) }
+    {
+        let mut spoken = Spoken::Nothing;
+        let mut from = 0;
+        while let Some((entry, next)) = registry.by_place(scope, Some(&self.query.kind), from) {
+            if self.sees(entry, scope) {
+                if entry.language == self.query.language {
+                    return Spoken::Asked;
+                }
+                spoken = Spoken::Others;
+            }
+            from = next;
+        }
+        spoken
+    }
+
+    // What is seen in the scopes that the site supports, by its language.
+    fn spoken<R: Registry>(&self, registry: &R) -> Spoken
+        ensures { result ≡ spoken_of self.now.query.now (seen_entries (λ s. R.rest_at registry.now s (Some self.now.query.now.kind) 0) self.now.rules.now self.now.site.now self.now.moment self.now.asker self.now.query.now.scopes) }
+    {
+        let mut spoken = Spoken::Nothing;
+        let scopes = &self.query.scopes;
+        for place in 0..scopes.len() {
+            if let Some(scope) = scopes.at(place)
+                && self.site.scopes().has(scope)
+            {
+                match self.spoken_in(registry, scope) {
+                    Spoken::Asked => return Spoken::Asked,
+                    Spoken::Others => spoken = Spoken::Others,
+                    Spoken::Nothing => {}
+                }
+            }
+        }
+        spoken
+    }
 }
 
 /// What is kept of the URLs that were seen so far, in byte order: from the front as many as there is
@@ -125,15 +188,9 @@ impl<'a> Shortlist<'a> {
         requires { IsKept self.old }
         ensures room { self.new.room ≡ self.old.room }
         ensures kept { IfOk result (λ _. IsKept self.new) }
-        ensures found { IfOk result (λ _. self.new.latest ≡ cut_in self.old.room (deadlines_with (filter (is_seen question.now.rules.now question.now.moment question.now.asker scope.now) (entry.now ∷ [])) self.old.latest)) }
+        ensures found { IfOk result (λ _. self.new.latest ≡ cut_in self.old.room (deadlines_with (filter (is_found question.now.query.now question.now.rules.now question.now.moment question.now.asker scope.now) (entry.now ∷ [])) self.old.latest)) }
     {
-        if entry.deadline <= question.moment {
-            return Ok(());
-        }
-        let ruling = question
-            .rules
-            .decide(question.asker, Action::See, &entry.kind, scope);
-        if !ruling.allow {
+        if !question.sees(entry, scope) || !question.query.wants(entry) {
             return Ok(());
         }
         self.put(&entry.url, entry.deadline)?;
@@ -187,7 +244,7 @@ impl<'a> Shortlist<'a> {
         requires { IsKept self.old }
         ensures room { self.new.room ≡ self.old.room }
         ensures kept { IfOk result (λ _. IsKept self.new) }
-        ensures found { IfOk result (λ _. self.new.latest ≡ cut_in self.old.room (deadlines_with (filter (is_seen question.now.rules.now question.now.moment question.now.asker scope.now) (R.rest_at registry.now scope.now (Some question.now.query.now.kind) 0)) self.old.latest)) }
+        ensures found { IfOk result (λ _. self.new.latest ≡ cut_in self.old.room (deadlines_with (filter (is_found question.now.query.now question.now.rules.now question.now.moment question.now.asker scope.now) (R.rest_at registry.now scope.now (Some question.now.query.now.kind) 0)) self.old.latest)) }
         ensures listing { IfOk result (λ _. IsListing (is_at_place scope.now (Some question.now.query.now.kind)) (R.contents registry.now) (R.rest_at registry.now scope.now (Some question.now.query.now.kind) 0)) }
     {
         let mut from = 0;
@@ -207,7 +264,7 @@ impl<'a> Shortlist<'a> {
         requires { IsKept self.old }
         ensures room { self.new.room ≡ self.old.room }
         ensures kept { IfOk result (λ _. IsKept self.new) }
-        ensures found { IfOk result (λ _. self.new.latest ≡ cut_in self.old.room (deadlines_with (seen_entries (λ s. R.rest_at registry.now s (Some question.now.query.now.kind) 0) question.now.rules.now question.now.site.now question.now.moment question.now.asker question.now.query.now.scopes) self.old.latest)) }
+        ensures found { IfOk result (λ _. self.new.latest ≡ cut_in self.old.room (deadlines_with (found_entries (λ s. R.rest_at registry.now s (Some question.now.query.now.kind) 0) question.now.rules.now question.now.site.now question.now.moment question.now.asker question.now.query.now) self.old.latest)) }
         ensures listings { IfOk result (λ _. (k : ℕ) (s : List ℕ) → slice_get question.now.query.now.scopes k ≡ Some s → IsTrue (supports question.now.site.now s)
             → IsListing (is_at_place s (Some question.now.query.now.kind)) (R.contents registry.now) (R.rest_at registry.now s (Some question.now.query.now.kind) 0)) }
         ensures supported { IfOk result (λ is. is ≡ list_any (supports question.now.site.now) question.now.query.now.scopes) }
@@ -235,12 +292,12 @@ impl<'a> Shortlist<'a> {
     ) -> Result<Shortlist<'a>, QueryFault>
         requires { IsSmall room }
         ensures scope { IsErrOf result QueryFault.Scope ↔ (list_any (supports question.now.site.now) question.now.query.now.scopes ≡ false) }
-        ensures faults { IfErr result (λ e. (e ≡ QueryFault.Scope) ⊎ (e ≡ QueryFault.NoMemory)) }
+        ensures language { IsErrOf result QueryFault.Language → IsTrue (is_some question.now.query.now.filter) × (spoken_of question.now.query.now (seen_entries (λ s. R.rest_at registry.now s (Some question.now.query.now.kind) 0) question.now.rules.now question.now.site.now question.now.moment question.now.asker question.now.query.now.scopes) ≡ spoken_is.Others) }
+        ensures spoken { IfOk result (λ _. IsTrue (is_some question.now.query.now.filter) → spoken_of question.now.query.now (seen_entries (λ s. R.rest_at registry.now s (Some question.now.query.now.kind) 0) question.now.rules.now question.now.site.now question.now.moment question.now.asker question.now.query.now.scopes) ≢ spoken_is.Others) }
         ensures room { IfOk result (λ kept. kept.room ≡ room) }
         ensures kept { IfOk result (λ kept. IsKept kept) }
-        ensures found { IfOk result (λ kept. kept.latest ≡ cut_in room (deadlines_with (seen_entries (λ s. R.rest_at registry.now s (Some question.now.query.now.kind) 0) question.now.rules.now question.now.site.now question.now.moment question.now.asker question.now.query.now.scopes) [])) }
-        ensures listings { IfOk result (λ _. (k : ℕ) (s : List ℕ) → slice_get question.now.query.now.scopes k ≡ Some s → IsTrue (supports question.now.site.now s)
-            → IsListing (is_at_place s (Some question.now.query.now.kind)) (R.contents registry.now) (R.rest_at registry.now s (Some question.now.query.now.kind) 0)) }
+        ensures found { IfOk result (λ kept. kept.latest ≡ cut_in room (deadlines_with (found_entries (λ s. R.rest_at registry.now s (Some question.now.query.now.kind) 0) question.now.rules.now question.now.site.now question.now.moment question.now.asker question.now.query.now) [])) }
+        ensures listings { MatchResult result (λ _. (k : ℕ) (s : List ℕ) → slice_get question.now.query.now.scopes k ≡ Some s → IsTrue (supports question.now.site.now s) → IsListing (is_at_place s (Some question.now.query.now.kind)) (R.contents registry.now) (R.rest_at registry.now s (Some question.now.query.now.kind) 0)) (λ e. e ≡ QueryFault.Language → (k : ℕ) (s : List ℕ) → slice_get question.now.query.now.scopes k ≡ Some s → IsTrue (supports question.now.site.now s) → IsListing (is_at_place s (Some question.now.query.now.kind)) (R.contents registry.now) (R.rest_at registry.now s (Some question.now.query.now.kind) 0)) }
     {
         let mut kept = Shortlist {
             latest: Deadlines::new(alloc),
@@ -249,6 +306,12 @@ impl<'a> Shortlist<'a> {
         };
         if !kept.gather(registry, question)? {
             return Err(QueryFault::Scope);
+        }
+        if question.query.filter.is_some()
+            && kept.latest.is_empty()
+            && matches!(question.spoken(registry), Spoken::Others)
+        {
+            return Err(QueryFault::Language);
         }
         Ok(kept)
     }

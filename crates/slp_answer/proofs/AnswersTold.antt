@@ -1,5 +1,5 @@
 -- What is told of bytes, by what they are read as.
-use Rattle.std.proofs.Common.{◌≡◌, ℕ, suc, arith, Bool, true, false, cond, List, [], ◌∷◌, length, Option, Some, None, Result, Ok, Err, refl, sym, ap, ap₂, subst, ◌∙◌}
+use Rattle.std.proofs.Common.{◌≡◌, ℕ, suc, arith, Bool, true, false, cond, List, [], ◌∷◌, length, Option, Some, None, Result, Ok, Err, refl, sym, ap, ap₂, subst, ◌∙◌, inl, inr}
 use Rattle.std.specs.Prelude.{◌==◌, ◌&&◌, ◌||◌, ◌+◌, ◌/◌, ◌%◌, ◌++◌, ◌↔◌, not, IsErrOf}
 use Rattle.std.specs.Fmt.{decimal}
 use Rattle.std.specs.Result.{result_ok}
@@ -30,11 +30,13 @@ use Rattle.directory_judge.specs.declared.reason.Because.{Because}
 use Rattle.directory_judge.specs.declared.change.Change.{Change}
 use Rattle.directory_judge.specs.declared.judgement.Judged.{Judged}
 use Rattle.directory_judge.specs.declared.judgement.Judged.TheVariants as judged
-use Rattle.directory_answers.specs.Answers.{Sense, Settled, Lists, IsServiceAnswer, sense_under, sense_of_message, sense_of_question, IsAnswerTo, IsAnswer}
+use Rattle.directory_answers.specs.Answers.{Sense, Settled, Lists, IsListed, language_outcome, sense_under, sense_of_message, sense_of_question, IsAnswerTo, IsAnswer}
 use Rattle.directory_answers.specs.Calls.{Opening, Call}
 use Rattle.directory_answers.specs.Outcomes.{Outcome, silence, outcome, sent_of, code_outcome, fault_outcome, acknowledgement_of}
 use Rattle.directory_answers.specs.Questions.{has_answered, question_of, question_as}
-use Rattle.directory_answers.specs.Items.{IsOpenNow, AreServices}
+use Rattle.directory_answers.specs.Items.{IsForeign, IsOpenNow, AreServices}
+use Rattle.directory_answers.specs.declared.query.QueryFault.{QueryFault}
+use Rattle.directory_answers.specs.declared.query.QueryFault.TheVariants as query_fault
 use Rattle.directory_answers.specs.declared.query.ServiceQuery.{ServiceQuery}
 use Rattle.directory_answers.specs.declared.question.Question.{Question}
 use Rattle.directory_answers.specs.declared.question.Question.TheVariants.{Silent, Asks}
@@ -45,6 +47,7 @@ use Rattle.directory_state.specs.Fronts.{IsFront}
 use Rattle.directory_state.specs.Folds.{Fold, StandsFor, IsJudgedAs, HandsOut}
 use Rattle.directory_state.specs.State.{State}
 use Rattle.directory_state.specs.declared.search.Room.{Room}
+use Rattle.directory_answers.proofs.Questions.{responders-silence}
 use Rattle.directory_state.proofs.Histories.{legal_next}
 use Rattle.slp_answer.specs.ServiceReplies.{service_reply}
 use Rattle.slp_answer.specs.Answers.{Tells, Replies, Acknowledges, Steps, outcome_of_finding}
@@ -118,10 +121,6 @@ module _ (o : Opening) (h : History) (c : Call) where
 
 -- ---- questions
 
-or_second : (a b c d : Bool) → b ≡ true → (a || b || c || d) ≡ true
-or_second true b c d is = refl
-or_second false b c d is = ap (λ x. x || c || d) is
-
 -- an address is not empty
 nobody-answered : (own : ℕ) → has_answered own [] ≡ false
 nobody-answered own =
@@ -138,9 +137,7 @@ module _ (site : Site) (own : ℕ) (head : Heading) (header : Header) (request :
   asked-by [] is = ap (λ b. cond b (Settled silence) (sense_of_question site head (question_of header request))) (ap (has_answered own) is ∙ nobody-answered own)
   asked-by (x ∷ xs) is =
       let some : not (length request.responders == 0) ≡ true = ap (λ (rs : List ℕ). not (length rs == 0)) is ∙ ap not (positive (suc (length xs)) (omega arith)) in
-      let silent : question_of header request ≡ Silent =
-      ap (λ b. cond b Silent (question_as header (result_ok (type_of request.kind)) (result_ok (scopes_of request.scopes))))
-      (or_second header.flags.multicast (not (length request.responders == 0)) (not (is_blank request.predicate)) (is_agent (result_ok (type_of request.kind))) some) in
+      let silent = responders-silence header request some in
       ap (λ (q : Question). cond (has_answered own request.responders) (Settled silence) (sense_of_question site head q)) silent
       ∙ either (has_answered own request.responders)
       ∙ sym (ap (sense_of_question site head) silent)
@@ -152,29 +149,37 @@ module _ (o : Opening) (h : History) (c : Call) (head : Heading) where
   question-answer header request q r asks answer =
       subst (λ (s : Sense). IsAnswerTo o h c s r None) (sym (asked-by o.site c.own head header request request.responders refl ∙ ap (sense_of_question o.site head) asks)) answer
 
-  -- services that were found where a scope is supported
-  pub found-answer : (query : ServiceQuery) (r : Outcome) → list_any (supports o.site) query.scopes ≡ true
-      → IsServiceAnswer (IsOpenNow o h c.moment c.asker query.scopes) (now h c.moment) c.limit head query r → IsAnswerTo o h c (sense_of_question o.site head (Asks query)) r None
-  found-answer query r supported listed =
+  -- what is listed where a scope is supported
+  listing-answer : (query : ServiceQuery) (r : Outcome) → list_any (supports o.site) query.scopes ≡ true
+      → IsListed (IsOpenNow o h c.moment c.asker query.scopes) (now h c.moment) c.limit head query r → IsAnswerTo o h c (sense_of_question o.site head (Asks query)) r None
+  listing-answer query r supported listed =
       subst (λ b. IsAnswerTo o h c (cond b (Lists head query) (Settled (code_outcome head 4 (by_step decider.Scope (Some query.kind))))) r None) (sym supported) (listed, refl)
 
   pub listed-answer : (rs : SiteRules) (query : ServiceQuery) (all items : List UrlEntry) (is_cut : Bool) (room : Room) (what : Sent) (reply line : List ℕ) → room.bytes + 18 + length head.language ≡ c.limit → room.each ≡ 6
-      → list_any (supports o.site) query.scopes ≡ true → AreServices o h c.moment c.asker query all → IsFront room all items is_cut
+      → list_any (supports o.site) query.scopes ≡ true → ¬ IsForeign (IsOpenNow o h c.moment c.asker query.scopes) query → AreServices o h c.moment c.asker query all → IsFront room all items is_cut
       → Tells rs c.asker (Some head) (outcome (sent_of head 0 (length items == 0 && not is_cut) (plain_bytes (service_reply head is_cut items))) 0 (by_step decider.Nobody (Some query.kind))) what reply line
       → (r : Outcome) × IsAnswerTo o h c (sense_of_question o.site head (Asks query)) r None × Tells rs c.asker (Some head) r what reply line
-  listed-answer rs query all items is_cut room what reply line whole six supported are front tells =
+  listed-answer rs query all items is_cut room what reply line whole six supported spoken are front tells =
       let sending = plain_bytes (service_reply head is_cut items) in
       let told : Bool → Outcome = λ b. outcome (sent_of head 0 b sending) 0 (by_step decider.Nobody (Some query.kind)) in (
         told (length items == 0 && not is_cut),
-        found-answer query (told (length items == 0 && not is_cut)) supported (record {
-          items = all;
-          are = are;
-          whole = sending;
-          cut = front-cut head room all items is_cut c.limit whole six front;
-          sent = ap told (front-empty head room all items is_cut c.limit whole six front);
-        }),
+        listing-answer query (told (length items == 0 && not is_cut)) supported (inr (
+          spoken,
+          record {
+            items = all;
+            are = are;
+            whole = sending;
+            cut = front-cut head room all items is_cut c.limit whole six front;
+            sent = ap told (front-empty head room all items is_cut c.limit whole six front);
+          },
+        )),
         tells,
       )
+
+  -- nothing is in the language that is asked for
+  pub foreign-answer : (query : ServiceQuery) → list_any (supports o.site) query.scopes ≡ true → IsForeign (IsOpenNow o h c.moment c.asker query.scopes) query
+      → IsAnswerTo o h c (sense_of_question o.site head (Asks query)) (language_outcome head query) None
+  foreign-answer query supported foreign = listing-answer query (language_outcome head query) supported (inl (foreign, refl))
 
   pub unsupported-answer : (query : ServiceQuery) → list_any (supports o.site) query.scopes ≡ false
       → IsAnswerTo o h c (sense_of_question o.site head (Asks query)) (code_outcome head 4 (by_step decider.Scope (Some query.kind))) None
@@ -328,3 +333,10 @@ ok_err x e h = cc
 -- what was found is not refused
 pub found-supported : {A E : Type 0} (x : A) (e : E) (b : Bool) → IsErrOf (Ok x) e ↔ (b ≡ false) → b ≡ true
 found-supported x e b h = not-false b (λ f. ok_err x e (h.1 f))
+
+other_fault : {A : Type 0} (e : QueryFault) → e ≡ query_fault.Language → ◌≡◌ {A = Result A QueryFault} (Err e) (Err query_fault.Scope) → ⊥
+other_fault e is h = cc
+
+-- nor is what is refused for its language refused for its scopes
+pub refused-supported : {A : Type 0} (r : Result A QueryFault) (e : QueryFault) (b : Bool) → r ≡ Err e → e ≡ query_fault.Language → IsErrOf r query_fault.Scope ↔ (b ≡ false) → b ≡ true
+refused-supported r e b was is h = not-false b (λ f. other_fault e is (sym was ∙ h.1 f))

@@ -1,13 +1,14 @@
-use Rattle.std.proofs.Common.{sym, ap, ◌∙◌, arith}
+use Rattle.std.proofs.Common.{Err, refl, sym, ap, ◌∙◌, arith}
 use Rattle.std.specs.List.{list_any}
 use Rattle.std.proofs.lemmas.Result.{IfOk-weaker}
 use Rattle.slp_headers.specs.Headers.{heading_in}
 use Rattle.directory_judge.specs.Judgements.{supports}
 use Rattle.directory_judge.specs.Sites.{Site}
+use Rattle.directory_answers.specs.Answers.{language_outcome}
 use Rattle.directory_answers.specs.Calls.{call_in}
 use Rattle.directory_state.specs.Fronts.{items_in}
 use Rattle.slp_answer.proofs.Sizes.{room-short}
-use Rattle.slp_answer.proofs.AnswersTold.{listed-answer, found-supported}
+use Rattle.slp_answer.proofs.AnswersTold.{listed-answer, foreign-answer, found-supported, refused-supported}
 use Rattle.slp_answer.proofs.replies.answer_query.Goals as goal
 
 pub send_found-requires-clause-short : goal.send_found-requires-clause-short
@@ -22,5 +23,14 @@ returns-in-Ok g c = λ o h fold legal.
     let supported = ap (λ (p : Site). list_any (supports p) c.args.query.now.scopes) (sym fold.placed) ∙ found-supported found _ _ c.in-Ok.ensures.scope in
     IfOk-weaker c.send_found.result _ _
     (λ what tells. listed-answer o h (call_in c.args.headed.now.call.now) (heading_in c.args.headed.now.header.now) c.args.directory.now.rules c.args.query.now all.0 (items_in found) found.is_cut c.room_in-room.result
-    what c.send_found.new.answer.bytes.items c.send_found.new.answer.audit.items c.room_in-room.ensures.bytes c.room_in-room.ensures.each supported all.1 all.2 tells)
+    what c.send_found.new.answer.bytes.items c.send_found.new.answer.audit.items c.room_in-room.ensures.bytes c.room_in-room.ensures.each supported (c.in-Ok.ensures.language o h fold legal).1 all.1 all.2 tells)
     (rw c.rules-rules.ensures at c.send_found.ensures)
+
+pub returns-in-Err-Language : goal.returns-in-Err-Language
+returns-in-Err-Language g c = λ o h fold legal.
+    let head = heading_in c.args.headed.now.header.now in
+    let supported = ap (λ (p : Site). list_any (supports p) c.args.query.now.scopes) (sym fold.placed) ∙ refused-supported _ _ _ refl c.in-Err-Language.field-0-is c.in-Err-Language.ensures.scope in
+    let foreign = (c.in-Err-Language.ensures.language o h fold legal).0 (ap Err c.in-Err-Language.field-0-is) in
+    IfOk-weaker c.answer_code-in-Err-Language.result _ _
+    (λ what tells. (language_outcome head c.args.query.now, foreign-answer o h (call_in c.args.headed.now.call.now) head c.args.query.now supported foreign, tells))
+    (rw (c.rules-rules.ensures, c.by-finding-in-Err-Language.ensures.code, c.by-finding-in-Err-Language.ensures.reason) at c.answer_code-in-Err-Language.ensures)

@@ -8,8 +8,8 @@ use Rattle.registry_core.specs.Entries.{is_at_place, IsListing}
 use Rattle.slp_text.specs.Words.{bytes_eq}
 use Rattle.directory_judge.specs.Judgements.{supports}
 use Rattle.directory_state.specs.declared.search.Shortlist.{Shortlist}
-use Rattle.directory_state.specs.Searches.{deadlines_with, is_seen, bytes_in, cost_in, cut_in, IsKept}
-use Rattle.directory_state.proofs.SeenUrls.{on_err, not_none, any_supported, or_true, or_same, no_other, seen-turn, supported-turn, listing-turn}
+use Rattle.directory_state.specs.Searches.{deadlines_with, is_found, bytes_in, cost_in, cut_in, IsKept}
+use Rattle.directory_state.proofs.SeenUrls.{on_err, not_none, any_supported, or_true, or_same, no_other, deadlines-turn, supported-turn, listing-turn}
 use Rattle.directory_state.proofs.search.Shortlist.gather.Goals as goal
 use Rattle.directory_state.proofs.search.Shortlist.gather.Goals.{in-Some+then-has+in_ok-collect, in_default, in_default-via-in-None-1, in_default-via-in-Some+else-has}
 
@@ -21,6 +21,7 @@ loop-place-preserved g c =
     let rs = c.args.question.now.rules.now in
     let moment = c.args.question.now.moment in
     let asker = c.args.question.now.asker in
+    let found = is_found c.args.question.now.query.now rs moment asker in
     let room = c.args.self.now.room in
     let before = c.loop-place.self.latest in
     let after = c.match-at.self.latest in
@@ -29,13 +30,13 @@ loop-place-preserved g c =
           let s : List ℕ = w.in-Some.scope.now in
           let at : slice_get scopes c.loop-place.place ≡ Some s = sym c.at.ensures ∙ ap option_copied w.in-Some.is in
           let is : supports site s ≡ true = ap (list_any (λ k. bytes_eq k s)) (sym w.scopes.ensures.value) ∙ sym w.has.ensures ∙ w.if-has.true in
-          let step = ap (λ (k : Shortlist). k.latest) w.self-is ∙ w.in_ok-collect.ensures.found ∙ ap (λ o. cut_in o (deadlines_with (filter (is_seen rs moment asker s) (listing s)) before)) c.loop-place.invariant.room in record {
+          let step = ap (λ (k : Shortlist). k.latest) w.self-is ∙ w.in_ok-collect.ensures.found ∙ ap (λ o. cut_in o (deadlines_with (filter (found s) (listing s)) before)) c.loop-place.invariant.room in record {
             room = ap (λ (k : Shortlist). k.room) w.self-is ∙ w.collect.ensures.room ∙ c.loop-place.invariant.room;
             kept = subst IsKept (sym w.self-is) w.in_ok-collect.ensures.kept;
-            found = seen-turn listing rs site moment asker scopes c.loop-place.place s at (cost_in room) (bytes_in room) true before after is step ∙ c.loop-place.invariant.found;
-            listings = listing-turn listing rs site moment asker scopes c.loop-place.place s at
+            found = deadlines-turn listing found site scopes c.loop-place.place s at (cost_in room) (bytes_in room) true before after is step ∙ c.loop-place.invariant.found;
+            listings = listing-turn listing found site scopes c.loop-place.place s at
                 (λ t. IsListing (is_at_place t (Some c.args.question.now.query.now.kind)) (g.R.Registry.contents c.args.registry.now) (listing t)) c.loop-place.invariant.listings (λ _. w.in_ok-collect.ensures.listing);
-            supported = supported-turn listing rs site moment asker scopes c.loop-place.place s at true c.loop-place.is_supported c.match-at.is_supported is
+            supported = supported-turn listing found site scopes c.loop-place.place s at true c.loop-place.is_supported c.match-at.is_supported is
                 (or_true c.loop-place.is_supported c.match-at.is_supported w.is_supported-is) c.loop-place.invariant.supported;
           }
       | in_default w ↦ elim w.in_default.branch [
@@ -48,10 +49,10 @@ loop-place-preserved g c =
             let is : supports site s ≡ false = ap (list_any (λ k. bytes_eq k s)) (sym x.scopes.ensures.value) ∙ sym x.has.ensures ∙ x.if-has.false in record {
               room = ap (λ (k : Shortlist). k.room) w.self-is ∙ c.loop-place.invariant.room;
               kept = subst IsKept (sym w.self-is) c.loop-place.invariant.kept;
-              found = seen-turn listing rs site moment asker scopes c.loop-place.place s at (cost_in room) (bytes_in room) false before after is (ap (λ (k : Shortlist). k.latest) w.self-is) ∙ c.loop-place.invariant.found;
-              listings = listing-turn listing rs site moment asker scopes c.loop-place.place s at
+              found = deadlines-turn listing found site scopes c.loop-place.place s at (cost_in room) (bytes_in room) false before after is (ap (λ (k : Shortlist). k.latest) w.self-is) ∙ c.loop-place.invariant.found;
+              listings = listing-turn listing found site scopes c.loop-place.place s at
                   (λ t. IsListing (is_at_place t (Some c.args.question.now.query.now.kind)) (g.R.Registry.contents c.args.registry.now) (listing t)) c.loop-place.invariant.listings (λ t. absurd (no_other (supports site s) t is));
-              supported = supported-turn listing rs site moment asker scopes c.loop-place.place s at false c.loop-place.is_supported c.match-at.is_supported is
+              supported = supported-turn listing found site scopes c.loop-place.place s at false c.loop-place.is_supported c.match-at.is_supported is
                   (or_same c.loop-place.is_supported c.match-at.is_supported w.is_supported-is) c.loop-place.invariant.supported;
             }
       ]
