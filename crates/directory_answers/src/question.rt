@@ -68,18 +68,19 @@ fn question_in(
     let Some(scopes) = read_scopes(alloc, request.scopes)? else {
         return Ok(Question::Unreadable);
     };
-    let Some(filter) = read_predicate(alloc, request.predicate)? else {
-        return Ok(Question::Unreadable);
+    let language = match key(alloc, header.language) {
+        Ok(language) => language,
+        Err(TextFault::NoMemory) => return Err(NoMemory),
+        Err(_) => unreachable!(),
     };
-    match key(alloc, header.language) {
-        Ok(language) => Ok(Question::Asks(ServiceQuery {
+    match read_predicate(alloc, request.predicate)? {
+        Some(filter) => Ok(Question::Asks(ServiceQuery {
             kind,
             scopes,
             language,
             filter,
         })),
-        Err(TextFault::NoMemory) => Err(NoMemory),
-        Err(_) => unreachable!(),
+        None => Ok(Question::Unreadable),
     }
 }
 
