@@ -91,12 +91,18 @@ fn the_first_fault_is_answered(rt: HostRuntime) -> Result<(), Fail> {
     Ok(())
 }
 
-// A filter in so many negations, and in this many more brackets that are not closed.
-fn nested(alloc: Global, opening: &str, number: usize, inside: &str) -> Result<String, Fail> {
+// So many beginnings of filters, none of them closed.
+fn begun(alloc: Global, opening: &str, number: usize) -> Result<String, Fail> {
     let mut text = String::new(alloc);
     for _ in 0..number {
         text.push_str(opening)?;
     }
+    Ok(text)
+}
+
+// The same round a text, and closed.
+fn nested(alloc: Global, opening: &str, number: usize, inside: &str) -> Result<String, Fail> {
+    let mut text = begun(alloc, opening, number)?;
     text.push_str(inside)?;
     for _ in 0..number {
         text.push_str(")")?;
@@ -138,6 +144,18 @@ fn many_brackets_are_refused_in_a_moment(rt: HostRuntime) -> Result<(), Fail> {
         &rt,
         is_refused(alloc, ands.as_str(), FilterFault::TooDeep),
         "ands",
+    );
+    let unclosed = begun(alloc, "(", 60000)?;
+    assert_holds(
+        &rt,
+        is_refused(alloc, unclosed.as_str(), FilterFault::Syntax),
+        "brackets that are not closed",
+    );
+    let unclosed_ands = begun(alloc, "(&", 30000)?;
+    assert_holds(
+        &rt,
+        is_refused(alloc, unclosed_ands.as_str(), FilterFault::TooDeep),
+        "ands that are not closed",
     );
     Ok(())
 }
