@@ -26,7 +26,7 @@ use Rattle.attr_list.specs.declared.held.Held.{Held}
 use Rattle.attr_list.specs.declared.held.Held.TheVariants.{Keyword, Values}
 use Rattle.attr_list.proofs.Gathered.{all_filtered, get-attributes_of, tags_tied}
 use Rattle.attr_list.proofs.PrintedAttributes.{element_of, find_listed}
-use Rattle.attr_list.proofs.StoredAttributes.{ordered}
+use Rattle.attr_list.proofs.SortedByKey.{ordered}
 
 -- what elements give a tag, if one names it
 abbrev given : List ℕ → List Element → Option Held

@@ -24,7 +24,7 @@ use Rattle.attr_list.specs.declared.attrs.Attribute.{Attribute}
 use Rattle.attr_list.specs.declared.elements.Element as declared
 use Rattle.attr_list.specs.declared.held.Held.{Held}
 use Rattle.attr_list.proofs.Gathered.{AreKinds, attributes_of-kinds, get-attributes_of}
-use Rattle.attr_list.proofs.StoredAttributes.{ordered}
+use Rattle.attr_list.proofs.SortedByKey.{ordered}
 
 -- what values that were gathered are held as
 abbrev settled : List Value → Held

@@ -13,6 +13,7 @@ pub mod ReadLists
 pub mod ReadPieces
 pub mod ReadTags
 pub mod ReadValues
+pub mod SortedByKey
 pub mod SpelledElements
 pub mod StoredAttributes
 pub mod WhiteKeys

@@ -56,7 +56,7 @@ abbrev pub AreValuesSoFar : Result (List Value) AttrFault → List Value → Opt
 AreValuesSoFar all done rest = (all ≡ read_map (λ vs. done ++ vs) (read_all value_of (rest_parts rest))) × AllByRecursion IsValue done
 
 -- the first part ends at the first comma
-split_parts : (cs : List ℕ) → slice_split is_comma cs ≡ part_before comma cs ∷ rest_parts (part_after comma cs)
+pub split_parts : (cs : List ℕ) → slice_split is_comma cs ≡ part_before comma cs ∷ rest_parts (part_after comma cs)
 split_parts [] = refl
 split_parts (c ∷ cs) = by_test (c == comma) (λ t. rw t refl) (λ f. rw f (ap (onto_first c) (split_parts cs)))
 

@@ -13,3 +13,4 @@ mod tree;
 
 pub use fault::FilterFault;
 pub use filter::Filter;
+pub use operand::Operand;

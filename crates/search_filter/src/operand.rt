@@ -1,11 +1,13 @@
-ghost use Rattle.std.specs.Prelude.{◌≡◌};
+ghost use Rattle.std.specs.Prelude.{◌≡◌, IfOk};
 ghost use Rattle.search_filter.specs.Conditions as spec;
+ghost use Rattle.search_filter.specs.Operands.{operand_of};
 
 use attr_list::Value;
-use slp_text::{Key, Row};
+use slp_text::{Key, NoMemory, Row, TextFault, key};
+use std::alloc::Global;
 use text_patterns::compare;
 
-// What values are compared with, of a text its key.
+/// What values are compared with, of a text its key.
 #[derive(Drop)]
 pub enum Operand {
     Bool(bool),
@@ -15,7 +17,23 @@ pub enum Operand {
 }
 
 impl Operand {
-    // Whether a value is of the same kind, and the same.
+    /// What values are compared with to be the same as this one.
+    pub fn of(alloc: Global, value: Value) -> Result<Operand, NoMemory>
+        ensures { IfOk result (λ o. o ≡ operand_of value) }
+    {
+        match value {
+            Value::Bool(truth) => Ok(Operand::Bool(truth)),
+            Value::Int(number) => Ok(Operand::Int(number)),
+            Value::Opaque(bytes) => Ok(Operand::Opaque(bytes)),
+            Value::Text(text) => match key(alloc, text.as_str()) {
+                Ok(folded) => Ok(Operand::Text(folded)),
+                Err(TextFault::NoMemory) => Err(NoMemory),
+                Err(_) => unreachable!(),
+            },
+        }
+    }
+
+    /// Whether a value is of the same kind, and the same: texts by their keys. Takes no memory.
     pub fn is_equal(&self, value: &Value) -> bool
         ensures { result ≡ spec.is_equal self.now value.now }
     {
@@ -28,7 +46,7 @@ impl Operand {
         }
     }
 
-    // Whether a value is the operand or after it: of two numbers, or two texts.
+    /// Whether a value is the operand or after it: of two numbers, or two texts. Takes no memory.
     pub fn is_at_least(&self, value: &Value) -> bool
         ensures { result ≡ spec.is_at_least self.now value.now }
     {
@@ -39,7 +57,7 @@ impl Operand {
         }
     }
 
-    // Whether a value is the operand or before it.
+    /// Whether a value is the operand or before it, in the same way.
     pub fn is_at_most(&self, value: &Value) -> bool
         ensures { result ≡ spec.is_at_most self.now value.now }
     {

@@ -1,5 +1,5 @@
 -- Service types (RFC 2609, section 2; RFC 2608, section 4.1).
-use Rattle.std.specs.Prelude.{ℕ, Bool, ◌==◌, ◌-◌, ◌&&◌, ◌||◌, List, [], ◌∷◌, ◌++◌, length, take, drop, slice_index, codes, nat_eq, nat_lt, Option, Some, None, Result, Ok, Err, if◌then◌else◌}
+use Rattle.std.specs.Prelude.{ℕ, Bool, ◌==◌, ◌-◌, ◌&&◌, ◌||◌, List, [], ◌∷◌, ◌++◌, length, take, drop, slice_index, codes, nat_eq, nat_lt, Option, Some, None, unwrap_or, Result, Ok, Err, if◌then◌else◌}
 use Rattle.std.specs.List.{list_all, starts_with, before_first, after_first}
 use Rattle.slp_text.specs.Ascii.{colon, dot, hyphen, plus_sign, underscore}
 use Rattle.slp_text.specs.Keys.{key_of}
@@ -58,9 +58,13 @@ covers kind other = bytes_eq kind other || (is_abstract kind && starts_with nat_
 abbrev pub is_dot : ℕ → Bool
 is_dot b = b == dot
 
--- A of `service:A` and `service:A:C`, else the whole type
+-- A of `service:A` and `service:A:C`, where the type is one of these
+abbrev pub service_name_of : List ℕ → Option (List ℕ)
+service_name_of kind = if is_service kind then Some (before_first is_colon (drop 8 kind)) else None
+
+-- A, else the whole type
 abbrev pub main_name : List ℕ → List ℕ
-main_name kind = if is_service kind then before_first is_colon (drop 8 kind) else kind
+main_name kind = unwrap_or (service_name_of kind) kind
 
 -- a text that is not empty
 abbrev pub some_text : List ℕ → Option (List ℕ)
@@ -75,3 +79,11 @@ authority_of kind = some_text (after_first is_dot (main_name kind))
 abbrev pub named_authority : List ℕ → Result (List ℕ) UrlFault
 named_authority text =
     if nat_lt 0 (length (key_of text)) && list_all is_name_byte (key_of text) then Ok (key_of text) else Err BadType
+
+-- the name A of a folded text that is A or `service:A`
+abbrev pub service_by : List ℕ → Result (List ℕ) UrlFault
+service_by k = if is_name k then Ok k else (if is_abstract k then Ok (drop 8 k) else Err BadType)
+
+-- the name A that a text names, with or without `service:` before it, by its key (RFC 2609, section 4.1)
+abbrev pub named_service : List ℕ → Result (List ℕ) UrlFault
+named_service text = service_by (key_of text)

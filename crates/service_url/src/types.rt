@@ -1,13 +1,13 @@
-ghost use Rattle.std.specs.Prelude.{◌≡◌, ◌&&◌, ◌||◌, ◌∷◌, ◌++◌, ◌≤◌, [], nat_eq, length, IsTrue, IfOk};
+ghost use Rattle.std.specs.Prelude.{◌≡◌, ◌&&◌, ◌||◌, ◌∷◌, ◌++◌, ◌≤◌, [], nat_eq, length, drop, IsTrue, IfOk};
 ghost use Rattle.std.specs.Option.{option_copied};
 ghost use Rattle.std.specs.List.{list_all, starts_with, position_or_len, before_first, after_first};
 ghost use Rattle.service_url.specs.Reading.{IsReading};
 ghost use Rattle.slp_text.specs.Ascii.{colon};
 ghost use Rattle.service_url.specs.Types as spec;
-ghost use Rattle.service_url.specs.Types.{is_colon, type_of, is_dot, authority_of, named_authority};
+ghost use Rattle.service_url.specs.Types.{is_colon, type_of, is_dot, authority_of, named_authority, named_service, service_name_of};
 
 use crate::fault::UrlFault;
-use slp_text::{Key, NoMemory, TextFault, key};
+use slp_text::{Key, NoMemory, Text, TextFault, key};
 use std::alloc::Global;
 use std::marker::Model;
 
@@ -131,12 +131,32 @@ fn after_dot(text: &str) -> &str
     }
 }
 
-// The name A of `service:A` and `service:A:C`, or else the whole type.
+// What follows `service:`, or the whole text where it does not begin so.
+fn after_service(text: &str) -> &str
+    ensures { IsTrue (spec.is_service text.now) → result.now ≡ drop 8 text.now }
+{
+    match text.strip_prefix("service:") {
+        Some(rest) => rest,
+        None => text,
+    }
+}
+
+// The name A of `service:A` and `service:A:C`.
+fn service_name(kind: &str) -> Option<&str>
+    ensures { option_copied result ≡ service_name_of kind.now }
+{
+    match kind.strip_prefix("service:") {
+        Some(rest) => Some(before_colon(rest)),
+        None => None,
+    }
+}
+
+// That name, or else the whole type.
 fn main_name(kind: &str) -> &str
     ensures { result.now ≡ spec.main_name kind.now }
 {
-    match kind.strip_prefix("service:") {
-        Some(rest) => before_colon(rest),
+    match service_name(kind) {
+        Some(name) => name,
         None => kind,
     }
 }
@@ -183,6 +203,13 @@ impl ServiceType {
         kind == made || (self.is_abstract && is_followed_by_colon(kind, made))
     }
 
+    /// The name A of `service:A` and `service:A:C`, where the type is one of these. Takes no memory.
+    pub fn service_name(&self) -> Option<&str>
+        ensures { option_copied result ≡ service_name_of self.now }
+    {
+        service_name(&self.text)
+    }
+
     /// The naming authority: what follows the first dot of the name after `service:`, or of the type
     /// of another scheme, if it is not empty. Takes no memory.
     pub fn authority(&self) -> Option<&str>
@@ -221,4 +248,26 @@ pub fn parse_authority(alloc: Global, text: &str) -> Result<Key, UrlFault>
         return Err(UrlFault::BadType);
     }
     Ok(folded)
+}
+
+/// The name A of a type `service:A` that a text names, folded, with or without `service:` before it
+/// (RFC 2609, section 4.1). Another text is `BadType`.
+pub fn parse_service_name(alloc: Global, text: &str) -> Result<Text, UrlFault>
+    ensures { IsReading result (named_service text.now) }
+{
+    let folded = match key(alloc, text) {
+        Ok(folded) => folded,
+        Err(TextFault::NoMemory) => return Err(UrlFault::NoMemory),
+        Err(_) => unreachable!(),
+    };
+    if is_name(folded.as_str().as_bytes()) {
+        return Ok(Text::wrap(folded.into_string()));
+    }
+    if !is_abstract(folded.as_str().as_bytes()) {
+        return Err(UrlFault::BadType);
+    }
+    match String::from_str(alloc, after_service(folded.as_str())) {
+        Ok(name) => Ok(Text::wrap(name)),
+        Err(_) => Err(UrlFault::NoMemory),
+    }
 }
