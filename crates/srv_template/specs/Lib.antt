@@ -1,0 +1,7 @@
+pub mod Codes
+pub mod Conformity
+pub mod Joining
+pub mod Meaning
+pub mod Reading
+pub mod Stops
+pub mod Templates

@@ -1,0 +1,15 @@
+//! Service templates (RFC 2609): what the text of one means, and which attributes conform to it.
+#![tactic(auto)]
+
+mod definition;
+mod fault;
+pub mod laws;
+mod lines;
+mod reading;
+mod templates;
+mod values;
+mod words;
+
+pub use definition::{Definition, ValueKind};
+pub use fault::{FaultKind, ParseFault, TemplateFault};
+pub use templates::{Template, Templates};
