@@ -1,5 +1,5 @@
 -- What an update of an entry comes to that may be updated.
-use Rattle.std.proofs.Common.{◌≡◌, ℕ, false, cond, Some, None, sym, ap, ap₂, ◌∙◌}
+use Rattle.std.proofs.Common.{◌≡◌, ℕ, false, cond, Some, None, refl, sym, ap, ap₂, ◌∙◌}
 use Rattle.std.specs.Prelude.{◌&&◌, Option, is_none, nat_le, not, unwrap_or}
 use Rattle.std.specs.Option.{option_or}
 use Rattle.std.specs.FinMap as fin
@@ -9,22 +9,31 @@ use Rattle.registry_core.specs.declared.entry.Entry.{Entry}
 use Rattle.registry_core.specs.Entries.{Entries, Pair}
 use Rattle.directory_judge.specs.History.{Act, Setting, Set}
 use Rattle.directory_judge.specs.Contents.{Edits, content_on, edit_of, entry_set}
-use Rattle.directory_judge.specs.Judgements.{Grounds, Judgement, Accepts, by_step, denial, denial_of_update}
+use Rattle.directory_judge.specs.Judgements.{Grounds, Judgement, Accepts, by_step, denial, denial_of_template, denial_of_update, resulting_attributes}
 use Rattle.directory_judge.specs.NamedEntries.{judgement_of_named, particulars_named, IsSettingOf, IsUpdatable}
 use Rattle.directory_judge.specs.declared.reason.Because.{Because}
 use Rattle.directory_judge.specs.declared.reason.Decider.TheVariants as decider
 use Rattle.directory_judge.proofs.SameTexts.{bytes_itself, texts_itself}
 
--- nothing speaks against it
-pub judgement-updated : (g : Grounds) (e old : Entry) (a : Act) (because : Because) → IsUpdatable g.live e old → judgement_of_named g false e a because ≡ Accepts (record { moment = g.now; act = a }) because
+or-none : (o : Option Judgement) → option_or o None ≡ o
+or-none None = refl
+or-none (Some j) = refl
+
+-- what its template says of it
+pub judgement-updated : (g : Grounds) (e old : Entry) (a : Act) (because : Because) → IsUpdatable g.live e old
+    → judgement_of_named g false e a because ≡ unwrap_or (denial_of_template g e.kind (updated_attributes old.attrs e.attrs)) (Accepts (record { moment = g.now; act = a }) because)
 judgement-updated g e old a because u =
     let accepts : Judgement = Accepts (record { moment = g.now; act = a }) because in
     let update : Judgement = denial (by_step decider.Update (Some e.kind)) in
     let other : Judgement = denial (by_step decider.Scope (Some e.kind)) in
     let full : Judgement = denial (by_step decider.Full (Some e.kind)) in
-    ap (λ (o : Option Entry). unwrap_or (option_or (denial_of_update (particulars_named e) o) (cond (is_none o && nat_le g.site.capacity (fin.len g.live)) (Some full) None)) accepts) u.found
-    ∙ ap₂ (λ k s. unwrap_or (option_or (cond (not (bytes_eq k e.kind)) (Some update) (cond (not (texts_eq s e.scopes)) (Some other) None)) None) accepts) u.kind u.scopes
-    ∙ ap₂ (λ a b. unwrap_or (option_or (cond (not a) (Some update) (cond (not b) (Some other) None)) None) accepts) (bytes_itself e.kind) (texts_itself e.scopes)
+    let template : Option Judgement = denial_of_template g e.kind (updated_attributes old.attrs e.attrs) in
+    ap (λ (o : Option Entry). unwrap_or
+    (option_or (denial_of_update (particulars_named e) o)
+    (option_or (denial_of_template g e.kind (resulting_attributes false (particulars_named e) o)) (cond (is_none o && nat_le g.site.capacity (fin.len g.live)) (Some full) None))) accepts) u.found
+    ∙ ap₂ (λ k s. unwrap_or (option_or (cond (not (bytes_eq k e.kind)) (Some update) (cond (not (texts_eq s e.scopes)) (Some other) None)) (option_or template None)) accepts) u.kind u.scopes
+    ∙ ap₂ (λ a b. unwrap_or (option_or (cond (not a) (Some update) (cond (not b) (Some other) None)) (option_or template None)) accepts) (bytes_itself e.kind) (texts_itself e.scopes)
+    ∙ ap (λ o. unwrap_or o accepts) (or-none template)
 
 -- what is named, with the other attributes of what was there, is what the setting makes of that
 module _ (live : Entries) (moment : ℕ) (s : Setting) (e old : Entry) (u : IsUpdatable live e old) (of : IsSettingOf moment s e) where

@@ -1,6 +1,6 @@
 -- What each step of judging comes to.
 use Rattle.std.proofs.Common.{◌≡◌, ◌≢◌, ℕ, ◌+◌, ◌<◌, true, false, cond, List, [], ◌∷◌, length, Option, Some, None, refl, sym, ap, ap₂, subst, ◌∙◌, arith}
-use Rattle.std.specs.Prelude.{filter, unwrap_or, ◌==◌}
+use Rattle.std.specs.Prelude.{filter, is_none, unwrap_or, ◌==◌}
 use Rattle.std.specs.List.{list_any}
 use Rattle.std.specs.Option.{option_map, option_or}
 use Rattle.std.specs.FinMap as fin
@@ -8,15 +8,19 @@ use Rattle.std.proofs.lemmas.Bool.Decides.{nat_tests}
 use Rattle.std.proofs.lemmas.Option.{none-some, same_Some}
 use Rattle.slp_text.specs.Keys.{key_of}
 use Rattle.slp_text.specs.Tags.{Part}
+use Rattle.attr_list.specs.Lists.{Attributes}
+use Rattle.attr_list.specs.Maps.{attributes_without}
+use Rattle.srv_template.specs.Conformity.{template_fault}
 use Rattle.slp_messages.specs.declared.header.Header.{Header}
 use Rattle.slp_messages.specs.declared.message.Registration.{Registration}
 use Rattle.access_rules.specs.declared.rule.Action.TheVariants.{Register, Withdraw}
 use Rattle.registry_core.specs.declared.entry.Entry.{Entry}
 use Rattle.registry_core.specs.Entries.{Pair, is_of_url}
 use Rattle.slp_text.specs.Words.{texts_eq}
+use Rattle.directory_judge.proofs.Rulings.{not-false, not-true}
 use Rattle.directory_judge.proofs.SameTexts.{texts_itself}
 use Rattle.directory_judge.specs.History.{Put, Set}
-use Rattle.directory_judge.specs.Judgements.{Grounds, Judgement, Accepts, Ignores, act_of, judgement_in_scopes, judgement_of_removal, judgement_of_tagged, judgement_of_tags, judgement_of_texts, entries_in, first_of, is_kept, concerned_entries, judgement_of_entries, judgement_of_url, by_step, denial, denial_by, denial_in, denial_of, denial_of_live, denial_of_new, denial_of_room, pair_in, putting_of, release, removal_event, setting_of, allowance, judgement_of_particulars, IsJudgement}
+use Rattle.directory_judge.specs.Judgements.{Grounds, Judgement, Accepts, Ignores, act_of, judgement_in_scopes, judgement_of_removal, judgement_of_tagged, judgement_of_tags, judgement_of_texts, entries_in, first_of, is_kept, concerned_entries, judgement_of_entries, judgement_of_url, by_step, denial, denial_by, denial_in, denial_of, denial_of_live, denial_of_new, denial_of_room, denial_of_template, pair_in, putting_of, release, removal_event, resulting_attributes, setting_of, allowance, judgement_of_particulars, IsJudgement}
 use Rattle.directory_judge.specs.NamedEntries.{particulars_named, IsActOf, IsJudgedNamed}
 use Rattle.directory_judge.specs.declared.reason.Because.{Because}
 use Rattle.directory_judge.specs.declared.reason.Decider.TheVariants as decider
@@ -33,7 +37,10 @@ module _ (g : Grounds) (h : Header) (r : Registration) (t : Particulars) where
 
   -- what is judged by the pair
   by_pair : Option Judgement
-  by_pair = option_or (denial_of_live g h.flags.fresh t (fin.get g.live (pair_in h r))) (denial_of_room g (pair_in h r) t)
+  by_pair =
+      option_or (denial_of_live g h.flags.fresh t (fin.get g.live (pair_in h r)))
+      (option_or (denial_of_template g t.kind (resulting_attributes h.flags.fresh t (fin.get g.live (pair_in h r))))
+      (denial_of_room g (pair_in h r) t))
 
   -- the entry that is named
   abbrev entry_in : Entry
@@ -75,7 +82,10 @@ module _ (g : Grounds) (h : Header) (r : Registration) (t : Particulars) where
         let at : IsJudgedNamed g h.flags.fresh entry_in (allowance g t) j = subst (λ x. IsJudgedNamed g h.flags.fresh entry_in x j) by_first (subst (λ x. IsJudgedNamed g h.flags.fresh x b j) made by) in
         let same : ◌≡◌ {A = Particulars} (particulars_named entry_in) t = λ i. record { url = sym named i; kind = t.kind; scopes = t.scopes; attrs = t.attrs } in
         subst (IsJudgement g.live j) (sym (judgement-allowed allowed))
-        (subst (λ (x : Particulars). IsJudgement g.live j (unwrap_or (option_or (denial_of_live g h.flags.fresh x (fin.get g.live (pair_in h r))) (denial_of_room g (pair_in h r) x)) accepts)) same (at (act_of h r t) act-of))
+        (subst (λ (x : Particulars). IsJudgement g.live j (unwrap_or
+        (option_or (denial_of_live g h.flags.fresh x (fin.get g.live (pair_in h r)))
+        (option_or (denial_of_template g x.kind (resulting_attributes h.flags.fresh x (fin.get g.live (pair_in h r))))
+        (denial_of_room g (pair_in h r) x))) accepts)) same (at (act_of h r t) act-of))
 
 -- ---- a withdrawal
 
@@ -114,7 +124,17 @@ module _ (g : Grounds) (language : List ℕ) (tags : List Part) (w : Withdrawn) 
 -- ---- a withdrawal of tags
 
 pub tagged-some : (g : Grounds) (q : Pair) (tags : List Part) (scopes : List (List ℕ)) (e : Entry) → fin.get g.live q ≡ Some e → e.scopes ≡ scopes
-    → judgement_of_removal g q tags scopes ≡ unwrap_or (denial_in g Withdraw e.kind e.scopes) (Accepts (removal_event g q tags) (release g e))
+    → judgement_of_removal g q tags scopes ≡ unwrap_or (option_or (denial_in g Withdraw e.kind e.scopes) (denial_of_template g e.kind (attributes_without e.attrs tags))) (Accepts (removal_event g q tags) (release g e))
 tagged-some g q tags scopes e found same =
     ap (judgement_of_tagged g q tags scopes) found
-    ∙ ap (λ b. cond b (unwrap_or (denial_in g Withdraw e.kind e.scopes) (Accepts (removal_event g q tags) (release g e))) (denial_by decider.Scope)) (ap (λ ss. texts_eq ss scopes) same ∙ texts_itself scopes)
+    ∙ ap (λ b. cond b (unwrap_or (option_or (denial_in g Withdraw e.kind e.scopes) (denial_of_template g e.kind (attributes_without e.attrs tags))) (Accepts (removal_event g q tags) (release g e))) (denial_by decider.Scope))
+    (ap (λ ss. texts_eq ss scopes) same ∙ texts_itself scopes)
+
+-- ---- the step of the template
+
+module _ (g : Grounds) (kind : List ℕ) (a : Attributes) where
+  pub template-denies : is_none (template_fault g.site.templates kind a) ≡ false → denial_of_template g kind a ≡ Some (denial (by_step decider.Template (Some kind)))
+  template-denies h = ap (λ b. cond b (Some (denial (by_step decider.Template (Some kind)))) None) (not-false _ h)
+
+  pub template-allows : is_none (template_fault g.site.templates kind a) ≡ true → denial_of_template g kind a ≡ None
+  template-allows h = ap (λ b. cond b (Some (denial (by_step decider.Template (Some kind)))) None) (not-true _ h)

@@ -1,5 +1,5 @@
 -- How registrations and withdrawals are judged: the first step whose fault is there, else they are accepted (RFC 2608, sections 7, 9.3 and 10.6).
-use Rattle.std.specs.Prelude.{◌≡◌, ℕ, ◌≤◌, Bool, false, not, ◌==◌, ◌&&◌, ◌||◌, List, [], ◌∷◌, map, filter, find, length, codes, slice_get, Option, Some, None, is_none, nat_le, unwrap_or, Result, Ok, Err, if◌then◌else◌, refl}
+use Rattle.std.specs.Prelude.{◌≡◌, ℕ, ◌≤◌, Bool, false, not, ◌==◌, ◌&&◌, ◌||◌, List, [], ◌∷◌, map, filter, find, length, codes, slice_get, Option, Some, None, is_none, is_some, nat_le, unwrap_or, Result, Ok, Err, if◌then◌else◌, refl}
 use Rattle.std.specs.Coded as coded
 use Rattle.std.specs.Coded.{Coded, coded×, coded_ℕ}
 use Rattle.std.specs.Option.{option_copied, option_or, option_map, option_map_or}
@@ -26,7 +26,9 @@ use Rattle.access_rules.specs.declared.rule.Action.{Action}
 use Rattle.access_rules.specs.declared.rule.Action.TheVariants.{Register, Withdraw}
 use Rattle.access_rules.specs.declared.rules.Verdict.{Verdict}
 use Rattle.attr_list.specs.Lists.{Attributes}
+use Rattle.attr_list.specs.Maps.{attributes_without, updated_attributes}
 use Rattle.attr_list.specs.Reading.{attributes_in}
+use Rattle.srv_template.specs.Conformity.{template_fault}
 use Rattle.registry_core.specs.declared.entry.Entry.{Entry}
 use Rattle.registry_core.specs.Entries.{Entries, entries_code, Pair, is_of_url, is_registered}
 use Rattle.directory_judge.specs.History as history
@@ -223,6 +225,14 @@ denial_of_update t (Some e) =
 abbrev pub denial_of_live : Grounds → Bool → Particulars → Option Entry → Option Judgement
 denial_of_live g fresh t o = if fresh then denial_of_old g o else denial_of_update t o
 
+-- The attributes that an entry would have: those that are named, and of an update the others that what it updates has.
+abbrev pub resulting_attributes : Bool → Particulars → Option Entry → Attributes
+resulting_attributes fresh t o = if fresh then t.attrs else option_map_or (λ e. updated_attributes e.attrs t.attrs) o t.attrs
+
+-- such attributes do not conform to the template of the type, if it has one
+abbrev pub denial_of_template : Grounds → List ℕ → Attributes → Option Judgement
+denial_of_template g kind a = if is_some (template_fault g.site.templates kind a) then Some (denial (by_step decider.Template (Some kind))) else None
+
 -- the pair is not live, and the live entries fill the capacity
 abbrev pub denial_of_room : Grounds → Pair → Particulars → Option Judgement
 denial_of_room g q t = if is_none (fin.get g.live q) && (nat_le g.site.capacity (fin.len g.live)) then Some (denial (by_step decider.Full (Some t.kind))) else None
@@ -249,7 +259,8 @@ judgement_of_particulars g h r t =
     (option_or (denial_of_scopes t)
     (option_or (denial_of_new g t)
     (option_or (denial_of_live g h.flags.fresh t (fin.get g.live (pair_in h r)))
-    (denial_of_room g (pair_in h r) t))))
+    (option_or (denial_of_template g t.kind (resulting_attributes h.flags.fresh t (fin.get g.live (pair_in h r))))
+    (denial_of_room g (pair_in h r) t)))))
     (Accepts (record { moment = g.now; act = act_of h r t }) (allowance g t))
 
 abbrev pub judgement_of_reading : Grounds → Header → Registration → Result Particulars Judgement → Judgement
@@ -315,11 +326,12 @@ judgement_of_url g url scopes =
 abbrev pub removal_event : Grounds → Pair → List Part → Event
 removal_event g q tags = record { moment = g.now; act = history.Remove (record { url = q.0; language = q.1; tags = tags }) }
 
--- what is live of the pair must be of just these scopes, and its withdrawal allowed; where nothing is live, nothing is changed
+-- what is live of the pair must be of just these scopes, its withdrawal allowed, and what is left of it conform; where nothing is live, nothing is changed
 abbrev pub judgement_of_tagged : Grounds → Pair → List Part → List (List ℕ) → Option Entry → Judgement
 judgement_of_tagged g q tags scopes None = Ignores
 judgement_of_tagged g q tags scopes (Some e) =
-    if texts_eq e.scopes scopes then unwrap_or (denial_in g Withdraw e.kind e.scopes) (Accepts (removal_event g q tags) (release g e))
+    if texts_eq e.scopes scopes
+    then unwrap_or (option_or (denial_in g Withdraw e.kind e.scopes) (denial_of_template g e.kind (attributes_without e.attrs tags))) (Accepts (removal_event g q tags) (release g e))
     else denial_by decider.Scope
 
 abbrev pub judgement_of_removal : Grounds → Pair → List Part → List (List ℕ) → Judgement

@@ -6,7 +6,7 @@ use Rattle.registry_core.specs.declared.entry.Entry.{Entry}
 use Rattle.registry_core.specs.Entries.{Entries, Pair, pair_of}
 use Rattle.directory_judge.specs.History.{Act, Putting, Put, Setting, Set}
 use Rattle.directory_judge.specs.Contents.{entry_of}
-use Rattle.directory_judge.specs.Judgements.{Grounds, Judgement, Accepts, denial_of_live, denial_of_room, IsJudgement}
+use Rattle.directory_judge.specs.Judgements.{Grounds, Judgement, Accepts, denial_of_live, denial_of_room, denial_of_template, resulting_attributes, IsJudgement}
 use Rattle.directory_judge.specs.declared.judgement.Judged.{Judged}
 use Rattle.directory_judge.specs.declared.particulars.Particulars.{Particulars}
 use Rattle.directory_judge.specs.declared.reason.Because.{Because}
@@ -30,7 +30,8 @@ abbrev pub judgement_of_named : Grounds → Bool → Entry → Act → Because �
 judgement_of_named g fresh e a because =
     unwrap_or
     (option_or (denial_of_live g fresh (particulars_named e) (fin.get g.live (pair_of e)))
-    (denial_of_room g (pair_of e) (particulars_named e)))
+    (option_or (denial_of_template g e.kind (resulting_attributes fresh (particulars_named e) (fin.get g.live (pair_of e))))
+    (denial_of_room g (pair_of e) (particulars_named e))))
     (Accepts (record { moment = g.now; act = a }) because)
 
 abbrev pub IsJudgedNamed : Grounds → Bool → Entry → Because → Judged → Type 0

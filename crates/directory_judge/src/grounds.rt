@@ -1,12 +1,14 @@
-ghost use Rattle.std.specs.Prelude.{◌≡◌, nat_le, IfSome};
+ghost use Rattle.std.specs.Prelude.{◌≡◌, is_none, nat_le, IfSome};
 ghost use Rattle.std.specs.Option.{option_copied, option_map};
 ghost use Rattle.std.specs.FinMap as fin;
 ghost use Rattle.registry_core.specs.Entries.{pair_of};
+ghost use Rattle.srv_template.specs.Conformity.{template_fault};
 ghost use Rattle.directory_judge.specs.Judgements.{ruling_on, ruling_in};
 
 use crate::ruling::Ruling;
 use crate::site::Site;
 use access_rules::{Action, Addr, Rules};
+use attr_list::Attrs;
 use registry_core::{Entry, Registry};
 use service_url::{ServiceType, Url};
 use slp_text::{Key, ScopeList};
@@ -74,6 +76,13 @@ impl<'a, R: Registry> Grounds<'a, R> {
             Some(entry) if entry.deadline > u64::from(self.moment) => Some(entry),
             _ => None,
         }
+    }
+
+    /// Whether attributes conform to the template of a type, if it has one. Takes no memory.
+    pub fn conforms(&self, kind: &ServiceType, attributes: &Attrs) -> bool
+        ensures { result ≡ is_none (template_fault self.now.site.templates kind.now attributes.now) }
+    {
+        self.site.templates().check(kind, attributes).is_none()
     }
 
     /// Whether the entries that are live fill the capacity of the site. They are counted only where

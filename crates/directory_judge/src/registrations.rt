@@ -1,10 +1,10 @@
 ghost use Rattle.std.specs.Prelude.{◌≡◌, ◌<◌, ◌≤◌, ◌+◌, IfOk, length, true};
 ghost use Rattle.std.specs.FinMap as fin;
-ghost use Rattle.std.specs.Option.{option_map, option_or};
+ghost use Rattle.std.specs.Option.{option_copied, option_map, option_or};
 ghost use Rattle.slp_text.specs.Keys.{key_of};
 ghost use Rattle.slp_messages.specs.Views.{header_in, message_in, registration_in};
 ghost use Rattle.registry_core.specs.Entries.{outlives, passing_entries, pair_of};
-ghost use Rattle.directory_judge.specs.Judgements.{because_of, because_of_entry, denial_of_old, denial_of_room, judgement_in, judgement_of_particulars, judgement_of_registration, judgement, IsChange, IsJudgement};
+ghost use Rattle.directory_judge.specs.Judgements.{because_of, because_of_entry, denial_of_old, denial_of_room, denial_of_template, judgement_in, judgement_of_particulars, judgement_of_registration, judgement, IsChange, IsJudgement};
 ghost use Rattle.directory_judge.specs.Judgements as spec;
 ghost use Rattle.directory_judge.specs.NamedEntries.{particulars_named, IsJudgedNamed};
 
@@ -23,21 +23,35 @@ use std::alloc::Global;
 use std::sync::Arc;
 
 impl<'a, R: Registry> Grounds<'a, R> {
-    // What speaks against an entry that is allowed: what is live of its pair must be allowed too, and
-    // where nothing is live there must be room.
+    // What denies that an entry is replaced, if there is one.
+    fn replacing_denial(&self, old: Option<&'a Entry>) -> Option<Reason<'a>>
+        ensures { option_map (λ r. spec.denial (because_of r)) result ≡ denial_of_old self.now (option_copied old.entry) }
+    {
+        let old = old?;
+        match self.rule(Action::Register, &old.kind, &old.scopes) {
+            Some(ruling) if !ruling.verdict.allow => Some(ruling.reason()),
+            _ => None,
+        }
+    }
+
+    // What speaks against an entry that is allowed: what is live of its pair must be allowed too, its
+    // attributes conform, and where nothing is live there must be room.
     fn objection<'b>(&self, entry: &'b Entry) -> Option<Reason<'b>>
     where
         'a: 'b,
-        ensures { option_map (λ r. spec.denial (because_of r)) result ≡ option_or (denial_of_old self.now (fin.get self.now.live (pair_of entry.now))) (denial_of_room self.now (pair_of entry.now) (particulars_named entry.now)) }
+        ensures { option_map (λ r. spec.denial (because_of r)) result ≡ option_or (denial_of_old self.now (fin.get self.now.live (pair_of entry.now))) (option_or (denial_of_template self.now entry.now.kind entry.now.attrs) (denial_of_room self.now (pair_of entry.now) (particulars_named entry.now))) }
     {
-        match self.live_entry(&entry.url, &entry.language) {
-            None if self.is_full() => Some(Reason::of_step(Decider::Full, Some(&entry.kind))),
-            None => None,
-            Some(old) => match self.rule(Action::Register, &old.kind, &old.scopes) {
-                Some(ruling) if !ruling.verdict.allow => Some(ruling.reason()),
-                _ => None,
-            },
+        let old = self.live_entry(&entry.url, &entry.language);
+        if let Some(reason) = self.replacing_denial(old) {
+            return Some(reason);
         }
+        if !self.conforms(&entry.kind, &entry.attrs) {
+            return Some(Reason::of_step(Decider::Template, Some(&entry.kind)));
+        }
+        if old.is_none() && self.is_full() {
+            return Some(Reason::of_step(Decider::Full, Some(&entry.kind)));
+        }
+        None
     }
 
     // Judges a fresh registration of the entry that is named, as `judge_update` an update.

@@ -8,7 +8,7 @@ use crate::change::{Change, Placed, Withdrawn};
 use crate::grounds::Grounds;
 use crate::judgement::Judged;
 use crate::particulars::read_language;
-use crate::reason::Decider;
+use crate::reason::{Decider, Reason};
 use crate::ruling::{deny, deny_by};
 use access_rules::Action;
 use registry_core::{Entry, Registry};
@@ -58,8 +58,11 @@ impl<R: Registry> Grounds<'_, R> {
         match self.rule(Action::Withdraw, &old.kind, &old.scopes) {
             None => Ok(deny_by(Decider::Scope)),
             Some(ruling) if ruling.verdict.allow => {
-                let because = ruling.reason().copy(alloc)?;
                 let entry = remaining(alloc, old, tags)?;
+                if !self.conforms(&old.kind, &entry.attrs) {
+                    return deny(alloc, Reason::of_step(Decider::Template, Some(&old.kind)));
+                }
+                let because = ruling.reason().copy(alloc)?;
                 let moment = self.moment;
                 Ok(Judged::Accept(Change::Edit(Placed { moment, entry }), because))
             }

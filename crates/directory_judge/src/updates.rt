@@ -65,6 +65,9 @@ impl<'a, R: Registry> Grounds<'a, R> {
             Err(reason) => denial(alloc, reason),
             Ok(old) => {
                 let entry = updated(alloc, old, named)?;
+                if !self.conforms(&entry.kind, &entry.attrs) {
+                    return denial(alloc, Reason::of_step(Decider::Template, Some(&entry.kind)));
+                }
                 let moment = self.moment;
                 Ok(Decision::Edited(Placed { moment, entry }, decider))
             }

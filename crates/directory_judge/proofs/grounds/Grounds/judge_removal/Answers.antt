@@ -1,6 +1,10 @@
-use Rattle.std.proofs.Common.{◌≡◌, ◌<◌, ◌≤◌, Some, length, sym, ap, ap₂, subst, ◌∙◌, arith}
-use Rattle.std.specs.Prelude.{unwrap_or}
-use Rattle.std.specs.Option.{option_copied, option_map}
+use Rattle.std.proofs.Common.{◌≡◌, ◌<◌, ◌≤◌, Some, true, false, length, sym, ap, ap₂, subst, ◌∙◌, arith}
+use Rattle.std.specs.Prelude.{is_none, unwrap_or}
+use Rattle.std.specs.Arc.{arc_value}
+use Rattle.std.specs.Option.{option_copied, option_map, option_or}
+use Rattle.std.proofs.lemmas.Result.{IfOk-weaker}
+use Rattle.attr_list.specs.Maps.{attributes_without}
+use Rattle.srv_template.specs.Conformity.{template_fault}
 use Rattle.std.specs.FinMap as fin
 use Rattle.slp_text.specs.Keys.{key_of}
 use Rattle.access_rules.specs.declared.rule.Action.TheVariants.{Withdraw}
@@ -8,10 +12,13 @@ use Rattle.registry_core.specs.declared.entry.Entry.{Entry}
 use Rattle.registry_core.specs.Entries.{Pair}
 use Rattle.directory_judge.specs.History.{Removing}
 use Rattle.directory_judge.specs.Contents.{Edits, edit_of, entry_without}
-use Rattle.directory_judge.specs.Judgements.{Grounds, Accepts, denial, release, removal_event, ruling_in}
+use Rattle.directory_judge.specs.Judgements.{Grounds, Accepts, because_of, by_step, code_by, denial, judgement_of_removal, release, removal_event, ruling_in, IsJudgement}
+use Rattle.directory_judge.specs.declared.judgement.Judged.TheVariants as judged
+use Rattle.directory_judge.specs.declared.reason.Because.{Because}
+use Rattle.directory_judge.specs.declared.reason.Decider.TheVariants as decider
 use Rattle.directory_judge.proofs.Rulings.{no-scopes, not-false, ruling-allowed, ruling-first, ruling-none}
 use Rattle.directory_judge.proofs.SameTexts.{texts_same}
-use Rattle.directory_judge.proofs.Steps.{tagged-some}
+use Rattle.directory_judge.proofs.Steps.{tagged-some, template-allows, template-denies}
 use Rattle.directory_judge.proofs.grounds.Grounds.judge_removal.Goals as goal
 
 pub returns-in-None : goal.returns-in-None
@@ -31,6 +38,27 @@ invariant_of-result g c =
       few_scopes = subst (λ ss. length ss ≤ 16) (sym same) c.requires.few_scopes;
     }
 
+pub returns-then-not-conforms : goal.returns-then-not-conforms
+returns-then-not-conforms g c =
+    let on = c.args.self.now in
+    let old = c.in-Some.old.now in
+    let w = c.args.withdrawn.now in
+    let q : Pair = (w.url, key_of c.args.language.now) in
+    let tags = c.args.tags.now in
+    let found : fin.get on.live q ≡ Some old = ap (λ l. let p : Pair = (w.url, l) in fin.get on.live p) (sym c.in_ok-language.ensures) ∙ sym c.live_entry.ensures.value ∙ ap option_copied c.in-Some.is in
+    let same = texts_same old.scopes w.scopes (not-false _ (sym c.ne.ensures ∙ c.if-ne.false)) in
+    let ruled = sym c.rule.ensures ∙ ap (option_map ruling_in) c.in-Some-rule.is in
+    let allowed = ruling-allowed on.rules on.asker Withdraw old.kind old.scopes c.in-Some-rule.ruling ruled c.if-ruling.true in
+    let made : ◌≡◌ {A = Entry} (arc_value c.in_ok-entry-in-Some-rule.entry) (record old { attrs = attributes_without old.attrs tags }) = c.in_ok-entry-in-Some-rule.ensures in
+    let fault : is_none (template_fault on.site.templates old.kind (attributes_without old.attrs tags)) ≡ false =
+    ap (λ (x : Entry). is_none (template_fault on.site.templates old.kind x.attrs)) (sym (c.deref.ensures ∙ made)) ∙ sym c.conforms.ensures ∙ c.if-not-conforms.true in
+    let so : judgement_of_removal on q tags w.scopes ≡ denial (by_step decider.Template (Some old.kind)) =
+    tagged-some on q tags w.scopes old found same
+    ∙ ap₂ (λ d t. unwrap_or (option_or (option_map denial d) t) (Accepts (removal_event on q tags) (release on old))) allowed (template-denies on old.kind (attributes_without old.attrs tags) fault) in
+    IfOk-weaker c.deny.result (λ j. j ≡ judged.Deny (code_by c.of_step.result.decider) (because_of c.of_step.result)) _
+    (λ j denied. subst (λ x. IsJudgement on.live x (judgement_of_removal on q tags w.scopes)) (sym (denied ∙ ap (λ (b : Because). judged.Deny (code_by b.decider) b) c.of_step.ensures)) so)
+    c.deny.ensures
+
 pub returns-in-Some-rule : goal.returns-in-Some-rule
 returns-in-Some-rule g c =
     let on = c.args.self.now in
@@ -43,9 +71,14 @@ returns-in-Some-rule g c =
     let same = texts_same old.scopes w.scopes (not-false _ (sym c.ne.ensures ∙ c.if-ne.false)) in
     let ruled = sym c.rule.ensures ∙ ap (option_map ruling_in) c.in-Some-rule.is in
     let allowed = ruling-allowed on.rules on.asker Withdraw old.kind old.scopes c.in-Some-rule.ruling ruled c.if-ruling.true in
+    let made : ◌≡◌ {A = Entry} (arc_value c.in_ok-entry-in-Some-rule.entry) (record old { attrs = attributes_without old.attrs tags }) = c.in_ok-entry-in-Some-rule.ensures in
+    let conforms : is_none (template_fault on.site.templates old.kind (attributes_without old.attrs tags)) ≡ true =
+    ap (λ (x : Entry). is_none (template_fault on.site.templates old.kind x.attrs)) (sym (c.deref.ensures ∙ made)) ∙ sym c.conforms.ensures ∙ c.if-not-conforms.false in
     let because : c.in_ok-because-in-Some-rule.because ≡ release on old =
     c.in_ok-because-in-Some-rule.ensures ∙ c.reason.ensures ∙ ruling-first on.rules on.asker Withdraw old.kind old.scopes c.in-Some-rule.ruling ruled allowed in (
       removal_event on q tags,
-      tagged-some on q tags w.scopes old found same ∙ ap (λ d. unwrap_or (option_map denial d) (Accepts (removal_event on q tags) (release on old))) allowed ∙ ap (Accepts (removal_event on q tags)) (sym because),
-      ap₂ Edits (ap (λ (v : Grounds). v.now) c.self.view_is) c.in_ok-entry-in-Some-rule.ensures ∙ sym (ap (λ o. edit_of on.now o (entry_without removes)) found),
+      tagged-some on q tags w.scopes old found same
+          ∙ ap₂ (λ d t. unwrap_or (option_or (option_map denial d) t) (Accepts (removal_event on q tags) (release on old))) allowed (template-allows on old.kind (attributes_without old.attrs tags) conforms)
+          ∙ ap (Accepts (removal_event on q tags)) (sym because),
+      ap₂ Edits (ap (λ (v : Grounds). v.now) c.self.view_is) made ∙ sym (ap (λ o. edit_of on.now o (entry_without removes)) found),
     )
