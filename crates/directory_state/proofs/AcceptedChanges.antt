@@ -6,11 +6,14 @@ use Rattle.std.specs.Option.{option_or, option_map}
 use Rattle.std.specs.Result.{result_ok}
 use Rattle.std.proofs.lemmas.Bool.Decides.{nat_tests}
 use Rattle.std.proofs.lemmas.Option.{none-some}
+use Rattle.std.proofs.lemmas.Slice.Eq.{bytes_eq-Decides}
 use Rattle.std.specs.FinMap as fin
 use Rattle.access_rules.specs.declared.rule.Action.TheVariants as action
 use Rattle.access_rules.specs.declared.rule.Action.TheVariants.{Register}
 use Rattle.attr_list.specs.Lists.{Attributes}
+use Rattle.attr_list.specs.Maps.{attributes_without, updated_attributes}
 use Rattle.attr_list.specs.Reading.{attributes_in}
+use Rattle.srv_template.specs.Conformity.{template_fault}
 use Rattle.registry_core.specs.declared.entry.Entry.{Entry}
 use Rattle.registry_core.specs.Entries.{Entries, Pair, is_of_url}
 use Rattle.service_url.specs.Types.{type_of}
@@ -29,7 +32,7 @@ use Rattle.directory_judge.specs.declared.reason.Because.{Because}
 use Rattle.directory_judge.specs.declared.reason.Decider.TheVariants as decider
 use Rattle.directory_judge.specs.declared.particulars.Particulars.{Particulars}
 use Rattle.directory_judge.specs.History.{Act, Put, Set, Remove, Withdraw, Sweep, Reload, Event, History, now}
-use Rattle.directory_judge.specs.Judgements.{Grounds, Judgement, Accepts, Ignores, Waits, Denies, by_step, denial_by, denial, denial_of, denial_in, is_ignored, particulars, particulars_of_texts, judgement, judgement_of_registration, judgement_of_reading, judgement_of_particulars, denial_of_scopes, denial_of_new, denial_of_old, denial_of_update, denial_of_live, denial_of_room, putting_of, setting_of, act_of, pair_in, is_kept, denial_of_kept, release, removal_event, entries_in, first_of, concerned_entries, judgement_of_withdrawal, judgement_of_texts, judgement_in_scopes, judgement_of_tags, judgement_of_tagged, judgement_of_url, judgement_of_entries}
+use Rattle.directory_judge.specs.Judgements.{Grounds, Judgement, Accepts, Ignores, Waits, Denies, by_step, denial_by, denial, denial_of, denial_in, is_ignored, particulars, particulars_of_texts, judgement, judgement_of_registration, judgement_of_reading, judgement_of_particulars, denial_of_scopes, denial_of_new, denial_of_old, denial_of_update, denial_of_live, denial_of_room, denial_of_template, resulting_attributes, putting_of, setting_of, act_of, pair_in, is_kept, denial_of_kept, release, removal_event, entries_in, first_of, concerned_entries, judgement_of_withdrawal, judgement_of_texts, judgement_in_scopes, judgement_of_tags, judgement_of_tagged, judgement_of_url, judgement_of_entries}
 use Rattle.directory_judge.specs.Meaning.{AreLive}
 use Rattle.directory_answers.specs.Verdicts.{grounds, IsAccepted, IsGrounded}
 use Rattle.directory_state.proofs.Folds.{IsHeld, IsPossible}
@@ -93,9 +96,13 @@ pub record IsSentFor (sent : Message) (lifetime : ℕ) : Type 0 where
   pub same : lifetime ≡ registration.entry.lifetime
   pub lasting : 0 < lifetime
 
--- something is live of the pair
-abbrev pub IsFound : Grounds → Pair → Type 0
-IsFound g q = (e : Entry) × (fin.get g.live q ≡ Some e)
+-- these attributes have no fault by the template of the type
+abbrev pub Suits : Grounds → List ℕ → Attributes → Type 0
+Suits g kind a = template_fault g.site.templates kind a ≡ None
+
+-- something is live of the pair, and what becomes of its attributes has no fault
+abbrev pub IsFound : Grounds → Pair → (Attributes → Attributes) → Type 0
+IsFound g q f = (e : Entry) × (fin.get g.live q ≡ Some e) × Suits g e.kind (f e.attrs)
 
 -- something is live of the pair, or there is room for it
 abbrev pub HasPlace : Grounds → Pair → Type 0
@@ -103,9 +110,9 @@ HasPlace g q = IsTrue (is_some (fin.get g.live q)) ⊎ (fin.len g.live < g.site.
 
 -- a message brings a registration about, an update, a withdrawal of tags, or one of a URL
 abbrev pub ComesOf : Grounds → Message → Act → Type 0
-ComesOf g sent (Put p) = IsSentFor sent p.lifetime × HasPlace g (p.url, p.language)
-ComesOf g sent (Set s) = IsSentFor sent s.lifetime × IsFound g (s.url, s.language)
-ComesOf g sent (Remove r) = IsFound g (r.url, r.language)
+ComesOf g sent (Put p) = IsSentFor sent p.lifetime × HasPlace g (p.url, p.language) × Suits g p.kind p.attributes
+ComesOf g sent (Set s) = IsSentFor sent s.lifetime × IsFound g (s.url, s.language) (λ a. updated_attributes a s.attributes)
+ComesOf g sent (Remove r) = IsFound g (r.url, r.language) (λ a. attributes_without a r.tags)
 ComesOf g sent (Withdraw w) = Unit {0}
 ComesOf g sent Sweep = ⊥
 ComesOf g sent (Reload rs) = ⊥
@@ -128,23 +135,42 @@ some_or_less : (o : Option Entry) (capacity many : ℕ) → (is_none o && nat_le
 some_or_less None capacity many h = inr (grind (arith, nat_tests))
 some_or_less (Some e) capacity many h = inl refl
 
-found-update : (t : Particulars) (o : Option Entry) → denial_of_update t o ≡ None → (e : Entry) × (o ≡ Some e)
-found-update t None h = absurd (none-some _ (sym h))
-found-update t (Some e) h = (e, refl)
+none_there : {A : Type 0} (o : Option A) → is_some o ≡ false → o ≡ None
+none_there None h = refl
+none_there (Some x) h = cc
+
+-- the step of the template finds no fault
+no_fault : (g : Grounds) (kind : List ℕ) (a : Attributes) → denial_of_template g kind a ≡ None → Suits g kind a
+no_fault g kind a h = none_there (template_fault g.site.templates kind a) (cond_false (is_some (template_fault g.site.templates kind a)) _ h)
+
+update-kind : (t : Particulars) (e : Entry) → denial_of_update t (Some e) ≡ None → e.kind ≡ t.kind
+update-kind t e = elim (bytes_eq e.kind t.kind) as (λ b. bytes_eq e.kind t.kind ≡ b → cond (not b) (Some (denial (by_step decider.Update (Some t.kind)))) (cond (not (texts_eq e.scopes t.scopes)) (Some (denial (by_step decider.Scope (Some t.kind)))) None) ≡ None → e.kind ≡ t.kind) [
+  | true ↦ λ same h. (bytes_eq-Decides e.kind t.kind).0 same
+  | false ↦ λ other h. absurd (none-some _ (sym h))
+] refl
+
+found-update : (g : Grounds) (q : Pair) (t : Particulars) (o : Option Entry) → fin.get g.live q ≡ o → denial_of_update t o ≡ None → denial_of_template g t.kind (resulting_attributes false t o) ≡ None
+    → IsFound g q (λ a. updated_attributes a t.attrs)
+found-update g q t None there h suits = absurd (none-some _ (sym h))
+found-update g q t (Some e) there h suits = (e, there, subst (λ kind. Suits g kind (updated_attributes e.attrs t.attrs)) (sym (update-kind t e h)) (no_fault g t.kind (updated_attributes e.attrs t.attrs) suits))
 
 -- a fresh registration founds an entry where there is room, another updates what is live
 comes_of-registration : (g : Grounds) (h : Header) (r : Registration) (t : Particulars) → 0 < r.entry.lifetime
-    → denial_of_live g h.flags.fresh t (fin.get g.live (pair_in h r)) ≡ None → denial_of_room g (pair_in h r) t ≡ None
+    → denial_of_live g h.flags.fresh t (fin.get g.live (pair_in h r)) ≡ None
+    → denial_of_template g t.kind (resulting_attributes h.flags.fresh t (fin.get g.live (pair_in h r))) ≡ None
+    → denial_of_room g (pair_in h r) t ≡ None
     → ComesOf g (message.Registration h r) (act_of h r t)
-comes_of-registration g h r t lasting live room =
+comes_of-registration g h r t lasting live template room =
     let sent : IsSentFor (message.Registration h r) r.entry.lifetime = record { header = h; registration = r; is = refl; same = refl; lasting = lasting } in
-    elim h.flags.fresh as (λ b. denial_of_live g b t (fin.get g.live (pair_in h r)) ≡ None → ComesOf g (message.Registration h r) (cond b (Put (putting_of h r t)) (Set (setting_of h r t)))) [
-      | true ↦ λ none. (
+    elim h.flags.fresh as (λ b. denial_of_live g b t (fin.get g.live (pair_in h r)) ≡ None → denial_of_template g t.kind (resulting_attributes b t (fin.get g.live (pair_in h r))) ≡ None
+    → ComesOf g (message.Registration h r) (cond b (Put (putting_of h r t)) (Set (setting_of h r t)))) [
+      | true ↦ λ none suits. (
         sent,
         some_or_less (fin.get g.live (pair_in h r)) g.site.capacity (fin.len g.live) (cond_false (is_none (fin.get g.live (pair_in h r)) && nat_le g.site.capacity (fin.len g.live)) _ room),
+        no_fault g t.kind t.attrs suits,
       )
-      | false ↦ λ none. (sent, found-update t (fin.get g.live (pair_in h r)) none)
-    ] live
+      | false ↦ λ none suits. (sent, found-update g (pair_in h r) t (fin.get g.live (pair_in h r)) refl none suits)
+    ] live template
 
 taken-accepted : (g : Grounds) (h : Header) (r : Registration) (t : Particulars) (c : Event) (because : Because) → 0 < r.entry.lifetime
     → judgement_of_particulars g h r t ≡ Accepts c because → Origin g (message.Registration h r) c
@@ -152,8 +178,10 @@ taken-accepted g h r t c because lasting is =
     let one = first_none (denial_of_scopes t) _ _ c because (cond-denial (length t.scopes == 0) _ _) is in
     let two = first_none (denial_of_new g t) _ _ c because (map-denial (denial_of g.rules g.asker Register t.kind t.scopes)) one.1 in
     let three = first_none (denial_of_live g h.flags.fresh t (fin.get g.live (pair_in h r))) _ _ c because (live-denial g h.flags.fresh t (fin.get g.live (pair_in h r))) two.1 in
-    let four = last_none (denial_of_room g (pair_in h r) t) _ c because (cond-denial (is_none (fin.get g.live (pair_in h r)) && nat_le g.site.capacity (fin.len g.live)) _ _) three.1 in
-    subst (Origin g (message.Registration h r)) (sym (accepts-parts _ c _ because four.1).0) (record { moment = refl; act = comes_of-registration g h r t lasting three.0 four.0 })
+    let a = resulting_attributes h.flags.fresh t (fin.get g.live (pair_in h r)) in
+    let four = first_none (denial_of_template g t.kind a) _ _ c because (cond-denial (is_some (template_fault g.site.templates t.kind a)) _ _) three.1 in
+    let five = last_none (denial_of_room g (pair_in h r) t) _ c because (cond-denial (is_none (fin.get g.live (pair_in h r)) && nat_le g.site.capacity (fin.len g.live)) _ _) four.1 in
+    subst (Origin g (message.Registration h r)) (sym (accepts-parts _ c _ because five.1).0) (record { moment = refl; act = comes_of-registration g h r t lasting three.0 four.0 five.0 })
 
 waits_accepts : (c : Event) (because : Because) → Waits ≡ Accepts c because → ⊥
 waits_accepts c because h = cc
@@ -222,10 +250,12 @@ tagged-released : (g : Grounds) (sent : Message) (q : Pair) (tags : List Part) (
     → judgement_of_tagged g q tags scopes o ≡ Accepts c because → Origin g sent c
 tagged-released g sent q tags scopes None c because there = λ is. absurd (ignores_accepts c because is)
 tagged-released g sent q tags scopes (Some e) c because there =
-    elim (texts_eq e.scopes scopes) as (λ b. cond b (unwrap_or (denial_in g action.Withdraw e.kind e.scopes) (Accepts (removal_event g q tags) (release g e))) (denial_by decider.Scope) ≡ Accepts c because → Origin g sent c) [
+    let left = attributes_without e.attrs tags in
+    elim (texts_eq e.scopes scopes) as (λ b. cond b (unwrap_or (option_or (denial_in g action.Withdraw e.kind e.scopes) (denial_of_template g e.kind left)) (Accepts (removal_event g q tags) (release g e))) (denial_by decider.Scope) ≡ Accepts c because → Origin g sent c) [
       | true ↦ λ is.
-          let k = last_none (denial_in g action.Withdraw e.kind e.scopes) _ c because (map-denial (denial_of g.rules g.asker action.Withdraw e.kind e.scopes)) is in
-          subst (Origin g sent) (sym (accepts-parts _ c _ because k.1).0) (record { moment = refl; act = (e, there) })
+          let one = first_none (denial_in g action.Withdraw e.kind e.scopes) _ _ c because (map-denial (denial_of g.rules g.asker action.Withdraw e.kind e.scopes)) is in
+          let two = last_none (denial_of_template g e.kind left) _ c because (cond-denial (is_some (template_fault g.site.templates e.kind left)) _ _) one.1 in
+          subst (Origin g sent) (sym (accepts-parts _ c _ because two.1).0) (record { moment = refl; act = (e, there, no_fault g e.kind left two.0) })
       | false ↦ λ is. absurd (denies_accepts _ _ because c is)
     ]
 
@@ -282,14 +312,14 @@ AreLive-acting h m t a is live q e = (
 )
 
 module _ (o : Opening) (h : History) (m t asker : ℕ) (live : Entries) (sent : Message) (at : t ≡ now h m) (are_live : AreLive h m live) where
-  found_held : (q : Pair) → IsFound (grounds o h live m asker) q → IsHeld h t q
-  found_held q found = let l = (AreLive-acting h m t live at are_live q found.0).0 found.1 in (found.0, l.0, l.1)
+  found_held : (q : Pair) (f : Attributes → Attributes) → IsFound (grounds o h live m asker) q f → IsHeld h t q
+  found_held q f found = let l = (AreLive-acting h m t live at are_live q found.0).0 found.1 in (found.0, l.0, l.1)
 
   -- what comes of a message is possible at the moment at which the message acts
   pub possible_act : (act : Act) → ComesOf (grounds o h live m asker) sent act → IsPossible o.site.capacity h (record { moment = t; act = act })
   possible_act (Put p) by = (by.0.lasting, (live, AreLive-acting h m t live at are_live, by.1))
-  possible_act (Set s) by = (by.0.lasting, found_held (s.url, s.language) by.1)
-  possible_act (Remove r) by = found_held (r.url, r.language) by
+  possible_act (Set s) by = (by.0.lasting, found_held (s.url, s.language) (λ a. updated_attributes a s.attributes) by.1)
+  possible_act (Remove r) by = found_held (r.url, r.language) (λ a. attributes_without a r.tags) by
   possible_act (Withdraw w) by = tt
   possible_act Sweep by = tt
   possible_act (Reload rs) by = tt

@@ -1,4 +1,5 @@
 pub mod AcceptedChanges
+pub mod Conforming
 pub mod Cuts
 pub mod EventContents
 pub mod Folds

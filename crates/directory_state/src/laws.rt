@@ -3,6 +3,7 @@ ghost use Rattle.std.specs.Prelude.{◌≡◌, ◌↔◌, ◌∷◌, ◌<◌, �
 ghost use Rattle.std.specs.FinMap as fin;
 ghost use Rattle.registry_core.specs.Entries.{Pair, pair_of};
 ghost use Rattle.registry_core.specs.declared.entry.Entry.{Entry};
+ghost use Rattle.srv_template.specs.Conformity.{ConformsTo};
 ghost use Rattle.slp_messages.specs.Messages.{IsMessage};
 ghost use Rattle.slp_messages.specs.declared.message.Message.{Message};
 ghost use Rattle.directory_judge.specs.History.{History, Event, Sweep, clock};
@@ -74,4 +75,9 @@ pub fn what_is_not_open_is_not_seen()
 /// Of bytes one thing is told at a history, and one change comes of them.
 pub fn one_thing_is_told()
     ensures { (o : Opening) (h : History) (c : Call) (r s : Outcome) (change other : Option Event) → IsAnswer o h c r change → IsAnswer o h c s other → (r ≡ s) × (change ≡ other) }
+{}
+
+/// An entry that stands conforms to the template of its type, if it has one.
+pub fn what_stands_conforms()
+    ensures { (o : Opening) (h : History) (e : Entry) → IsLegal o h → Stands h e → ConformsTo o.site.templates e.kind e.attrs }
 {}
