@@ -10,6 +10,7 @@ use service_url::{ServiceType, Url};
 use slp_answer::{Answer, Sent, acknowledge, is_change};
 use slp_text::{ScopeList, key};
 use slp_wire::UrlEntry;
+use srv_template::Templates;
 use std::alloc::Global;
 use std::sync::Arc;
 use std::test::Fail;
@@ -22,7 +23,8 @@ pub fn opened(alloc: Global, capacity: usize) -> Result<Box<Directory<ListRegist
     requires some { 0 < capacity }
     requires few { capacity ≤ 65536 }
 {
-    let site = Site::new(one_scope(alloc, "DEFAULT")?, capacity, 1);
+    let templates = Arc::new(alloc, Templates::new(alloc))?;
+    let site = Site::new(one_scope(alloc, "DEFAULT")?, capacity, templates, 1);
     let registry = ListRegistry::new(alloc, capacity)?;
     let rules = Arc::new(alloc, Rules::opening(alloc)?)?;
     Ok(Box::new(alloc, Directory::open(alloc, registry, &site, rules)?)?)

@@ -8,6 +8,9 @@ use Rattle.std.proofs.lemmas.Grind.{flat_map-append}
 use borrow.Author.Tests.{lt-ltb}
 use Rattle.site_config.specs.Configurations.{config_of, longest_text}
 use Rattle.site_config.specs.declared.fault.ConfigFault.TheVariants.{Range}
+use Rattle.srv_template.specs.Reading.{template_in}
+use Rattle.srv_template.specs.declared.fault.ParseFault.TheVariants as template
+use Rattle.srv_template.proofs.ParsedTemplates.{parsed-long}
 use Rattle.slp_script.specs.Lines.{Line, line_bytes}
 use Rattle.directory_program.specs.Worlds.{text_of}
 use Rattle.directory_program.specs.Turns.{block_text, block_text_with}
@@ -37,3 +40,11 @@ config-by false text e = sym (too_long-config text e)
 -- what is kept says what the whole text does
 pub kept-config : (body : List Line) → option_map_or config_of (block_text body) (Err Range) ≡ config_of (text_of body)
 kept-config body = config-by (nat_le (length (text_of body)) longest_text) (text_of body) refl
+
+-- the same of a template
+template-by : (b : Bool) (text : List ℕ) → nat_le (length text) longest_text ≡ b → option_map_or template_in (if b then Some text else None) (Err (template.Line 1)) ≡ template_in text
+template-by true text e = refl
+template-by false text e = sym (parsed-long text (leb-false (length text) longest_text e))
+
+pub kept-template : (body : List Line) → option_map_or template_in (block_text body) (Err (template.Line 1)) ≡ template_in (text_of body)
+kept-template body = template-by (nat_le (length (text_of body)) longest_text) (text_of body) refl

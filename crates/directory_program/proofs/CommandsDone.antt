@@ -4,10 +4,10 @@ use Rattle.std.specs.Prelude.{MatchResult}
 use Rattle.directory_answers.specs.Verdicts.{history_with}
 use Rattle.slp_answer.specs.declared.answer.Sent.{Sent}
 use Rattle.slp_script.specs.Commands.{Single}
-use Rattle.slp_script.specs.declared.command.Order.TheVariants.{At, From, Udp, Open, Tcp}
+use Rattle.slp_script.specs.declared.command.Order.TheVariants.{At, From, Udp, Open, Tcp, Sweep}
 use Rattle.slp_script.specs.declared.command.Block.TheVariants as block
-use Rattle.directory_program.specs.Sessions.{Holds, IsAgent, Takes, TakesPiece, Acts, Meets, ConfiguresTo, config_text}
-use Rattle.directory_program.specs.Worlds.{World, Answers, Configures, no_memory_text, answer_text, new_stream, longest_reply, late_world, configured_world}
+use Rattle.directory_program.specs.Sessions.{Holds, IsAgent, Takes, TakesPiece, Acts, Meets, AddsTo, ConfiguresTo, config_text, template_text}
+use Rattle.directory_program.specs.Worlds.{World, Adds, Answers, Configures, late_text, swept_world, templated_world, templates_with, no_memory_text, answer_text, new_stream, longest_reply, late_world, configured_world}
 use Rattle.directory_program.specs.Turns.{Closes, Turns, TurnsTo, TurnsOutside, TurnsInside}
 use Rattle.directory_program.specs.declared.progress.OpenBlock.{OpenBlock}
 use Rattle.directory_program.specs.declared.progress.Progress.{Progress}
@@ -20,6 +20,10 @@ use Rattle.site_config.specs.declared.config.Config.{Config}
 use Rattle.site_config.specs.declared.fault.ConfigFault.{ConfigFault}
 use Rattle.site_config.specs.declared.fault.ConfigFault.TheVariants.{Range}
 use Rattle.slp_text.specs.Ascii.{line_feed}
+use Rattle.srv_template.specs.Conformity.{SiteTemplates}
+use Rattle.srv_template.specs.Reading.{template_in}
+use Rattle.srv_template.specs.declared.fault.ParseFault.{ParseFault}
+use Rattle.srv_template.specs.declared.fault.ParseFault.TheVariants as template
 
 -- the agent does not know of the stream, nor whether it is too late for another site
 pub IsAgent-beside : (w : World) (f : Frames) (late : Bool) (a : Agent) → IsAgent w a → IsAgent (record w { stream = f; late = late }) a
@@ -65,6 +69,27 @@ Closes-told s b kept told early configures = λ w h.
 pub Closes-late : (s : Session) (kept : Option (List ℕ)) → s.late ≡ true → Closes s block.Config kept (codes "! late" ++ line_feed ∷ []) s
 Closes-late s kept late = λ w h.
     subst (λ x. (v : World) × Configures x w (option_map_or config_of kept (Err Range)) (codes "! late" ++ line_feed ∷ []) v × Holds v s) (sym (sym h.late ∙ late)) (w, (refl, refl), h)
+
+-- ---- the end of a template
+
+added_so : (w : World) (s : Session) (b : Agent) (h : Holds w s) (read : Result SiteTemplates ParseFault) (told : Result (Unit {0}) ParseFault) → AddsTo w read told b → (v : World) × Adds false w read (template_text told) v × Holds v (record s { agent = b })
+added_so w s b h (Ok ts) told t = (templated_world ts w, (ap template_text t.0, refl), record { agent = t.1; stream = h.stream; limit = h.limit; late = h.late })
+added_so w s b h (Err e) told t = (w, (ap template_text t.0, refl), record { agent = t.1; stream = h.stream; limit = h.limit; late = h.late })
+
+pub Closes-added : (s : Session) (b : Agent) (kept : Option (List ℕ)) (told : Result (Unit {0}) ParseFault) → s.late ≡ false
+    → ((w : World) → IsAgent w s.agent → AddsTo w (templates_with w (option_map_or template_in kept (Err (template.Line 1)))) told b) → Closes s block.Template kept (template_text told) (record s { agent = b })
+Closes-added s b kept told early adds = λ w h.
+    let read = templates_with w (option_map_or template_in kept (Err (template.Line 1))) in
+    subst (λ late. (v : World) × Adds late w read (template_text told) v × Holds v (record s { agent = b })) (sym (sym h.late ∙ early)) (added_so w s b h read told (adds w h.agent))
+
+pub Closes-added_late : (s : Session) (kept : Option (List ℕ)) → s.late ≡ true → Closes s block.Template kept late_text s
+Closes-added_late s kept late = λ w h.
+    subst (λ x. (v : World) × Adds x w (templates_with w (option_map_or template_in kept (Err (template.Line 1)))) late_text v × Holds v s) (sym (sym h.late ∙ late)) (w, (refl, refl), h)
+
+-- ---- a sweep
+
+pub Acts-sweep : (s : Session) (b : Agent) → ((w : World) → IsAgent w s.agent → IsAgent (swept_world w) b) → Acts s (Single Sweep) (codes "# sweep" ++ line_feed ∷ []) (record s { agent = b; late = true })
+Acts-sweep s b sweeps = λ w h. (swept_world w, (refl, refl), record { agent = sweeps w h.agent; stream = h.stream; limit = h.limit; late = refl })
 
 -- ---- a message
 

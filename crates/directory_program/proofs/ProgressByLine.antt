@@ -11,16 +11,20 @@ use Rattle.site_config.specs.declared.fault.ConfigFault.TheVariants.{Range}
 use Rattle.slp_script.specs.Commands.{Command, Single, Text, Reads, order_of, block_of, word_of, block_end, longest_line, block_start, IsBodyLine, AtLine, AtBody, AtEnd, StopsAt}
 use Rattle.directory_program.specs.Sessions.{Holds}
 use Rattle.slp_script.specs.Lines.{Line}
-use Rattle.directory_program.specs.Worlds.{World, Does, Prints, IsOutput, Configures, opening_world}
+use Rattle.directory_program.specs.Worlds.{World, Adds, Does, Prints, IsOutput, Configures, opening_world, templates_with}
 use Rattle.directory_program.specs.Turns.{IsOpen, Stands, Turns, TurnsTo, TurnFailsBy, Begins, Ends, Lengthens, block_text, block_text_with}
 use Rattle.directory_program.specs.declared.fault.RunFault.{RunFault}
 use Rattle.directory_program.specs.declared.fault.RunFault.TheVariants as fault
 use Rattle.directory_program.specs.declared.fault.RunFault.TheVariants.{Read, Write, NoMemory}
 use Rattle.directory_program.specs.declared.progress.OpenBlock.{OpenBlock}
 use Rattle.directory_program.specs.declared.progress.Progress.{Progress}
-use Rattle.directory_program.proofs.BlockTexts.{block_text_with-kept, kept-config}
+use Rattle.directory_program.proofs.BlockTexts.{block_text_with-kept, kept-config, kept-template}
 use Rattle.slp_script.specs.declared.command.Block.{Block}
 use Rattle.slp_script.specs.declared.command.Block.TheVariants as block
+use Rattle.srv_template.specs.Reading.{template_in}
+use Rattle.srv_template.specs.Templates.{Template}
+use Rattle.srv_template.specs.declared.fault.ParseFault.{ParseFault}
+use Rattle.srv_template.specs.declared.fault.ParseFault.TheVariants as template
 use Rattle.slp_script.proofs.Words.{word-of_block}
 use Rattle.slp_script.proofs.Fronts.{Reads-snoc, All-append}
 
@@ -37,6 +41,8 @@ Prints-same cs out now w h none = rw (none, append-nil out) h
 Does-block : (block : Block) (body : List Line) (w : World) (kept : Option (List ℕ)) (now : List ℕ) (v : World) → kept ≡ block_text body → Ends block w kept now v → Does w (Text block body) now v
 Does-block block.Config body w kept now v is did =
     subst (λ (r : Result Config ConfigFault). Configures w.late w r now v) (ap (λ (o : Option (List ℕ)). option_map_or config_of o (Err Range)) is ∙ kept-config body) did
+Does-block block.Template body w kept now v is did =
+    subst (λ (r : Result Template ParseFault). Adds w.late w (templates_with w r) now v) (ap (λ (o : Option (List ℕ)). option_map_or template_in o (Err (template.Line 1))) is ∙ kept-template body) did
 
 IsOpen-begins : (b : Option OpenBlock) (block : Block) (l : Line) (k number : ℕ) → l ≡ word_of block → number ≡ k + 1 → Begins block number b → IsOpen (l ∷ []) k b
 IsOpen-begins None block l k number is n h = absurd h

@@ -1,11 +1,12 @@
 -- What comes of a stream, message by message.
-use Rattle.std.proofs.Common.{◌≡◌, ℕ, List, [], ◌∷◌, ◌++◌, Option, Some, None, Ok, Err, refl, sym, ap, ◌∙◌, subst, append_assoc}
+use Rattle.std.proofs.Common.{◌≡◌, ℕ, List, [], ◌∷◌, ◌++◌, Option, Some, None, Result, Ok, Err, refl, sym, ap, ◌∙◌, subst, append_assoc}
 use Rattle.std.specs.Prelude.{MatchOption}
 use Rattle.std.specs.Option.{option_map_or}
 use Rattle.std.proofs.lemmas.List.{append-nil}
 use Rattle.slp_stream.specs.Cutting.{Front, Wanting, Whole, Bad, front_of, IsEnd, IsCut}
-use Rattle.slp_stream.specs.Framing.{Frames, answer_at, next_answer, frames_left_at, frames_left}
+use Rattle.slp_stream.specs.Framing.{Frames, Refuses, answer_at, next_answer, frames_left_at, frames_left}
 use Rattle.slp_stream.specs.declared.fault.FrameFault.{FrameFault}
+use Rattle.slp_stream.specs.declared.fault.FrameFault.TheVariants.{NoMemory}
 use Rattle.slp_stream.proofs.FramerAnswers.{Leads, gave_message, gave_none, leads_on, leads_to_end}
 use Rattle.directory_program.specs.Sessions.{IsAgent, TakesPiece, Meets, Drains}
 use Rattle.directory_program.specs.Worlds.{World, Answers, AnswersAll, Pieces, bad_length_text, closed_text, end_text, end_refused, longest_on_stream}
@@ -109,3 +110,16 @@ TakesPiece-fed s bytes now f g b none fed drains = λ w h.
         late = h.late ∙ sym (AnswersAll-late w d.0 d.4 d.3 d.5);
       },
     )
+
+-- ---- a stream that is cut no further
+
+closed_so : (P Q : Type 0) (o : Option FrameFault) (e : FrameFault) → MatchOption o (e ≡ NoMemory) (λ d. ◌≡◌ {A = Result (Unit {0}) FrameFault} (Err e) (Err d)) → (e ≡ NoMemory → ⊥) → Q → MatchOption o P (λ _. Q)
+closed_so P Q None e h some q = absurd (some h)
+closed_so P Q (Some d) e h some q = q
+
+pub TakesPiece-closed : (s : Session) (e : FrameFault) (bytes : List ℕ) (f : Frames) → Refuses s.stream (Err e) → (e ≡ NoMemory → ⊥) → f ≡ s.stream → TakesPiece s bytes closed_text (record s { stream = f })
+TakesPiece-closed s e bytes f refuses some same = λ w h. (
+  w,
+  subst (λ (g : Frames). MatchOption g.refused (Pieces w bytes closed_text w) (λ _. (closed_text ≡ closed_text) × (w ≡ w))) h.stream (closed_so _ _ s.stream.refused e refuses some (refl, refl)),
+  record { agent = h.agent; stream = same ∙ h.stream; limit = ap (λ (g : Frames). g.limit) same ∙ h.limit; late = h.late },
+)

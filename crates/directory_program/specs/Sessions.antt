@@ -14,7 +14,9 @@ use Rattle.slp_answer.specs.declared.answer.Sent.{Sent}
 use Rattle.slp_stream.specs.Cutting.{front_of, IsCut}
 use Rattle.slp_stream.specs.Framing.{Frames}
 use Rattle.slp_script.specs.Commands.{Command}
-use Rattle.directory_program.specs.Worlds.{World, opening_of, call_of, Answers, AnswersAll, Pieces, Does, closed_text, fault_number, configured_world, end_text, end_refused, longest_on_stream, config_fault_text, configured_text}
+use Rattle.directory_program.specs.Worlds.{World, opening_of, call_of, Answers, AnswersAll, Pieces, Does, closed_text, fault_number, added_text, configured_world, template_fault_text, templated_world, end_text, end_refused, longest_on_stream, config_fault_text, configured_text}
+use Rattle.srv_template.specs.Conformity.{SiteTemplates}
+use Rattle.srv_template.specs.declared.fault.ParseFault.{ParseFault}
 use Rattle.site_config.specs.declared.config.Config.{Config}
 use Rattle.site_config.specs.declared.fault.ConfigFault.{ConfigFault}
 use Rattle.directory_program.specs.declared.agent.Agent.{Agent}
@@ -75,3 +77,13 @@ config_text (Err e) = config_fault_text e
 abbrev pub ConfiguresTo : World → Result Config ConfigFault → Result (Unit {0}) ConfigFault → Agent → Type 0
 ConfiguresTo w (Ok c) told a = (told ≡ Ok tt) × IsAgent (configured_world c w) a
 ConfiguresTo w (Err e) told a = (told ≡ Err e) × IsAgent w a
+
+-- what is written of a template
+abbrev pub template_text : Result (Unit {0}) ParseFault → List ℕ
+template_text (Ok x) = added_text
+template_text (Err e) = template_fault_text e
+
+-- what came of a template, and the agent after it: that of the site with these templates, or the one that it was
+abbrev pub AddsTo : World → Result SiteTemplates ParseFault → Result (Unit {0}) ParseFault → Agent → Type 0
+AddsTo w (Ok templates) told a = (told ≡ Ok tt) × IsAgent (templated_world templates w) a
+AddsTo w (Err e) told a = (told ≡ Err e) × IsAgent w a

@@ -21,6 +21,12 @@ use Rattle.slp_script.specs.Commands.{Command, Single, Text, Reads, StopsAt, blo
 use Rattle.slp_script.specs.declared.command.Block.{Block}
 use Rattle.slp_script.specs.declared.command.Block.TheVariants as block
 use Rattle.slp_script.specs.declared.command.Order.TheVariants as order
+use Rattle.slp_text.specs.Reading.{read_then}
+use Rattle.srv_template.specs.Conformity.{SiteTemplates}
+use Rattle.srv_template.specs.Reading.{template_in}
+use Rattle.srv_template.specs.Templates.{Template, added_to}
+use Rattle.srv_template.specs.declared.fault.ParseFault.{ParseFault}
+use Rattle.srv_template.specs.declared.fault.ParseFault.TheVariants as template
 use Rattle.slp_script.specs.Lines.{Line, lines_of, line_bytes, HasNoLf}
 use Rattle.directory_program.specs.Sites.{first_site}
 use Rattle.site_config.specs.Configurations.{config_of}
@@ -153,19 +159,51 @@ config_fault_text e = codes "! config " ++ decimal (fault_number e) ++ line_feed
 abbrev pub text_of : List Line → List ℕ
 text_of body = flat_map line_bytes body
 
--- the site of a configuration
-abbrev pub site_in : Config → Site
-site_in c = record { scopes = c.scopes; capacity = c.capacity; boot = 1 }
+-- what is written of a block that comes too late
+abbrev pub late_text : List ℕ
+late_text = codes "! late" ++ line_feed ∷ []
 
--- a new site, at its first loop
+-- the site of a configuration, with these templates
+abbrev pub site_in : SiteTemplates → Config → Site
+site_in templates c = record { scopes = c.scopes; capacity = c.capacity; templates = templates; boot = 1 }
+
+-- a new site with the templates of the one before, at its first loop
 abbrev pub configured_world : Config → World → World
-configured_world c w = record w { site = site_in c; history = []; listen = c.listen; loop = 0 }
+configured_world c w = record w { site = site_in w.site.templates c; history = []; listen = c.listen; loop = 0 }
 
 -- what a configuration may write, and what it leaves: a new site, unless it is refused or too late
 abbrev pub Configures : Bool → World → Result Config ConfigFault → List ℕ → World → Type 0
-Configures true w read out v = (out ≡ codes "! late" ++ line_feed ∷ []) × (v ≡ w)
+Configures true w read out v = (out ≡ late_text) × (v ≡ w)
 Configures false w (Ok c) out v = (out ≡ configured_text) × (v ≡ configured_world c w)
 Configures false w (Err e) out v = (out ≡ config_fault_text e) × (v ≡ w)
+
+-- the number of a fault of a template
+abbrev pub template_fault_number : ParseFault → ℕ
+template_fault_number (template.Line n) = 1
+template_fault_number template.TwiceType = 2
+template_fault_number template.NoMemory = 3
+template_fault_number template.TooMany = 4
+
+-- what is written of a template that is added, and of one that is refused
+abbrev pub added_text : List ℕ
+added_text = codes "# template" ++ line_feed ∷ []
+
+abbrev pub template_fault_text : ParseFault → List ℕ
+template_fault_text e = codes "! template " ++ decimal (template_fault_number e) ++ line_feed ∷ []
+
+-- the templates of the site with one more, if it is read and may be added
+abbrev pub templates_with : World → Result Template ParseFault → Result SiteTemplates ParseFault
+templates_with w read = read_then (added_to w.site.templates) read
+
+-- the site with these templates, to which nothing happened
+abbrev pub templated_world : SiteTemplates → World → World
+templated_world templates w = record w { site = record w.site { templates = templates }; history = [] }
+
+-- what a template may write, and what it leaves: the site with it, unless it is refused or too late
+abbrev pub Adds : Bool → World → Result SiteTemplates ParseFault → List ℕ → World → Type 0
+Adds true w templates out v = (out ≡ late_text) × (v ≡ w)
+Adds false w (Ok templates) out v = (out ≡ added_text) × (v ≡ templated_world templates w)
+Adds false w (Err e) out v = (out ≡ template_fault_text e) × (v ≡ w)
 
 -- what a command may write, and what it leaves
 abbrev pub Does : World → Command → List ℕ → World → Type 0
@@ -177,6 +215,7 @@ Does w (Single order.Open) out v = (out ≡ []) × (v ≡ record w { stream = ne
 Does w (Single (order.Tcp bytes)) out v = MatchOption w.stream.refused (Pieces (late_world w) bytes out v) (λ _. (out ≡ closed_text) × (v ≡ late_world w))
 Does w (Single order.Sweep) out v = (out ≡ codes "# sweep" ++ line_feed ∷ []) × (v ≡ swept_world w)
 Does w (Text block.Config body) out v = Configures w.late w (config_of (text_of body)) out v
+Does w (Text block.Template body) out v = Adds w.late w (templates_with w (template_in (text_of body))) out v
 
 -- what these commands may write one after the other, and what they leave
 abbrev pub Prints : World → List Command → List ℕ → World → Type 0

@@ -1,4 +1,6 @@
 ghost use Rattle.std.specs.Prelude.{◌≡◌, ◌≤◌, [], IfOk, MatchResult};
+ghost use Rattle.std.specs.Arc.{arc_value};
+ghost use Rattle.std.specs.FinMap as fin;
 ghost use Rattle.std.specs.Option.{option_map_or, option_copied};
 ghost use Rattle.access_rules.specs.Opening.{opening_rules};
 ghost use Rattle.directory_state.specs.Folds.{Fold};
@@ -7,6 +9,10 @@ ghost use Rattle.directory_program.specs.Worlds.{opening_listen, site_in};
 ghost use Rattle.site_config.specs.Configurations.{config_of, IsWithin};
 ghost use Rattle.site_config.specs.declared.fault.ConfigFault.TheVariants.{Range};
 ghost use Rattle.directory_program.specs.Sites.{first_site};
+ghost use Rattle.slp_text.specs.Reading.{read_then};
+ghost use Rattle.srv_template.specs.Reading.{template_in};
+ghost use Rattle.srv_template.specs.Templates.{added_to, IsReading};
+ghost use Rattle.srv_template.specs.declared.fault.ParseFault.TheVariants as template;
 
 use access_rules::{Addr, Rules};
 use directory_judge::{Change, Site};
@@ -15,6 +21,7 @@ use registry_core::{ListRegistry, RegistryFault};
 use site_config::{Config, ConfigFault};
 use slp_answer::{Answer, Call, Sent, step};
 use slp_text::{NoMemory, Row, ScopeList, TextFault};
+use srv_template::{ParseFault, Template, Templates};
 use std::alloc::Global;
 use std::sync::Arc;
 
@@ -47,12 +54,19 @@ pub struct Agent {
     pub asker: Addr,
 }
 
-// The site of one scope, `DEFAULT`.
+fn no_templates(alloc: Global) -> Result<Arc<Templates>, NoMemory>
+    ensures { IfOk result (λ t. arc_value t ≡ fin.empty) }
+{
+    Ok(Arc::new(alloc, Templates::new(alloc))?)
+}
+
+// The site of one scope, `DEFAULT`, without templates.
 fn opening_site(alloc: Global) -> Result<Site, NoMemory>
     ensures { IfOk result (λ s. s ≡ first_site) }
 {
+    let templates = no_templates(alloc)?;
     match ScopeList::parse(alloc, "DEFAULT") {
-        Ok(scopes) => Ok(Site::new(scopes, CAPACITY, BOOT)),
+        Ok(scopes) => Ok(Site::new(scopes, CAPACITY, templates, BOOT)),
         Err(TextFault::NoMemory) => Err(NoMemory),
         Err(TextFault::BadEscape | TextFault::Reserved | TextFault::NotUtf8) => unreachable!(),
     }
@@ -66,10 +80,10 @@ fn opening_addresses(alloc: Global) -> Result<Row<(Addr, u16)>, NoMemory>
     Ok(Row::wrap(listen))
 }
 
-// The site that a configuration describes, and the addresses of its loops.
-fn site_of(config: Config) -> (Site, Row<(Addr, u16)>)
+// The site that a configuration describes, with these templates, and the addresses of its loops.
+fn site_of(config: Config, templates: Arc<Templates>) -> (Site, Row<(Addr, u16)>)
     requires { IsWithin config }
-    ensures site { result.0 ≡ site_in config }
+    ensures site { result.0 ≡ site_in (arc_value templates) config }
     ensures listen { result.1 ≡ config.listen }
 {
     let Config {
@@ -78,7 +92,33 @@ fn site_of(config: Config) -> (Site, Row<(Addr, u16)>)
         capacity,
         ..
     } = config;
-    (Site::new(scopes, capacity, BOOT), listen)
+    (Site::new(scopes, capacity, templates, BOOT), listen)
+}
+
+// Templates and the one that a text is; a text that is not kept does not fit from its first line on.
+fn templates_and(
+    alloc: Global,
+    templates: &Templates,
+    text: Option<&str>,
+) -> Result<Templates, ParseFault>
+    ensures { IsReading result (read_then (added_to templates.now) (option_map_or template_in (option_copied text.entry) (Err (template.Line 1)))) }
+{
+    let Some(text) = text else {
+        return Err(ParseFault::Line(1));
+    };
+    let template = Template::parse(alloc, text)?;
+    let mut all = templates.share(alloc)?;
+    all.add(template)?;
+    Ok(all)
+}
+
+// The site with other templates.
+fn site_with(alloc: Global, site: &Site, templates: Templates) -> Result<Site, NoMemory>
+    ensures { IfOk result (λ s. s ≡ record site.now { templates = templates }) }
+{
+    let scopes = site.scopes().copy(alloc)?;
+    let templates = Arc::new(alloc, templates)?;
+    Ok(Site::new(scopes, site.capacity(), templates, site.boot()))
 }
 
 // A directory to which nothing happened, with rules that allow everything to everyone.
@@ -96,8 +136,8 @@ fn begin(alloc: Global, site: &Site) -> Result<Directory<ListRegistry>, NoMemory
 
 impl Agent {
     ghost use Rattle.directory_program.specs.Opening.{opening_agent};
-    ghost use Rattle.directory_program.specs.Sessions.{IsAgent, Takes, ConfiguresTo};
-    ghost use Rattle.directory_program.specs.Worlds.{World, own_at, swept_world};
+    ghost use Rattle.directory_program.specs.Sessions.{IsAgent, Takes, AddsTo, ConfiguresTo};
+    ghost use Rattle.directory_program.specs.Worlds.{World, own_at, swept_world, templates_with};
 
     /// The setup with which a run begins: the scope `DEFAULT`, room for 16 entries, and rules that
     /// allow everything to everyone.
@@ -115,7 +155,7 @@ impl Agent {
     }
 
     /// Begins anew on the site of a configuration, without entries and at clock 0. The rules are the
-    /// opening ones; the moment and the asker stay, and messages come to the first loop. A refused text
+    /// opening ones; the templates, the moment and the asker stay, and messages come to the first loop. A refused text
     /// changes nothing, and one that is not kept is out of its range.
     pub fn configure(
         &mut self,
@@ -129,13 +169,35 @@ impl Agent {
         };
         match Config::from_text(alloc, text) {
             Ok(config) => {
-                let (site, listen) = site_of(config);
+                let templates = self.directory.site().templates().share(alloc)?;
+                let (site, listen) = site_of(config, Arc::new(alloc, templates)?);
                 self.directory = begin(alloc, &site)?;
                 self.listen = listen;
                 self.loop_index = 0;
                 Ok(Ok(()))
             }
             Err(ConfigFault::NoMemory) => Err(NoMemory),
+            Err(fault) => Ok(Err(fault)),
+        }
+    }
+
+    /// Begins anew on the site with one template more, without entries and at clock 0. All else stays. A
+    /// template that is not read or may not be added changes nothing, and a text that is not kept does not
+    /// fit from its first line on.
+    pub fn add_template(
+        &mut self,
+        alloc: Global,
+        text: Option<&str>,
+    ) -> Result<Result<(), ParseFault>, NoMemory>
+        ensures { (w : World) → IsAgent w self.old → IfOk result (λ told. AddsTo w (templates_with w (option_map_or template_in (option_copied text.entry) (Err (template.Line 1)))) told self.new) }
+    {
+        match templates_and(alloc, self.directory.site().templates(), text) {
+            Ok(templates) => {
+                let site = site_with(alloc, self.directory.site(), templates)?;
+                self.directory = begin(alloc, &site)?;
+                Ok(Ok(()))
+            }
+            Err(ParseFault::NoMemory) => Err(NoMemory),
             Err(fault) => Ok(Err(fault)),
         }
     }

@@ -4,8 +4,8 @@ ghost use Rattle.std.specs.Option.{option_map, option_copied};
 ghost use Rattle.slp_script.specs.Commands.{longest_line, Single};
 ghost use Rattle.slp_script.specs.declared.command.Block.TheVariants as block;
 ghost use Rattle.slp_script.specs.declared.command.Order.TheVariants as order;
-ghost use Rattle.directory_program.specs.Worlds.{config_fault_text};
-ghost use Rattle.directory_program.specs.Sessions.{Acts, config_text};
+ghost use Rattle.directory_program.specs.Worlds.{config_fault_text, template_fault_text};
+ghost use Rattle.directory_program.specs.Sessions.{Acts, config_text, template_text};
 ghost use Rattle.directory_program.specs.Turns.{Closes, block_text_with, TurnsOutside, TurnsInside, OutsideFails, InsideFails, TurnsTo, TurnFails};
 ghost use Rattle.directory_program.specs.declared.fault.RunFault.TheVariants as fault;
 
@@ -19,6 +19,7 @@ use slp_answer::Answer;
 use slp_script::{Block, Order, Reading, read_line};
 use slp_stream::Framer;
 use slp_text::{NoMemory, Row};
+use srv_template::ParseFault;
 use std::alloc::Global;
 use std::io::{self, Write};
 
@@ -28,7 +29,8 @@ pub struct OpenBlock {
     pub block: Block,
     /// The line that began it.
     pub begun: u64,
-    /// Its lines so far, each with its LF; nothing where they are longer than a configuration may be.
+    /// Its lines so far, each with its LF; nothing where they are longer than a configuration or a
+    /// template may be.
     pub text: Option<String>,
 }
 
@@ -100,6 +102,50 @@ fn close_config<W: Write>(
     }
 }
 
+// Writes why a template is refused.
+fn print_template_fault<W: Write>(fault: ParseFault, writer: &mut W) -> io::Result<()>
+    ensures { OnOk result (Appends (W.contents writer.old) (W.contents writer.new) (template_fault_text fault)) }
+{
+    match fault {
+        ParseFault::Line(_) => writer.write_all(b"! template 1\n"),
+        ParseFault::TwiceType => writer.write_all(b"! template 2\n"),
+        ParseFault::NoMemory => writer.write_all(b"! template 3\n"),
+        ParseFault::TooMany => writer.write_all(b"! template 4\n"),
+    }
+}
+
+// Writes what came of a template.
+fn print_added<W: Write>(told: Result<(), ParseFault>, writer: &mut W) -> io::Result<()>
+    ensures { OnOk result (Appends (W.contents writer.old) (W.contents writer.new) (template_text told)) }
+{
+    match told {
+        Ok(()) => writer.write_all(b"# template\n"),
+        Err(fault) => print_template_fault(fault, writer),
+    }
+}
+
+// Ends a template of which this text is kept.
+fn close_template<W: Write>(
+    session: &mut Session,
+    alloc: Global,
+    text: Option<&str>,
+    writer: &mut W,
+) -> Result<(), RunFault>
+    ensures { MatchResult result
+        (λ _. (now : List ℕ) × Appends (W.contents writer.old) (W.contents writer.new) now × Closes session.old block.Template (option_copied text.entry) now session.new)
+        (λ e. (e ≡ fault.Write) ⊎ ((e ≡ fault.NoMemory) × Keeps (W.contents writer.old) (W.contents writer.new))) }
+{
+    let written = if session.late {
+        writer.write_all(b"! late\n")
+    } else {
+        print_added(session.agent.add_template(alloc, text)?, writer)
+    };
+    match written {
+        Ok(()) => Ok(()),
+        Err(_) => Err(RunFault::Write),
+    }
+}
+
 // Ends a block of which this text is kept.
 fn close<W: Write>(
     session: &mut Session,
@@ -114,6 +160,7 @@ fn close<W: Write>(
 {
     match block {
         Block::Config => close_config(session, alloc, text, writer),
+        Block::Template => close_template(session, alloc, text, writer),
     }
 }
 

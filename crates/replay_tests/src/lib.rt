@@ -16,4 +16,6 @@ mod sites;
 #[cfg(test)]
 mod streams;
 #[cfg(test)]
+mod templates;
+#[cfg(test)]
 mod updates;

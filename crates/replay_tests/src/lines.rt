@@ -6,7 +6,7 @@ use std::test::Fail;
 // A line, and what it says: its word, its number and its bytes.
 type Row = (&'static str, &'static str, u32, &'static [u8]);
 
-static LINES: [Row; 13] = [
+static LINES: [Row; 14] = [
     ("", "", 0, b""),
     ("at 0", "at", 0, b""),
     ("at 007", "at", 7, b""),
@@ -20,9 +20,12 @@ static LINES: [Row; 13] = [
     ("tcp aB00", "tcp", 0, b"\xab\x00"),
     ("sweep", "sweep", 0, b""),
     ("config", "config", 0, b""),
+    ("template", "template", 0, b""),
 ];
 
-static OTHER_LINES: [&str; 39] = [
+static OTHER_LINES: [&str; 41] = [
+    "templates",
+    "template ",
     "at",
     "at ",
     "at  5",
@@ -81,6 +84,7 @@ fn parts(reading: &Reading) -> (&'static str, u32, &[u8]) {
     match reading {
         Reading::Order(order) => order_parts(order),
         Reading::Begins(Block::Config) => ("config", 0, b""),
+        Reading::Begins(Block::Template) => ("template", 0, b""),
         Reading::Fault => ("wrong", 0, b""),
     }
 }

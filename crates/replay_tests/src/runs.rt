@@ -184,7 +184,7 @@ fn a_line_of_a_block_is_a_text(rt: HostRuntime) {
 }
 
 // Scripts, the status of the program and its output.
-static STATUSES: [(&str, u8, &str); 7] = [
+static STATUSES: [(&str, u8, &str); 8] = [
     ("at 5\n", 0, ""),
     ("at 5\nat x\n", 3, "! line 2\n"),
     ("\n\r\n", 3, "! line 2\n"),
@@ -192,6 +192,7 @@ static STATUSES: [(&str, u8, &str); 7] = [
     ("config", 3, "! line 1\n"),
     ("at 5\nconfig\nat x\n", 3, "! line 2\n"),
     ("sweep\nconfig\nsweep", 3, "# sweep\n! line 2\n"),
+    ("sweep\ntemplate\nconfig\n", 3, "# sweep\n! line 2\n"),
 ];
 
 fn has_status(alloc: Global, words: &[String], script: &str, want: u8, output: &str) -> bool {

@@ -1,23 +1,27 @@
 -- The line that begins a block.
 use Rattle.std.proofs.Common.{◌≡◌, ◌<◌, Bool, true, false, Option, Some, None, length, refl, subst, arith}
 use Rattle.std.specs.Prelude.{◌==◌, if◌then◌else◌}
+use Rattle.std.specs.Option.{option_or}
 use Rattle.std.specs.Cmp.Lexicographic.{pointwise, same_text}
 use Rattle.std.proofs.lemmas.Option.{none-some, same_Some}
 use Rattle.slp_script.specs.Lines.{Line}
 use Rattle.slp_script.specs.Commands.{block_of, longest_line, word_of}
 use Rattle.slp_script.specs.declared.command.Block.{Block}
-use Rattle.slp_script.specs.declared.command.Block.TheVariants.{Config}
+use Rattle.slp_script.specs.declared.command.Block.TheVariants.{Config, Template}
 
-by_test : (t : Bool) (l : Line) (b : Block) → t ≡ pointwise ◌==◌ l (word_of Config) → (if t then Some Config else None) ≡ Some b → l ≡ word_of b
-by_test true l b e is = subst (λ k. l ≡ word_of k) (same_Some Config b is) (same_text l (word_of Config) e)
-by_test false l b e is = absurd (none-some b is)
+-- the word of one block, or else that of another
+by_test : (t u : Bool) (l : Line) (a c b : Block) → t ≡ pointwise ◌==◌ l (word_of a) → u ≡ pointwise ◌==◌ l (word_of c) → option_or (if t then Some a else None) (if u then Some c else None) ≡ Some b → l ≡ word_of b
+by_test true u l a c b e f is = subst (λ k. l ≡ word_of k) (same_Some a b is) (same_text l (word_of a) e)
+by_test false true l a c b e f is = subst (λ k. l ≡ word_of k) (same_Some c b is) (same_text l (word_of c) f)
+by_test false false l a c b e f is = absurd (none-some b is)
 
 -- it is the block's word
 pub word-of_block : (l : Line) (b : Block) → block_of l ≡ Some b → l ≡ word_of b
-word-of_block l b is = by_test (pointwise ◌==◌ l (word_of Config)) l b refl is
+word-of_block l b is = by_test (pointwise ◌==◌ l (word_of Config)) (pointwise ◌==◌ l (word_of Template)) l Config Template b refl refl is
 
 long_word : (b : Block) → longest_line < length (word_of b) → ⊥
 long_word Config h = omega (arith, h)
+long_word Template h = omega (arith, h)
 
 none_of : (o : Option Block) (l : Line) → block_of l ≡ o → longest_line < length l → o ≡ None
 none_of None l is h = refl

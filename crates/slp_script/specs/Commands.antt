@@ -8,7 +8,7 @@ use Rattle.hex.specs.declared.error.FromHexError.{FromHexError}
 use Rattle.access_rules.specs.Addresses.{number_of, address_of}
 use Rattle.slp_script.specs.Lines.{Line}
 use Rattle.slp_script.specs.declared.command.Block.{Block}
-use Rattle.slp_script.specs.declared.command.Block.TheVariants.{Config}
+use Rattle.slp_script.specs.declared.command.Block.TheVariants.{Config, Template}
 use Rattle.slp_script.specs.declared.command.Order.{Order}
 use Rattle.slp_script.specs.declared.command.Order.TheVariants.{Blank, At, From, Udp, Open, Tcp, Sweep}
 
@@ -62,13 +62,14 @@ sweep_line = codes "sweep"
 -- the line that begins a block, and the one that ends it
 abbrev pub word_of : Block → Line
 word_of Config = codes "config"
+word_of Template = codes "template"
 
 abbrev pub block_end : Line
 block_end = codes "."
 
 -- the block that a line begins, if it begins one
 abbrev pub block_of : Line → Option Block
-block_of l = if_alone (word_of Config) Config l
+block_of l = option_or (if_alone (word_of Config) Config l) (if_alone (word_of Template) Template l)
 
 -- the order that a line is, if it is one
 unfoldable pub order_of : Line → Option Order

@@ -24,4 +24,6 @@ pub enum Order {
 pub enum Block {
     /// The site is another one, by a configuration.
     Config,
+    /// The site gets one template more.
+    Template,
 }

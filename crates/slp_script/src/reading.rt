@@ -51,6 +51,9 @@ fn read_message(alloc: Global, line: &[u8]) -> Result<Reading, NoMemory>
     if line == b"config".as_slice() {
         return Ok(Reading::Begins(Block::Config));
     }
+    if line == b"template".as_slice() {
+        return Ok(Reading::Begins(Block::Template));
+    }
     if let Some(text) = line.strip_prefix(b"tcp ") {
         return match hex::decode(alloc, text) {
             Ok(bytes) => Ok(Reading::Order(Order::Tcp(Row::wrap(bytes)))),

@@ -1,4 +1,6 @@
 use Rattle.std.proofs.Common.{◌≡◌, ◌≢◌, List, ℕ, [], ◌∷◌, Ok, length, refl, rules, ap, ◌∙◌, arith, codes}
+use Rattle.std.specs.Arc.{arc_value}
+use Rattle.srv_template.specs.Conformity.{SiteTemplates}
 use Rattle.slp_text.specs.Keys.{key_of}
 use Rattle.slp_text.specs.Reading.{IsFault}
 use Rattle.slp_text.specs.Scopes.{printed_scopes, scopes_of}
@@ -31,4 +33,6 @@ pub unreachable-requires : goal.unreachable-requires
 unreachable-requires c = no_fault c.in-Err-BadEscape.field-0 (search rules) c.in-Err-BadEscape.ensures
 
 pub returns-in-Ok : goal.returns-in-Ok
-returns-in-Ok c = c.new.ensures ∙ ap (λ (ks : List (List ℕ)). record { scopes = ks; capacity = 16; boot = 1 }) (read_one c.in-Ok.scopes c.in-Ok.ensures)
+returns-in-Ok c =
+    c.new.ensures ∙ ap (λ (ks : List (List ℕ)). record { scopes = ks; capacity = 16; templates = arc_value c.in_ok-templates.templates; boot = 1 }) (read_one c.in-Ok.scopes c.in-Ok.ensures)
+    ∙ ap (λ (ts : SiteTemplates). record { scopes = key_of (codes "DEFAULT") ∷ []; capacity = 16; templates = ts; boot = 1 }) c.in_ok-templates.ensures

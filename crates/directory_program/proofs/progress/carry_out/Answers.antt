@@ -2,7 +2,7 @@ use Rattle.std.proofs.Common.{◌≡◌, ℕ, List, [], refl, sym, ap, subst}
 use Rattle.slp_stream.specs.Framing.{Frames}
 use Rattle.slp_script.specs.Commands.{Single}
 use Rattle.slp_script.specs.declared.command.Order.{Order}
-use Rattle.slp_script.specs.declared.command.Order.TheVariants.{At, From, Udp, Open}
+use Rattle.slp_script.specs.declared.command.Order.TheVariants.{Blank, At, From, Udp, Open, Tcp, Sweep}
 use Rattle.directory_program.specs.Sessions.{Acts}
 use Rattle.directory_program.specs.declared.session.Session.{Session}
 use Rattle.directory_program.proofs.Transfers.{Appends-none}
@@ -28,3 +28,17 @@ returns-in_ok-take_datagram-in-Udp g c =
 pub returns-in-Open : goal.returns-in-Open
 returns-in-Open g c =
     ([], Appends-none _, Acts-order c.args.session.now c.args.order Open [] _ c.in-Open.is (Acts-open _ _ (ap (λ (f : Frames). record c.args.session.now { stream = f }) c.new.ensures)))
+
+pub returns-in-Blank : goal.returns-in-Blank
+returns-in-Blank g c =
+    ([], Appends-none _, Acts-order c.args.session.now c.args.order Blank [] _ c.in-Blank.is (λ w h. (w, (refl, refl), h)))
+
+pub returns-in_ok-take_stream-in-Tcp : goal.returns-in_ok-take_stream-in-Tcp
+returns-in_ok-take_stream-in-Tcp g c =
+    let done = c.in_ok-take_stream-in-Tcp.ensures in
+    (done.0, done.1, Acts-order c.args.session.now c.args.order (Tcp c.in-Tcp.bytes) done.0 _ c.in-Tcp.is done.2)
+
+pub returns-in_ok-sweep-in-Sweep : goal.returns-in_ok-sweep-in-Sweep
+returns-in_ok-sweep-in-Sweep g c =
+    let done = c.in_ok-sweep-in-Sweep.ensures in
+    (done.0, done.1, Acts-order c.args.session.now c.args.order Sweep done.0 _ c.in-Sweep.is done.2)

@@ -1,0 +1,7 @@
+use Rattle.directory_program.proofs.progress.close.Goals as goal
+
+pub returns-in-Config : goal.returns-in-Config
+returns-in-Config g c = rw c.in-Config.is c.close_config.ensures
+
+pub returns-in-Template : goal.returns-in-Template
+returns-in-Template g c = rw c.in-Template.is c.close_template.ensures
