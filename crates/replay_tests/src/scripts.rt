@@ -64,3 +64,15 @@ pub fn assert_outputs(rt: &impl Abort, alloc: Global, rows: &[Row]) -> Result<()
     }
     Ok(())
 }
+
+/// A block of 1,048,576 bytes in long lines, after the line with which it begins. It is not closed.
+pub fn long_block(alloc: Global, begins: &str) -> Result<String, Fail> {
+    let mut block = String::from_str(alloc, begins)?;
+    for _ in 0..8 {
+        for _ in 0..131_071 {
+            block.push('#')?;
+        }
+        block.push('\n')?;
+    }
+    Ok(block)
+}

@@ -1,8 +1,7 @@
 use crate::scripts::{
     ACCEPTED, FOUND, NOTHING_FOUND, REGISTRATION, REQUEST, Row, assert_holds, assert_outputs,
-    has_output, joined,
+    has_output, joined, long_block,
 };
-use std::alloc::Global;
 use std::test::Fail;
 
 // Lines that register a printer at the URL `..://a`, `..://b` or `..://c`, or a clock.
@@ -226,21 +225,9 @@ fn each_site_keeps_its_entries_and_its_clock(rt: HostRuntime) -> Result<(), Fail
     assert_outputs(&rt, rt.alloc(), &ROWS)
 }
 
-// A block of the longest lines that a configuration may have, which is not closed.
-fn long_block(alloc: Global) -> Result<String, Fail> {
-    let mut block = String::from_str(alloc, "config\n")?;
-    for _ in 0..8 {
-        for _ in 0..131_071 {
-            block.push('#')?;
-        }
-        block.push('\n')?;
-    }
-    Ok(block)
-}
-
 #[test]
 fn the_text_of_a_site_has_a_limit(rt: HostRuntime) -> Result<(), Fail> {
-    let block = long_block(rt.alloc())?;
+    let block = long_block(rt.alloc(), "config\n")?;
     let parts = [block.as_str(), ".\n", block.as_str(), "\n.\n"];
     let script = joined(rt.alloc(), &parts)?;
     let told = has_output(rt.alloc(), script.as_str(), "! config 2\n! config 3\n")?;

@@ -1,7 +1,6 @@
 use crate::scripts::{
-    NOTHING_FOUND, REQUEST, Row, assert_holds, assert_outputs, has_output, joined,
+    NOTHING_FOUND, REQUEST, Row, assert_holds, assert_outputs, has_output, joined, long_block,
 };
-use std::alloc::Global;
 use std::test::Fail;
 
 // A template of printers, which have to tell whether they print in color.
@@ -119,21 +118,9 @@ fn what_stands_conforms(rt: HostRuntime) -> Result<(), Fail> {
     assert_outputs(&rt, rt.alloc(), &ROWS)
 }
 
-// A block of the longest lines that a template may have, which is not closed.
-fn long_block(alloc: Global) -> Result<String, Fail> {
-    let mut block = String::from_str(alloc, "template\n")?;
-    for _ in 0..8 {
-        for _ in 0..131_071 {
-            block.push('#')?;
-        }
-        block.push('\n')?;
-    }
-    Ok(block)
-}
-
 #[test]
 fn a_long_template_does_not_fit(rt: HostRuntime) -> Result<(), Fail> {
-    let block = long_block(rt.alloc())?;
+    let block = long_block(rt.alloc(), "template\n")?;
     let parts = [block.as_str(), ".\n", block.as_str(), "\n.\n"];
     let script = joined(rt.alloc(), &parts)?;
     let told = has_output(rt.alloc(), script.as_str(), "! template 1\n! template 1\n")?;

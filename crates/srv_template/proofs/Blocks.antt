@@ -3,25 +3,17 @@ use Rattle.std.proofs.Common.{◌≡◌, ◌≤◌, ℕ, Bool, true, false, cond
 use Rattle.std.specs.Prelude.{not, ◌||◌}
 use Rattle.std.proofs.lemmas.Bool.{true≢false}
 use Rattle.std.specs.Option.{option_map_or}
-use Rattle.std.specs.List.{list_any}
+use Rattle.std.proofs.lemmas.List.Folds.{list_any-append}
 use Rattle.slp_text.specs.Words.{bytes_eq, is_blank}
-use Rattle.srv_template.specs.Reading.{after_blanks, blocks_from, blocks_of, definition_at, definitions_from, from_blank, is_defined, to_blank}
+use Rattle.srv_template.specs.Reading.{after_blanks, blocks_of, definition_at, definitions_from, from_blank, is_defined, to_blank}
 use Rattle.srv_template.specs.declared.definition.Definition.{Definition}
 use Rattle.attr_list.proofs.CutTexts.{by_test}
+use Rattle.srv_template.proofs.BlankLines.{block_at}
 
 -- blank lines begin no block
 pub blocks_of-after : (ls : List (List ℕ)) → blocks_of (after_blanks ls) ≡ blocks_of ls
 blocks_of-after [] = refl
 blocks_of-after (l ∷ ls) = by_test (is_blank l) (λ t. rw t (blocks_of-after ls)) (λ f. ap blocks_of (ap (λ b. cond b (after_blanks ls) (l ∷ ls)) f))
-
--- nor do lines inside of one
-inside_block : (ls : List (List ℕ)) → blocks_from true ls ≡ blocks_of (from_blank ls)
-inside_block [] = refl
-inside_block (l ∷ ls) = by_test (is_blank l)
-    (λ t. ap (λ b. cond b (blocks_of ls) (blocks_from true ls)) t
-    ∙ sym (ap (λ b. cond b (blocks_of ls) (record { block = l ∷ to_blank ls; left = length (l ∷ ls) } ∷ blocks_from true ls)) t)
-    ∙ sym (ap blocks_of (ap (λ b. cond b (l ∷ ls) (from_blank ls)) t)))
-    (λ f. ap (λ b. cond b (blocks_of ls) (blocks_from true ls)) f ∙ inside_block ls ∙ sym (ap blocks_of (ap (λ b. cond b (l ∷ ls) (from_blank ls)) f)))
 
 pub after_blanks-twice : (ls : List (List ℕ)) → after_blanks (after_blanks ls) ≡ after_blanks ls
 after_blanks-twice [] = refl
@@ -41,7 +33,7 @@ first-filled l ls h = by_test (is_blank l) (λ t. absurd (omega (arith, after_bl
 
 module _ (first : List ℕ) (more : List (List ℕ)) (filled : is_blank first ≡ false) (ds : List Definition) where
   first_block : blocks_of (first ∷ more) ≡ record { block = first ∷ to_blank more; left = length (first ∷ more) } ∷ blocks_of (after_blanks (from_blank more))
-  first_block = rw filled (ap (λ bs. record { block = first ∷ to_blank more; left = length (first ∷ more) } ∷ bs) (inside_block more ∙ sym (blocks_of-after (from_blank more))))
+  first_block = block_at first more filled ∙ ap (λ bs. record { block = first ∷ to_blank more; left = length (first ∷ more) } ∷ bs) (sym (blocks_of-after (from_blank more)))
 
   -- what a definition, if it is one, comes to
   abbrev read_on : Option Definition → Result (List Definition) ℕ
@@ -62,17 +54,14 @@ module _ (first : List ℕ) (more : List (List ℕ)) (filled : is_blank first �
 
 -- ---- the tags of definitions
 
-either : (a b c : Bool) → (a || cond b true c) ≡ cond b true (a || c)
-either true true c = refl
-either true false c = refl
-either false b c = refl
-
-list_any-push : {A : Type 0} (p : A → Bool) (xs : List A) (x : A) → list_any p (xs ++ x ∷ []) ≡ cond (p x) true (list_any p xs)
-list_any-push p [] x = by_test (p x) (λ t. rw t refl) (λ f. rw f refl)
-list_any-push p (y ∷ xs) x = ap (λ b. p y || b) (list_any-push p xs x) ∙ either (p y) (p x) (list_any p xs)
+either : (a b : Bool) → (a || (b || false)) ≡ cond b true a
+either true true = refl
+either true false = refl
+either false true = refl
+either false false = refl
 
 pub is_defined-push : (ds : List Definition) (d : Definition) (tag : List ℕ) → is_defined (ds ++ d ∷ []) tag ≡ cond (bytes_eq d.tag tag) true (is_defined ds tag)
-is_defined-push ds d tag = list_any-push (λ d. bytes_eq d.tag tag) ds d
+is_defined-push ds d tag = list_any-append (λ d. bytes_eq d.tag tag) ds (d ∷ []) ∙ either (is_defined ds tag) (bytes_eq d.tag tag)
 
 pub not_false : (b : Bool) → not b ≡ false → b ≡ true
 not_false true h = refl

@@ -8,6 +8,7 @@ use Rattle.slp_text.specs.Words.{is_blank}
 use Rattle.srv_template.specs.Reading.{after_blanks, at_line, blocks_from, blocks_of, definition_in, definitions_after, definitions_from, description_word, from_blank, is_defined, longest_text, part_at, part_in, syntax_word, template_in, template_of_lines, to_blank, type_in, value_after, version_word, Block}
 use Rattle.srv_template.specs.declared.definition.Definition.{Definition}
 use Rattle.srv_template.specs.declared.fault.ParseFault.TheVariants.{Line}
+use Rattle.srv_template.proofs.Blocks.{after_blanks-shorter, from_blank-shorter}
 
 -- a fault at which at most so many lines are left
 abbrev Within : {A : Type 0} → ℕ → Result A ℕ → Type 0
@@ -19,18 +20,6 @@ abbrev IsWithin : {A : Type 0} → ℕ → Result (A × List (List ℕ)) ℕ →
 IsWithin n (Ok p) = length p.1 ≤ n
 IsWithin n (Err left) = left ≤ n
 
-after_blanks-fewer : (ls : List (List ℕ)) → length (after_blanks ls) ≤ length ls
-after_blanks-fewer [] = omega arith
-after_blanks-fewer (l ∷ ls) =
-    let fewer = after_blanks-fewer ls in
-    elim (is_blank l) as (λ b. length (cond b (after_blanks ls) (l ∷ ls)) ≤ length (l ∷ ls)) [ true ↦ omega arith | false ↦ omega arith ]
-
-from_blank-fewer : (ls : List (List ℕ)) → length (from_blank ls) ≤ length ls
-from_blank-fewer [] = omega arith
-from_blank-fewer (l ∷ ls) =
-    let fewer = from_blank-fewer ls in
-    elim (is_blank l) as (λ b. length (cond b (l ∷ ls) (from_blank ls)) ≤ length (l ∷ ls)) [ true ↦ omega arith | false ↦ omega arith ]
-
 -- ---- parts
 
 part_at-within : {A : Type 0} (f : List ℕ → Option A) (ls : List (List ℕ)) (n : ℕ) → length ls ≤ n → IsWithin n (part_at f ls)
@@ -38,7 +27,7 @@ part_at-within f [] n h = omega arith
 part_at-within f (l ∷ ls) n h = elim (f l) as (λ o. IsWithin n (option_map_or (λ x. Ok (x, ls)) o (Err (length (l ∷ ls))))) [ Some x ↦ omega arith | None ↦ h ]
 
 part_in-within : {A : Type 0} (f : List ℕ → Option A) (ls : List (List ℕ)) (n : ℕ) → length ls ≤ n → IsWithin n (part_in f ls)
-part_in-within f ls n h = let fewer = after_blanks-fewer ls in part_at-within f (after_blanks ls) n (omega arith)
+part_in-within f ls n h = let fewer = after_blanks-shorter ls in part_at-within f (after_blanks ls) n (omega arith)
 
 then_within : {A B : Type 0} (g : A × List (List ℕ) → Result B ℕ) (r : Result (A × List (List ℕ)) ℕ) (n : ℕ)
     → ((p : A × List (List ℕ)) → length p.1 ≤ n → Within n (g p)) → IsWithin n r → Within n (read_then g r)
@@ -82,8 +71,8 @@ after-within ls n h =
     then_within _ _ n
     (λ version v. then_within _ _ n
     (λ description d. then_within _ _ n
-    (λ syntax s. let fewer = from_blank-fewer syntax.1 in definitions-within [] (blocks_of (from_blank syntax.1)) n (blocks-within false (from_blank syntax.1) n (omega arith)))
-    (let fewer = from_blank-fewer description.1 in part_in-within (value_after syntax_word) (from_blank description.1) n (omega arith)))
+    (λ syntax s. let fewer = from_blank-shorter syntax.1 in definitions-within [] (blocks_of (from_blank syntax.1)) n (blocks-within false (from_blank syntax.1) n (omega arith)))
+    (let fewer = from_blank-shorter description.1 in part_in-within (value_after syntax_word) (from_blank description.1) n (omega arith)))
     (part_in-within (value_after description_word) version.1 n v))
     (part_in-within (value_after version_word) ls n h)
 
