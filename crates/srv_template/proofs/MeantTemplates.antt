@@ -1,10 +1,9 @@
 -- A text means the template that its lines are read as, and no other.
-use Rattle.std.proofs.Common.{◌≡◌, ℕ, ◌≤◌, Bool, true, false, cond, List, [], ◌∷◌, ◌++◌, Option, Some, None, Result, Ok, Err, refl, sym, ap, subst, ◌∙◌, append-nil, append_assoc, arith, length, nat_lt}
+use Rattle.std.proofs.Common.{◌≡◌, ℕ, ◌≤◌, Bool, true, false, cond, List, [], ◌∷◌, ◌++◌, Option, Some, None, Result, Ok, Err, refl, sym, ap, subst, ◌∙◌, append-nil, append_assoc, length}
 use Rattle.std.specs.Prelude.{◌↔◌, ◌||◌}
 use Rattle.std.specs.List.{AllByRecursion}
 use Rattle.std.specs.Option.{option_map_or}
 use Rattle.std.specs.Str.Lines.{lines}
-use Rattle.std.proofs.lemmas.Bool.Decides.{nat_tests}
 use Rattle.std.proofs.lemmas.List.Folds.{list_any-append}
 use Rattle.slp_text.specs.Reading.{read_map, read_then}
 use Rattle.slp_text.specs.Words.{bytes_eq, is_blank}
@@ -14,7 +13,7 @@ use Rattle.srv_template.specs.Meaning.{AreBlank, AreFilled, AreOfOwnTags, Begins
 use Rattle.srv_template.specs.Reading.{after_blanks, at_line, blocks_from, blocks_of, definition_in, definitions_after, definitions_from, description_word, from_blank, is_defined, longest_text, part_at, part_in, syntax_word, template_in, template_of_lines, to_blank, type_in, value_after, version_word}
 use Rattle.srv_template.specs.Templates.{Template}
 use Rattle.srv_template.specs.declared.definition.Definition.{Definition}
-use Rattle.srv_template.specs.declared.fault.ParseFault.TheVariants.{Line}
+use Rattle.srv_template.proofs.ParsedTemplates.{parsed-lines}
 use Rattle.srv_template.proofs.BlankLines.{blanks_before, first_block, from_filled, no_blocks, parted, to_line}
 
 -- ---- parts
@@ -233,15 +232,8 @@ at_line-ok : {A : Type 0} (n : ℕ) (r : Result A ℕ) (x : A) → at_line n r �
 at_line-ok n (Ok y) x e = cc
 at_line-ok n (Err left) x e = absurd (cc)
 
-short : (n most : ℕ) → n ≤ most → nat_lt most n ≡ false
-short n most h = grind (arith, nat_tests)
-
-read_short : (text : List ℕ) → length text ≤ longest_text → template_in text ≡ at_line (length (lines text)) (template_of_lines (lines text))
-unfolding template_in
-read_short text h = ap (λ b. cond b (Err (Line 1)) (at_line (length (lines text)) (template_of_lines (lines text)))) (short (length text) longest_text h)
-
 pub meaning : (text : List ℕ) (t : Template) → length text ≤ longest_text → Means text t ↔ (template_in text ≡ Ok t)
 meaning text t h = (
-  (λ m. read_short text h ∙ ap (at_line (length (lines text))) (means-read text t m)),
-  (λ e. read-means text t (at_line-ok (length (lines text)) (template_of_lines (lines text)) t (sym (read_short text h) ∙ e))),
+  (λ m. parsed-lines text (lines text) h refl ∙ ap (at_line (length (lines text))) (means-read text t m)),
+  (λ e. read-means text t (at_line-ok (length (lines text)) (template_of_lines (lines text)) t (sym (parsed-lines text (lines text) h refl) ∙ e))),
 )

@@ -62,9 +62,13 @@ type_in line = option_and_then (λ cs. result_ok (service_by (folded_text cs))) 
 
 -- ---- the first line of a definition
 
--- `#` comes first, after white space
+-- `b'#'`
+abbrev pub number_sign : ℕ
+number_sign = 35
+
+-- it comes first, after white space
 abbrev pub is_help : List ℕ → Bool
-is_help line = is_some (rest_after (λ c. c == 35) (trim_start (chars line)))
+is_help line = is_some (rest_after (λ c. c == number_sign) (trim_start (chars line)))
 
 abbrev pub is_space : ℕ → Bool
 is_space b = b == space

@@ -9,7 +9,7 @@ ghost use Rattle.slp_text.specs.Keys as keys;
 ghost use Rattle.srv_template.specs.Conformity.{takes};
 ghost use Rattle.srv_template.specs.Joining.{joined_with};
 ghost use Rattle.srv_template.specs.Reading as spec;
-ghost use Rattle.srv_template.specs.Reading.{before_help, from_help, spoken, values_in};
+ghost use Rattle.srv_template.specs.Reading.{before_help, from_help, number_sign, spoken, values_in};
 ghost use Rattle.srv_template.specs.Stops.{texts_of};
 
 use crate::definition::ValueKind;
@@ -20,7 +20,7 @@ use std::alloc::Global;
 
 // What comes after the `#` with which a line begins, after white space.
 fn help_in(line: &str) -> Option<&str>
-    ensures { rest_of result ≡ rest_after (λ c. c == 35) (keys.trim_start (chars line.now)) }
+    ensures { rest_of result ≡ rest_after (λ c. c == number_sign) (keys.trim_start (chars line.now)) }
 {
     trim_start(line).strip_prefix('#')
 }
