@@ -5,8 +5,8 @@ use crate::registries::one_scope;
 use access_rules::Addr;
 use directory_judge::{Change, Decider, Judged, Site, judge_on, read_kind, read_scopes};
 use slp_text::NoMemory;
-use srv_template::Templates;
 use slp_wire::{Message, decode};
+use srv_template::Templates;
 use std::alloc::Global;
 use std::sync::Arc;
 use std::test::Fail;
@@ -22,7 +22,12 @@ fn is_kept(site: &Site) -> bool {
 #[test]
 fn a_site_keeps_what_it_is_made_of(rt: HostRuntime) -> Result<(), Fail> {
     let scopes = one_scope(rt.alloc(), "Default")?;
-    let site = Site::new(scopes, 16, Arc::new(rt.alloc(), Templates::new(rt.alloc()))?, 7);
+    let site = Site::new(
+        scopes,
+        16,
+        Arc::new(rt.alloc(), Templates::new(rt.alloc()))?,
+        7,
+    );
     let copied = site.copy(rt.alloc())?;
     assert_holds(&rt, is_kept(&site) && is_kept(&copied), "a site");
     Ok(())
