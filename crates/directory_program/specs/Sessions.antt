@@ -1,6 +1,5 @@
 -- Which history an agent and a session stand for, and what a datagram does to it.
-use Rattle.std.specs.Prelude.{◌≡◌, ℕ, List, [], ◌∷◌, ◌++◌, codes, Option, MatchOption, Result, Ok, Err}
-use Rattle.std.specs.Fmt.{decimal}
+use Rattle.std.specs.Prelude.{◌≡◌, ℕ, List, ◌++◌, Option, MatchOption, Result, Ok, Err}
 use Rattle.access_rules.specs.Opening.{opening_rules}
 use Rattle.slp_headers.specs.Headers.{heading_of}
 use Rattle.directory_judge.specs.History.{Event}
@@ -14,14 +13,13 @@ use Rattle.slp_answer.specs.declared.answer.Sent.{Sent}
 use Rattle.slp_stream.specs.Cutting.{front_of, IsCut}
 use Rattle.slp_stream.specs.Framing.{Frames}
 use Rattle.slp_script.specs.Commands.{Command}
-use Rattle.directory_program.specs.Worlds.{World, opening_of, call_of, Answers, AnswersAll, Pieces, Does, closed_text, fault_number, added_text, configured_world, template_fault_text, templated_world, end_text, end_refused, longest_on_stream, config_fault_text, configured_text}
+use Rattle.directory_program.specs.Worlds.{World, opening_of, call_of, Answers, AnswersAll, Pieces, Does, closed_text, added_text, configured_world, template_fault_text, templated_world, end_text, end_refused, longest_on_stream, config_fault_text, configured_text}
 use Rattle.srv_template.specs.Conformity.{SiteTemplates}
 use Rattle.srv_template.specs.declared.fault.ParseFault.{ParseFault}
 use Rattle.site_config.specs.declared.config.Config.{Config}
 use Rattle.site_config.specs.declared.fault.ConfigFault.{ConfigFault}
 use Rattle.directory_program.specs.declared.agent.Agent.{Agent}
 use Rattle.directory_program.specs.declared.session.Session.{Session}
-use Rattle.slp_text.specs.Ascii.{line_feed}
 
 -- the agent is one to which this happened
 pub record IsAgent (w : World) (a : Agent) : Type 0 where

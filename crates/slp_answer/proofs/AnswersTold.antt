@@ -2,7 +2,6 @@
 use Rattle.std.proofs.Common.{◌≡◌, ℕ, suc, arith, Bool, true, false, cond, List, [], ◌∷◌, length, Option, Some, None, Result, Ok, Err, refl, sym, ap, ap₂, subst, ◌∙◌, inl, inr}
 use Rattle.std.specs.Prelude.{◌==◌, ◌&&◌, ◌||◌, ◌+◌, ◌/◌, ◌%◌, ◌++◌, ◌↔◌, not, IsErrOf}
 use Rattle.std.specs.Fmt.{decimal}
-use Rattle.std.specs.Result.{result_ok}
 use Rattle.std.specs.List.{list_any}
 use Rattle.std.proofs.lemmas.Option.{none-some}
 use Rattle.slp_headers.specs.Headers.{Heading, heading_of}
@@ -17,11 +16,9 @@ use Rattle.slp_wire.specs.Spelling.{plain_bytes}
 use Rattle.slp_messages.specs.declared.message.UrlEntry.{UrlEntry}
 use Rattle.access_rules.specs.Deciding.{SiteRules}
 use Rattle.slp_text.specs.Ascii.{dot}
-use Rattle.slp_text.specs.Scopes.{scopes_of}
-use Rattle.slp_text.specs.Words.{bytes_eq, is_blank}
-use Rattle.service_url.specs.Types.{type_of}
+use Rattle.slp_text.specs.Words.{bytes_eq}
 use Rattle.directory_judge.specs.History.{History, Event, now}
-use Rattle.directory_judge.specs.Judgements.{Judgement, IsChange, by_step, is_agent, change_of, supports, finding_in}
+use Rattle.directory_judge.specs.Judgements.{Judgement, IsChange, by_step, change_of, supports, finding_in}
 use Rattle.directory_judge.specs.declared.reason.Decider.TheVariants as decider
 use Rattle.directory_judge.specs.Meaning.{rules}
 use Rattle.directory_judge.specs.Sites.{Site}
@@ -33,13 +30,13 @@ use Rattle.directory_judge.specs.declared.judgement.Judged.TheVariants as judged
 use Rattle.directory_answers.specs.Answers.{Sense, Settled, Lists, IsListed, language_outcome, sense_under, sense_of_message, sense_of_question, IsAnswerTo, IsAnswer}
 use Rattle.directory_answers.specs.Calls.{Opening, Call}
 use Rattle.directory_answers.specs.Outcomes.{Outcome, silence, outcome, sent_of, code_outcome, fault_outcome, acknowledgement_of}
-use Rattle.directory_answers.specs.Questions.{has_answered, question_of, question_as}
+use Rattle.directory_answers.specs.Questions.{has_answered, question_of}
 use Rattle.directory_answers.specs.Items.{IsForeign, IsOpenNow, AreServices}
 use Rattle.directory_answers.specs.declared.query.QueryFault.{QueryFault}
 use Rattle.directory_answers.specs.declared.query.QueryFault.TheVariants as query_fault
 use Rattle.directory_answers.specs.declared.query.ServiceQuery.{ServiceQuery}
 use Rattle.directory_answers.specs.declared.question.Question.{Question}
-use Rattle.directory_answers.specs.declared.question.Question.TheVariants.{Silent, Asks}
+use Rattle.directory_answers.specs.declared.question.Question.TheVariants.{Asks}
 use Rattle.directory_answers.specs.Readings.{may_change, request_of, IsAsked}
 use Rattle.directory_answers.specs.Verdicts.{IsLegal, IsVerdict, change_in, history_with}
 use Rattle.directory_judge.specs.Contents.{content}
