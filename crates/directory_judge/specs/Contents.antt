@@ -23,6 +23,7 @@ content (change.Put placed) = Stores placed.moment (arc_value placed.entry)
 content (change.Edit placed) = Edits placed.moment (arc_value placed.entry)
 content (change.Withdraw moment w) = Withdraws moment (record { url = (arc_value w).url; scopes = (arc_value w).scopes })
 content (change.Sweep moment) = Sweeps moment
+content (change.Reload moment rules) = Reloads moment (arc_value rules)
 
 -- the entry that a registration founds at a moment
 abbrev pub entry_of : ℕ → Putting → Entry

@@ -1,9 +1,10 @@
 ghost use Rattle.std.specs.Prelude.{◌<◌, ◌≤◌, length};
 ghost use Rattle.std.specs.Arc.{arc_value};
 
+use access_rules::Rules;
 use registry_core::Entry;
 use service_url::Url;
-use slp_text::ScopeList;
+use slp_text::{NoMemory, ScopeList};
 use std::sync::Arc;
 
 /// An entry of 1 to 16 scopes, as a change leaves it, and the moment of that in seconds.
@@ -31,4 +32,45 @@ pub enum Change {
     Edit(Placed),
     Withdraw(u32, Arc<Withdrawn>),
     Sweep(u32),
+    /// From now on these rules decide.
+    Reload(u32, Arc<Rules>),
+}
+
+impl Placed {
+    ghost use Rattle.std.specs.Prelude.{◌≡◌, IfOk};
+
+    fn share(&self) -> Result<Placed, NoMemory>
+        ensures moment { IfOk result (λ p. p.moment ≡ self.now.moment) }
+        ensures entry { IfOk result (λ p. arc_value p.entry ≡ arc_value self.now.entry) }
+    {
+        let entry = Arc::try_clone(&self.entry)?;
+        Ok(Placed {
+            moment: self.moment,
+            entry,
+        })
+    }
+}
+
+impl Change {
+    ghost use Rattle.std.specs.Prelude.{◌≡◌, IfOk};
+    ghost use Rattle.directory_judge.specs.Contents.{content};
+
+    /// The same change once more: what it holds is shared, and not copied.
+    pub fn share(&self) -> Result<Change, NoMemory>
+        ensures { IfOk result (λ c. content c ≡ content self.now) }
+    {
+        match self {
+            Change::Put(placed) => Ok(Change::Put(placed.share()?)),
+            Change::Edit(placed) => Ok(Change::Edit(placed.share()?)),
+            Change::Withdraw(moment, withdrawn) => {
+                let withdrawn = Arc::try_clone(withdrawn)?;
+                Ok(Change::Withdraw(*moment, withdrawn))
+            }
+            Change::Sweep(moment) => Ok(Change::Sweep(*moment)),
+            Change::Reload(moment, rules) => {
+                let rules = Arc::try_clone(rules)?;
+                Ok(Change::Reload(*moment, rules))
+            }
+        }
+    }
 }

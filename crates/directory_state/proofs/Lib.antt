@@ -11,6 +11,7 @@ pub mod Languages
 pub mod LegalHistories
 pub mod Lifetimes
 pub mod Outcomes
+pub mod Reloads
 pub mod Rows
 pub mod SameAnswers
 pub mod SearchAnswers

@@ -1,4 +1,4 @@
--- What is told at histories that differ by a sweep, or by what is not open.
+-- What is told at histories that differ by a sweep, by reloads, or by what is not open.
 use Rattle.std.proofs.Common.{◌≡◌, ℕ, ◌≤◌, true, false, cond, List, ◌∷◌, Option, Some, None, Result, Ok, Err, refl, sym, ap, ap₂, subst, ◌∙◌, arith, inl, inr}
 use Rattle.std.specs.Prelude.{◌↔◌, ◌==◌, length}
 use Rattle.std.specs.List.{list_any}
@@ -13,7 +13,8 @@ use Rattle.slp_wire.specs.Spelling.{plain_bytes}
 use Rattle.slp_wire.proofs.Messages.{is_found}
 use Rattle.registry_core.specs.declared.entry.Entry.{Entry}
 use Rattle.directory_judge.specs.History.{History, Event, Sweep, clock, now}
-use Rattle.directory_judge.specs.Judgements.{by_step, code_by, supports}
+use Rattle.directory_judge.specs.Judgements.{Judgement, by_step, code_by, supports}
+use Rattle.directory_judge.specs.Meaning.{rules}
 use Rattle.directory_judge.specs.declared.reason.Decider.TheVariants as decider
 use Rattle.directory_judge.specs.Sites.{Site}
 use Rattle.directory_answers.specs.Answers.{is_change_of, Sense, Settled, Lists, Changes, sense_of, sense_under, sense_of_message, sense_of_question, IsServiceAnswer, IsListed, IsAnswerTo, IsAnswer, scopes_in, IsOpenTo}
@@ -23,13 +24,15 @@ use Rattle.directory_answers.specs.Cuts.{IsCut, services_with}
 use Rattle.directory_answers.specs.Outcomes.{Outcome, silence, outcome, sent_of, code_outcome, acknowledgement_of}
 use Rattle.directory_answers.specs.Questions.{has_answered, question_of}
 use Rattle.directory_answers.specs.Readings.{may_change}
-use Rattle.directory_answers.specs.Verdicts.{IsLegal, change_in, history_with}
+use Rattle.directory_answers.specs.Verdicts.{IsLegal, IsVerdict, change_in, history_with}
 use Rattle.directory_answers.specs.declared.query.ServiceQuery.{ServiceQuery}
 use Rattle.directory_answers.specs.declared.question.Question.{Question}
 use Rattle.directory_answers.specs.declared.question.Question.TheVariants.{Silent, Unreadable, Asks}
 use Rattle.directory_answers.proofs.Readings.{is_read}
 use Rattle.directory_state.proofs.Histories.{legal_next, one_verdict, Live-sweep, verdict-sweep, same_entries}
+use Rattle.directory_state.proofs.Reloads.{now-alike, verdict-alike, IsOpenNow-alike}
 use Rattle.directory_state.proofs.SameAnswers.{same_items}
+use Rattle.directory_state.specs.Reloads.{without_reloads}
 
 true_false : true ≡ false → ⊥
 true_false h = cc
@@ -156,6 +159,24 @@ listed-once P Q n k limit h q r s same alike a b = elim a [
   ]
 ]
 
+-- what is seen alike and judged alike is told alike
+alike_by : (o p : Opening) (g h : History) (c : Call) (sense : Sense) (r : Outcome) (change : Option Event) → now g c.moment ≡ now h c.moment
+    → ((scopes : List (List ℕ)) (e : Entry) → IsOpenNow o g c.moment c.asker scopes e ↔ IsOpenNow p h c.moment c.asker scopes e)
+    → ((m : Message) (v : Judgement) → IsVerdict o g c.moment c.asker m v ↔ IsVerdict p h c.moment c.asker m v)
+    → IsAnswerTo o g c sense r change ↔ IsAnswerTo p h c sense r change
+alike_by o p g h c (Settled it) r change at seen judged = (λ is. is, λ is. is)
+alike_by o p g h c (Lists k q) r change at seen judged =
+    let P = IsOpenNow o g c.moment c.asker q.scopes in
+    let Q = IsOpenNow p h c.moment c.asker q.scopes in
+    let to : (e : Entry) → P e ↔ Q e = seen q.scopes in (
+      (λ is. (listed-carried P Q to q (now g c.moment) (now h c.moment) c.limit k r at is.0, is.1)),
+      (λ is. (listed-carried Q P (flipped P Q to) q (now h c.moment) (now g c.moment) c.limit k r (sym at) is.0, is.1)),
+    )
+alike_by o p g h c (Changes k m) r change at seen judged = (
+  (λ is. (is.0, (judged m is.0).0 is.1, is.2, is.3)),
+  (λ is. (is.0, (judged m is.0).1 is.1, is.2, is.3)),
+)
+
 -- ---- a sweep
 
 IsOpenNow-sweep : (o : Opening) (h : History) (s m asker : ℕ) (scopes : List (List ℕ)) (e : Entry) → s ≤ m
@@ -165,27 +186,24 @@ IsOpenNow-sweep o h s m asker scopes e le = (
   (λ a. record { live = (Live-sweep h s m e le).1 a.live; open_to = a.open_to }),
 )
 
-sweep_by : (o : Opening) (h : History) (s : ℕ) (c : Call) (sense : Sense) (r : Outcome) (change : Option Event) → s ≤ c.moment
-    → IsAnswerTo o (record { moment = s; act = Sweep } ∷ h) c sense r change ↔ IsAnswerTo o h c sense r change
-sweep_by o h s c (Settled it) r change le = (λ is. is, λ is. is)
-sweep_by o h s c (Lists k q) r change le =
-    let swept : History = record { moment = s; act = Sweep } ∷ h in
-    let P = IsOpenNow o swept c.moment c.asker q.scopes in
-    let Q = IsOpenNow o h c.moment c.asker q.scopes in
-    let to : (e : Entry) → P e ↔ Q e = λ e. IsOpenNow-sweep o h s c.moment c.asker q.scopes e le in
-    let at : now swept c.moment ≡ now h c.moment = omega (arith, le) in (
-      (λ is. (listed-carried P Q to q (now swept c.moment) (now h c.moment) c.limit k r at is.0, is.1)),
-      (λ is. (listed-carried Q P (flipped P Q to) q (now h c.moment) (now swept c.moment) c.limit k r (sym at) is.0, is.1)),
-    )
-sweep_by o h s c (Changes k m) r change le = (
-  (λ is. (is.0, (verdict-sweep o h s c.moment c.asker m is.0 le).0 is.1, is.2, is.3)),
-  (λ is. (is.0, (verdict-sweep o h s c.moment c.asker m is.0 le).1 is.1, is.2, is.3)),
-)
-
 pub sweep-told : (o : Opening) (h : History) (s : ℕ) (c : Call) (r : Outcome) (change : Option Event) → s ≤ c.moment
     → IsAnswer o (record { moment = s; act = Sweep } ∷ h) c r change ↔ IsAnswer o h c r change
 unfolding IsAnswer
-sweep-told o h s c r change le = sweep_by o h s c (sense_of o.site c) r change le
+sweep-told o h s c r change le =
+    alike_by o o (record { moment = s; act = Sweep } ∷ h) h c (sense_of o.site c) r change (omega (arith, le))
+    (λ scopes e. IsOpenNow-sweep o h s c.moment c.asker scopes e le)
+    (λ m v. verdict-sweep o h s c.moment c.asker m v le)
+
+-- ---- a reload
+
+-- reloads are seen in the rules alone
+pub reload-told : (o : Opening) (h : History) (c : Call) (r : Outcome) (change : Option Event)
+    → IsAnswer (record o { rules = rules o.rules h }) (without_reloads h) c r change ↔ IsAnswer o h c r change
+unfolding IsAnswer
+reload-told o h c r change =
+    alike_by (record o { rules = rules o.rules h }) o (without_reloads h) h c (sense_of o.site c) r change (now-alike h c.moment)
+    (λ scopes e. IsOpenNow-alike o h c.moment c.asker scopes e)
+    (λ m v. verdict-alike o h c.moment c.asker m v)
 
 -- ---- what is not open
 

@@ -170,6 +170,11 @@ impl<R: Registry> Directory<R> {
                 self.clock = self.now(moment);
                 self.registry.sweep(u64::from(moment));
             }
+            Change::Reload(moment, rules) => {
+                self.clock = self.now(moment);
+                self.registry.sweep(u64::from(moment));
+                self.rules = rules;
+            }
         }
     }
 
