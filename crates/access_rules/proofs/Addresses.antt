@@ -1,12 +1,12 @@
 -- Addresses of four numbers with dots between them.
 use Rattle.std.proofs.Common.{◌≡◌, ◌≢◌, ℕ, ◌+◌, ◌-◌, ◌*◌, ◌^◌, true, false, cond, List, [], ◌∷◌, ◌++◌, map, Option, Some, None, refl, sym, ap, ◌∙◌, ◌⊎◌, inl, inr, nat_lt}
-use Rattle.std.specs.Prelude.{Bool, ◌&&◌, ◌==◌, nat_le}
-use Rattle.std.specs.Option.{option_and_then}
+use Rattle.std.specs.Prelude.{Bool, ◌&&◌, ◌==◌}
+use Rattle.std.specs.Option.{option_and_then, option_map}
 use Rattle.std.specs.List.{slice_split, onto_first}
 use Rattle.std.proofs.lemmas.Bool.Decides.{eqb_tells}
 use Rattle.slp_text.specs.Ascii.{colon, digit_zero, dot, is_digit}
 use Rattle.slp_text.specs.Words.{Lacks}
-use Rattle.access_rules.specs.Addresses.{number_from, number_of, within_octet, octet_of, address_in, is_dot, address_of, within_port, is_colon, both_of, socket_in, socket_of}
+use Rattle.access_rules.specs.Addresses.{number_from, number_of, within_octet, octet_of, address_in, is_dot, address_of, within_port, both_of, address_and, port_of, socket_of, slash, within_bits, bits_of, prefix_with, prefix_of}
 
 -- ---- texts that are cut at a byte
 not_byte : (x byte : ℕ) → x ≢ byte → (x == byte) ≡ false
@@ -49,12 +49,16 @@ pub number_of-lacks : (byte : ℕ) (d : List ℕ) (n : ℕ) → IsNoDigit byte �
 number_of-lacks byte [] n other h = tt
 number_of-lacks byte (x ∷ xs) n other h = number_from-lacks byte 0 (x ∷ xs) n other h
 
-octet_of-lacks : (d : List ℕ) (n : ℕ) → octet_of d ≡ Some n → Lacks dot d
-octet_of-lacks d n h =
-    elim (number_of d) as (λ o. number_of d ≡ o → option_and_then within_octet o ≡ Some n → Lacks dot d) [
-      | Some m ↦ λ e k. number_of-lacks dot d m (λ b. refl) e
+-- nor has one within a bound
+pub bounded-lacks : (byte : ℕ) (within : ℕ → Option ℕ) (d : List ℕ) (n : ℕ) → IsNoDigit byte → option_and_then within (number_of d) ≡ Some n → Lacks byte d
+bounded-lacks byte within d n other h =
+    elim (number_of d) as (λ o. number_of d ≡ o → option_and_then within o ≡ Some n → Lacks byte d) [
+      | Some m ↦ λ e k. number_of-lacks byte d m other e
       | None ↦ λ e k. absurd cc
     ] refl h
+
+octet_of-lacks : (d : List ℕ) (n : ℕ) → octet_of d ≡ Some n → Lacks dot d
+octet_of-lacks d n h = bounded-lacks dot within_octet d n (λ b. refl) h
 
 -- a text is one part, or has two
 pub parts : (p : ℕ → Bool) (d : List ℕ) → (slice_split p d ≡ d ∷ []) ⊎ ((f g : List ℕ) × (rest : List (List ℕ)) × (slice_split p d ≡ f ∷ g ∷ rest))
@@ -135,32 +139,53 @@ address-four text a rest b more c d f g h =
     ap (λ t. address_in (map octet_of t)) (split-cut_2 text a rest b more f g ∙ ap (λ t. a ∷ b ∷ t) (split-cut more c d h))
     ∙ last-octet (octet_of a) (octet_of b) (octet_of c) d
 
--- ---- an address with a port
+-- ---- an address with a part after it
 unpaired : (o : Option ℕ) → both_of {A = ℕ} {B = ℕ} o None ≡ None
 unpaired None = refl
 unpaired (Some a) = refl
 
-pub no_colon : (text : List ℕ) → Lacks colon text → socket_of text ≡ None
-no_colon text h = rw (split-none colon text h) refl
-
-socket_at : (host digits : List ℕ) → Lacks colon host → socket_of (host ++ colon ∷ digits) ≡ both_of (address_of host) (option_and_then within_port (number_of digits))
-socket_at host digits h =
-    ap socket_in (split-at colon host digits h) ∙ elim (parts is_colon digits) [
-      | inl e ↦ ap (λ t. socket_in (host ∷ t)) e
-      | inr t ↦ elim (number_of digits) as (λ o. number_of digits ≡ o → socket_in (host ∷ slice_split is_colon digits) ≡ both_of (address_of host) (option_and_then within_port o)) [
-        | Some n ↦ λ is. let one = split-none colon digits (number_of-lacks colon digits n (λ b. refl) is) in absurd (let e : digits ∷ [] ≡ t.0 ∷ t.1 ∷ t.2 = sym one ∙ t.3 in cc)
-        | None ↦ λ is. ap (λ u. socket_in (host ∷ u)) t.3 ∙ sym (unpaired (address_of host))
+-- a text that is cut at its first byte of a value, where what is read of the part after it has no such byte
+cut-read : (byte : ℕ) (second : List ℕ → Option ℕ) (text host digits : List ℕ) → ((d : List ℕ) (n : ℕ) → second d ≡ Some n → Lacks byte d) → text ≡ host ++ byte ∷ digits → Lacks byte host
+    → address_and second (slice_split (λ x. x == byte) text) ≡ both_of (address_of host) (second digits)
+cut-read byte second text host digits lacks all h =
+    ap (λ t. address_and second (slice_split (λ x. x == byte) t)) all ∙ ap (address_and second) (split-at byte host digits h) ∙ elim (parts (λ x. x == byte) digits) [
+      | inl e ↦ ap (λ t. address_and second (host ∷ t)) e
+      | inr t ↦ elim (second digits) as (λ o. second digits ≡ o → address_and second (host ∷ slice_split (λ x. x == byte) digits) ≡ both_of (address_of host) o) [
+        | Some n ↦ λ is. let one = split-none byte digits (lacks digits n is) in absurd (let e : digits ∷ [] ≡ t.0 ∷ t.1 ∷ t.2 = sym one ∙ t.3 in cc)
+        | None ↦ λ is. ap (λ u. address_and second (host ∷ u)) t.3 ∙ sym (unpaired (address_of host))
       ] refl
     ]
 
-pub socket_cut : (text host digits : List ℕ) → text ≡ host ++ colon ∷ digits → Lacks colon host → socket_of text ≡ both_of (address_of host) (option_and_then within_port (number_of digits))
-socket_cut text host digits all h = ap socket_of all ∙ socket_at host digits h
+-- ---- an address with a port
+pub no_colon : (text : List ℕ) → Lacks colon text → socket_of text ≡ None
+no_colon text h = rw (split-none colon text h) refl
+
+socket_cut : (text host digits : List ℕ) → text ≡ host ++ colon ∷ digits → Lacks colon host → socket_of text ≡ both_of (address_of host) (port_of digits)
+socket_cut text host digits all h = cut-read colon port_of text host digits (λ d n is. bounded-lacks colon within_port d n (λ b. refl) is) all h
 
 pub no_address : (text host digits : List ℕ) → text ≡ host ++ colon ∷ digits → Lacks colon host → address_of host ≡ None → socket_of text ≡ None
-no_address text host digits all h none = socket_cut text host digits all h ∙ ap (λ o. both_of o (option_and_then within_port (number_of digits))) none
+no_address text host digits all h none = socket_cut text host digits all h ∙ ap (λ o. both_of o (port_of digits)) none
 
-pub no_port : (text host digits : List ℕ) → text ≡ host ++ colon ∷ digits → Lacks colon host → option_and_then within_port (number_of digits) ≡ None → socket_of text ≡ None
+pub no_port : (text host digits : List ℕ) → text ≡ host ++ colon ∷ digits → Lacks colon host → port_of digits ≡ None → socket_of text ≡ None
 no_port text host digits all h none = socket_cut text host digits all h ∙ ap (λ o. both_of (address_of host) o) none ∙ unpaired (address_of host)
 
-pub address_and_port : (text host digits : List ℕ) (a n : ℕ) → text ≡ host ++ colon ∷ digits → Lacks colon host → address_of host ≡ Some a → option_and_then within_port (number_of digits) ≡ Some n → socket_of text ≡ Some (a, n)
-address_and_port text host digits a n all h some port = socket_cut text host digits all h ∙ ap (λ o. both_of o (option_and_then within_port (number_of digits))) some ∙ ap (λ o. both_of (Some a) o) port
+pub address_and_port : (text host digits : List ℕ) (a n : ℕ) → text ≡ host ++ colon ∷ digits → Lacks colon host → address_of host ≡ Some a → port_of digits ≡ Some n → socket_of text ≡ Some (a, n)
+address_and_port text host digits a n all h some port = socket_cut text host digits all h ∙ ap (λ o. both_of o (port_of digits)) some ∙ ap (λ o. both_of (Some a) o) port
+
+-- ---- an address with bits
+pub no_slash : (text : List ℕ) → Lacks slash text → prefix_of text ≡ None
+no_slash text h = rw (split-none slash text h) refl
+
+prefix_cut : (text host digits : List ℕ) → text ≡ host ++ slash ∷ digits → Lacks slash host → prefix_of text ≡ option_map prefix_with (both_of (address_of host) (bits_of digits))
+prefix_cut text host digits all h = ap (option_map prefix_with) (cut-read slash bits_of text host digits (λ d n is. bounded-lacks slash within_bits d n (λ b. refl) is) all h)
+
+pub no_prefix : (text host digits : List ℕ) → text ≡ host ++ slash ∷ digits → Lacks slash host → address_of host ≡ None → prefix_of text ≡ None
+no_prefix text host digits all h none =
+    prefix_cut text host digits all h ∙ ap (λ o. option_map prefix_with (both_of o (bits_of digits))) none
+
+pub no_bits : (text host digits : List ℕ) → text ≡ host ++ slash ∷ digits → Lacks slash host → bits_of digits ≡ None → prefix_of text ≡ None
+no_bits text host digits all h none = prefix_cut text host digits all h ∙ ap (λ o. option_map prefix_with (both_of (address_of host) o)) none ∙ ap (option_map prefix_with) (unpaired (address_of host))
+
+pub address_and_bits : (text host digits : List ℕ) (a n : ℕ) → text ≡ host ++ slash ∷ digits → Lacks slash host → address_of host ≡ Some a → bits_of digits ≡ Some n → prefix_of text ≡ Some (record { addr = a; bits = n })
+address_and_bits text host digits a n all h some bits =
+    prefix_cut text host digits all h ∙ ap (λ o. option_map prefix_with (both_of o (bits_of digits))) some ∙ ap (λ o. option_map prefix_with (both_of (Some a) o)) bits

@@ -1,1 +1,5 @@
 pub mod Addresses
+pub mod Arrays
+pub mod DecidingRules
+pub mod KeysOfTables
+pub mod ReadRules

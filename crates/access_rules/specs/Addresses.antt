@@ -1,9 +1,10 @@
 -- Decimal numbers, and addresses of IPv4 as they are written.
 use Rattle.std.specs.Prelude.{ℕ, ◌+◌, ◌-◌, ◌*◌, ◌/◌, ◌%◌, ◌^◌, ◌++◌, nat_lt, nat_le, Bool, ◌==◌, ◌&&◌, if◌then◌else◌, List, [], ◌∷◌, map, Option, Some, None}
 use Rattle.std.specs.Fmt.{decimal}
-use Rattle.std.specs.Option.{option_and_then}
+use Rattle.std.specs.Option.{option_and_then, option_map}
 use Rattle.std.specs.List.{slice_split}
 use Rattle.slp_text.specs.Ascii.{colon, digit_zero, dot, is_digit}
+use Rattle.access_rules.specs.declared.rule.Prefix.{Prefix}
 
 -- digits after the value v, below 2^32
 abbrev pub number_from : ℕ → List ℕ → Option ℕ
@@ -47,13 +48,38 @@ both_of (Some a) (Some b) = Some (a, b)
 both_of (Some a) None = None
 both_of None o = None
 
-abbrev pub socket_in : List (List ℕ) → Option (ℕ × ℕ)
-socket_in (a ∷ p ∷ []) = both_of (address_of a) (option_and_then within_port (number_of p))
-socket_in _ = None
+-- an address, and what is read of the part after it
+abbrev pub address_and : (List ℕ → Option ℕ) → List (List ℕ) → Option (ℕ × ℕ)
+address_and second (a ∷ p ∷ []) = both_of (address_of a) (second p)
+address_and second _ = None
+
+abbrev pub port_of : List ℕ → Option ℕ
+port_of digits = option_and_then within_port (number_of digits)
 
 -- an address and a port, with a colon between them
 abbrev pub socket_of : List ℕ → Option (ℕ × ℕ)
-socket_of text = socket_in (slice_split is_colon text)
+socket_of text = address_and port_of (slice_split is_colon text)
+
+-- `b'/'`
+abbrev pub slash : ℕ
+slash = 47
+
+abbrev pub is_slash : ℕ → Bool
+is_slash b = b == slash
+
+abbrev pub within_bits : ℕ → Option ℕ
+within_bits n = if nat_le n 32 then Some n else None
+
+-- how many bits of an address count: at most 32
+abbrev pub bits_of : List ℕ → Option ℕ
+bits_of digits = option_and_then within_bits (number_of digits)
+
+abbrev pub prefix_with : ℕ × ℕ → Prefix
+prefix_with p = record { addr = p.0; bits = p.1 }
+
+-- an address and how many of its bits count, with a slash between them
+abbrev pub prefix_of : List ℕ → Option Prefix
+prefix_of text = option_map prefix_with (address_and bits_of (slice_split is_slash text))
 
 -- ---- as it is printed
 

@@ -1,4 +1,5 @@
 pub mod Addresses
 pub mod Codes
 pub mod Deciding
-pub mod Opening
+pub mod RuleFiles
+pub mod Tables

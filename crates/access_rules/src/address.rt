@@ -1,6 +1,5 @@
 ghost use Rattle.std.specs.Prelude.{◌≡◌, ◌<◌, [], ◌∷◌, IfSome};
-ghost use Rattle.std.specs.Option.{option_and_then};
-ghost use Rattle.access_rules.specs.Addresses.{number_of, octet_of, address_in, address_of, within_port, socket_of};
+ghost use Rattle.access_rules.specs.Addresses.{number_of, octet_of, address_in, address_of, port_of, socket_of};
 
 use slp_text::cut;
 use std::fmt;
@@ -73,7 +72,7 @@ fn address(text: &[u8]) -> Option<u32>
 
 // The port that digits are: 1 to 65535.
 fn port(digits: &[u8]) -> Option<u16>
-    ensures { result ≡ option_and_then within_port (number_of digits.now) }
+    ensures { result ≡ port_of digits.now }
 {
     let value = number(digits)?;
     if value == 0 || value > 65_535 {

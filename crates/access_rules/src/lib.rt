@@ -3,9 +3,15 @@
 #![tactic(auto)]
 
 mod address;
+mod fault;
+mod fields;
+mod files;
+pub mod laws;
 mod rule;
 mod rules;
 
 pub use address::{Addr, number};
+pub use fault::RuleFault;
+pub use files::LONGEST_RULES;
 pub use rule::{Action, Prefix, Rule};
 pub use rules::{Rules, Verdict};

@@ -1,11 +1,12 @@
 ghost use Rattle.std.specs.Prelude.{◌≡◌};
 ghost use Rattle.std.specs.List.{list_any};
+ghost use Rattle.access_rules.specs.Addresses.{bits_of, prefix_of};
 ghost use Rattle.access_rules.specs.Deciding as spec;
 ghost use Rattle.access_rules.specs.Deciding.{action_eq, allows_kind, allows_scope};
 
-use crate::address::Addr;
+use crate::address::{Addr, number};
 use service_url::ServiceType;
-use slp_text::{Key, Row, ScopeList, Text};
+use slp_text::{Key, Row, ScopeList, Text, cut};
 
 /// What a rule allows or denies.
 #[derive(Clone, Copy, Debug, PartialEq, Eq)]
@@ -23,7 +24,31 @@ pub struct Prefix {
     pub bits: u8,
 }
 
+// How many bits digits are: 0 to 32.
+fn bits(digits: &[u8]) -> Option<u8>
+    ensures { result ≡ bits_of digits.now }
+{
+    let value = number(digits)?;
+    if value > 32 {
+        return None;
+    }
+    Some(value as u8)
+}
+
 impl Prefix {
+    /// The prefix that a text is: an address and a decimal number of at most 32, with a slash between
+    /// them. Takes no memory.
+    #[tactic(auto, using(crate::proofs::Addresses::no_slash, crate::proofs::Addresses::no_prefix, crate::proofs::Addresses::no_bits, crate::proofs::Addresses::address_and_bits))]
+    pub fn parse(text: &[u8]) -> Option<Prefix>
+        ensures { result ≡ prefix_of text.now }
+    {
+        let (host, digits) = cut(text, b'/')?;
+        Some(Prefix {
+            addr: Addr::parse(host)?,
+            bits: bits(digits)?,
+        })
+    }
+
     fn holds(&self, addr: Addr) -> bool
         ensures { result ≡ spec.holds self.now addr }
     {

@@ -1,13 +1,11 @@
-ghost use Rattle.std.specs.Prelude.{◌≡◌, ◌<◌, length, position, slice_get, Some, IfOk, IfSome};
+ghost use Rattle.std.specs.Prelude.{◌≡◌, ◌<◌, length, position, slice_get, Some, IfSome};
 ghost use Rattle.std.specs.Option.{option_map};
 ghost use Rattle.access_rules.specs.Deciding.{deciding, fits};
-ghost use Rattle.access_rules.specs.Opening.{open_to_all, opening_rules};
 
 use crate::address::Addr;
-use crate::rule::{Action, Prefix, Rule};
+use crate::rule::{Action, Rule};
 use service_url::ServiceType;
-use slp_text::{Key, NoMemory, Row, Text};
-use std::alloc::Global;
+use slp_text::Key;
 use std::marker::Model;
 
 /// What was decided, and the place of the rule that decided it. `None` is the default, which denies.
@@ -34,41 +32,12 @@ impl Model for Rules {
     ghost view = { λ a. a.rules.items };
 }
 
-// A rule that allows an action to everyone, for every type in every scope.
-fn allowing(alloc: Global, name: &str, action: Action) -> Result<Rule, NoMemory>
-    ensures { IfOk result (λ r. r ≡ open_to_all name.now action) }
-{
-    let everyone = Prefix {
-        addr: Addr(0),
-        bits: 0,
-    };
-    Ok(Rule {
-        name: Text::wrap(String::from_str(alloc, name)?),
-        from: Row::wrap(vec![in alloc; everyone]?),
-        action,
-        kind: None,
-        scopes: None,
-        allow: true,
-    })
-}
-
 impl Rules {
     /// These rules, of which the first that fits decides.
     pub fn new(rules: Vec<Rule>) -> Rules
         ensures { result ≡ rules.items }
     {
         Rules { rules }
-    }
-
-    /// The rules before any rule file is read: everyone may do everything everywhere.
-    pub fn opening(alloc: Global) -> Result<Rules, NoMemory>
-        ensures { IfOk result (λ r. r ≡ opening_rules) }
-    {
-        let mut rules = Vec::with_capacity(alloc, 3)?;
-        rules.push(allowing(alloc, "all-register", Action::Register)?)?;
-        rules.push(allowing(alloc, "all-withdraw", Action::Withdraw)?)?;
-        rules.push(allowing(alloc, "all-see", Action::See)?)?;
-        Ok(Rules { rules })
     }
 
     /// How many rules there are. Takes no memory.

@@ -1,7 +1,7 @@
 use crate::assertion::assert_holds;
-use crate::directories::opened;
+use crate::directories::{open_rules, opened};
 use crate::messages::{REGISTRATION, REQUEST};
-use access_rules::{Action, Addr, Rules};
+use access_rules::{Action, Addr};
 use directory_judge::{Because, Decider};
 use directory_state::Directory;
 use registry_core::ListRegistry;
@@ -172,7 +172,7 @@ const LINE: &[u8] =
 
 #[test]
 fn a_line_tells_who_decided_on_what(rt: HostRuntime) -> Result<(), Fail> {
-    let rules = Box::new(rt.alloc(), Rules::opening(rt.alloc())?)?;
+    let rules = Box::new(rt.alloc(), open_rules(rt.alloc())?)?;
     let audit = make_audit(rt.alloc())?;
     let mut line = Vec::from_slice(rt.alloc(), b"before")?;
     let told = audit_line(&rules, &audit, &mut line);

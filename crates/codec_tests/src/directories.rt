@@ -17,7 +17,21 @@ use std::test::Fail;
 
 const PRINTER: &str = "service:printer:lpr://a";
 
-/// A directory of one scope and the opening rules, with room for so many entries. It is boxed, since
+const OPEN_RULES: &str = "\
+version = 1
+rule = [
+    { name = \"all-register\", from = [\"0.0.0.0/0\"], action = \"register\", type = \"*\", scopes = [\"*\"], verdict = \"allow\" },
+    { name = \"all-withdraw\", from = [\"0.0.0.0/0\"], action = \"withdraw\", type = \"*\", scopes = [\"*\"], verdict = \"allow\" },
+    { name = \"all-see\", from = [\"0.0.0.0/0\"], action = \"see\", type = \"*\", scopes = [\"*\"], verdict = \"allow\" },
+]
+";
+
+/// Rules by which everyone may do everything everywhere.
+pub fn open_rules(alloc: Global) -> Result<Rules, Fail> {
+    Ok(Rules::from_text(alloc, OPEN_RULES)?)
+}
+
+/// A directory of one scope and open rules, with room for so many entries. It is boxed, since
 /// the proof of a function that lets go of one is long.
 pub fn opened(alloc: Global, capacity: usize) -> Result<Box<Directory<ListRegistry>>, Fail>
     requires some { 0 < capacity }
@@ -26,7 +40,7 @@ pub fn opened(alloc: Global, capacity: usize) -> Result<Box<Directory<ListRegist
     let templates = Arc::new(alloc, Templates::new(alloc))?;
     let site = Site::new(one_scope(alloc, "DEFAULT")?, capacity, templates, 1);
     let registry = ListRegistry::new(alloc, capacity)?;
-    let rules = Arc::new(alloc, Rules::opening(alloc)?)?;
+    let rules = Arc::new(alloc, open_rules(alloc)?)?;
     Ok(Box::new(alloc, Directory::open(alloc, registry, &site, rules)?)?)
 }
 
@@ -119,6 +133,56 @@ fn ends(alloc: Global, directory: &mut Directory<ListRegistry>) -> Result<bool, 
             && directory.registry().len() == 1
             && directory.now(0) == 6,
     )
+}
+
+// Makes a share of a change.
+fn make_share(directory: &mut Directory<ListRegistry>, change: Change) -> Result<(), Fail> {
+    let share = change.share();
+    drop(change);
+    directory.apply(share?);
+    Ok(())
+}
+
+fn edit(alloc: Global, deadline: u64) -> Result<Change, Fail> {
+    let entry = entry_in(alloc, "DEFAULT", PRINTER, "service:printer", "en", deadline)?;
+    Ok(Change::Edit(Placed { moment: 1, entry }))
+}
+
+fn reload(alloc: Global, text: &str) -> Result<Change, Fail> {
+    let rules = Arc::new(alloc, Rules::from_text(alloc, text)?)?;
+    Ok(Change::Reload(2, rules))
+}
+
+// Whether a share of each kind of change is made as the change would be.
+fn shares(alloc: Global, directory: &mut Directory<ListRegistry>) -> Result<bool, Fail> {
+    make_share(directory, put(alloc, PRINTER, "en", 9)?)?;
+    let is_put = services_in(alloc, directory, "Default")? == Ok((1, 8));
+    make_share(directory, edit(alloc, 8)?)?;
+    let is_edited = services_in(alloc, directory, "Default")? == Ok((1, 7));
+    make_share(directory, reload(alloc, "version = 1")?)?;
+    let is_hidden = services_in(alloc, directory, "Default")? == Ok((0, 0));
+    let is_reloaded = directory.rules().len() == 0 && directory.now(0) == 2;
+    make_share(directory, reload(alloc, OPEN_RULES)?)?;
+    let is_seen = services_in(alloc, directory, "Default")? == Ok((1, 6));
+    make_share(directory, Change::Sweep(3))?;
+    let is_swept = directory.now(0) == 3 && directory.registry().len() == 1;
+    make_share(directory, withdraw(alloc, PRINTER)?)?;
+    Ok(
+        is_put
+            && is_edited
+            && is_hidden
+            && is_reloaded
+            && is_seen
+            && is_swept
+            && directory.registry().len() == 0,
+    )
+}
+
+#[test]
+fn a_change_is_shared(rt: HostRuntime) -> Result<(), Fail> {
+    let mut directory = opened(rt.alloc(), 4)?;
+    assert_holds(&rt, shares(rt.alloc(), &mut directory)?, "six changes");
+    Ok(())
 }
 
 #[test]

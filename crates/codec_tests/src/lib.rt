@@ -19,8 +19,6 @@ mod messages;
 #[cfg(test)]
 mod registries;
 #[cfg(test)]
-mod rules;
-#[cfg(test)]
 mod services;
 #[cfg(test)]
 mod streams;

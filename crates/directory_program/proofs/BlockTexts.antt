@@ -6,6 +6,8 @@ use Rattle.std.proofs.lemmas.Bool.{leb-false, lt-leb}
 use Rattle.std.proofs.lemmas.List.{append-nil}
 use Rattle.std.proofs.lemmas.Grind.{flat_map-append}
 use borrow.Author.Tests.{lt-ltb}
+use Rattle.access_rules.specs.RuleFiles.{rules_in_text}
+use Rattle.access_rules.specs.declared.fault.RuleFault.TheVariants as rule_fault
 use Rattle.site_config.specs.Configurations.{config_of, longest_text}
 use Rattle.site_config.specs.declared.fault.ConfigFault.TheVariants.{Range}
 use Rattle.srv_template.specs.Reading.{template_in}
@@ -48,3 +50,15 @@ template-by false text e = sym (parsed-long text (leb-false (length text) longes
 
 pub kept-template : (body : List Line) → option_map_or template_in (block_text body) (Err (template.Line 1)) ≡ template_in (text_of body)
 kept-template body = template-by (nat_le (length (text_of body)) longest_text) (text_of body) refl
+
+-- and of a rule file
+too_long-rules : (text : List ℕ) → nat_le (length text) longest_text ≡ false → rules_in_text text ≡ Err (rule_fault.Shape 0)
+unfolding rules_in_text
+too_long-rules text e = rw (lt-ltb _ _ (leb-false (length text) longest_text e)) refl
+
+rules-by : (b : Bool) (text : List ℕ) → nat_le (length text) longest_text ≡ b → option_map_or rules_in_text (if b then Some text else None) (Err (rule_fault.Shape 0)) ≡ rules_in_text text
+rules-by true text e = refl
+rules-by false text e = sym (too_long-rules text e)
+
+pub kept-rules : (body : List Line) → option_map_or rules_in_text (block_text body) (Err (rule_fault.Shape 0)) ≡ rules_in_text (text_of body)
+kept-rules body = rules-by (nat_le (length (text_of body)) longest_text) (text_of body) refl

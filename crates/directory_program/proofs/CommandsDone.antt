@@ -6,13 +6,17 @@ use Rattle.slp_answer.specs.declared.answer.Sent.{Sent}
 use Rattle.slp_script.specs.Commands.{Single}
 use Rattle.slp_script.specs.declared.command.Order.TheVariants.{At, From, Udp, Open, Tcp, Sweep}
 use Rattle.slp_script.specs.declared.command.Block.TheVariants as block
-use Rattle.directory_program.specs.Sessions.{Holds, IsAgent, Takes, TakesPiece, Acts, Meets, AddsTo, ConfiguresTo, config_text, template_text}
-use Rattle.directory_program.specs.Worlds.{World, Adds, Answers, Configures, late_text, swept_world, templated_world, templates_with, no_memory_text, answer_text, new_stream, longest_reply, late_world, configured_world}
+use Rattle.directory_program.specs.Sessions.{Holds, IsAgent, Takes, TakesPiece, Acts, Meets, AddsTo, ConfiguresTo, ReloadsTo, config_text, rules_text, template_text}
+use Rattle.directory_program.specs.Worlds.{World, Adds, Answers, Configures, Reloads, late_text, reloaded_world, swept_world, templated_world, templates_with, no_memory_text, answer_text, new_stream, longest_reply, late_world, configured_world}
 use Rattle.directory_program.specs.Turns.{Closes, Turns, TurnsTo, TurnsOutside, TurnsInside}
 use Rattle.directory_program.specs.declared.progress.OpenBlock.{OpenBlock}
 use Rattle.directory_program.specs.declared.progress.Progress.{Progress}
 use Rattle.directory_program.specs.declared.agent.Agent.{Agent}
 use Rattle.directory_program.specs.declared.session.Session.{Session}
+use Rattle.access_rules.specs.Deciding.{SiteRules}
+use Rattle.access_rules.specs.RuleFiles.{rules_in_text}
+use Rattle.access_rules.specs.declared.fault.RuleFault.{RuleFault}
+use Rattle.access_rules.specs.declared.fault.RuleFault.TheVariants as rule_fault
 use Rattle.slp_stream.specs.Framing.{Frames}
 use Rattle.std.specs.Option.{option_map_or}
 use Rattle.site_config.specs.Configurations.{config_of}
@@ -85,6 +89,16 @@ Closes-added s b kept told early adds = λ w h.
 pub Closes-added_late : (s : Session) (kept : Option (List ℕ)) → s.late ≡ true → Closes s block.Template kept late_text s
 Closes-added_late s kept late = λ w h.
     subst (λ x. (v : World) × Adds x w (templates_with w (option_map_or template_in kept (Err (template.Line 1)))) late_text v × Holds v s) (sym (sym h.late ∙ late)) (w, (refl, refl), h)
+
+-- ---- the end of a rule file
+
+ruled_so : (w : World) (s : Session) (b : Agent) (h : Holds w s) (read : Result SiteRules RuleFault) (told : Result ℕ RuleFault) → ReloadsTo w read told b → (v : World) × Reloads w read (rules_text told) v × Holds v (record s { agent = b; late = true })
+ruled_so w s b h (Ok rs) told t = (reloaded_world rs w, (ap rules_text t.0, refl), record { agent = t.1; stream = h.stream; limit = h.limit; late = refl })
+ruled_so w s b h (Err e) told t = (late_world w, (ap rules_text t.0, refl), record { agent = IsAgent-beside w w.stream true b t.1; stream = h.stream; limit = h.limit; late = refl })
+
+pub Closes-ruled : (s : Session) (b : Agent) (kept : Option (List ℕ)) (told : Result ℕ RuleFault)
+    → ((w : World) → IsAgent w s.agent → ReloadsTo w (option_map_or rules_in_text kept (Err (rule_fault.Shape 0))) told b) → Closes s block.Rules kept (rules_text told) (record s { agent = b; late = true })
+Closes-ruled s b kept told reloads = λ w h. ruled_so w s b h (option_map_or rules_in_text kept (Err (rule_fault.Shape 0))) told (reloads w h.agent)
 
 -- ---- a sweep
 

@@ -1,10 +1,11 @@
 pub mod BlockTexts
 pub mod CommandsDone
 pub mod Digits
+pub mod OpeningTexts
+pub mod Operations
 pub mod ProgressByBytes
 pub mod ProgressByLine
 pub mod ScriptPieces
 pub mod ScriptReads
 pub mod StreamMessages
-pub mod Sweeps
 pub mod Transfers

@@ -4,6 +4,10 @@ use Rattle.std.specs.Prelude.{IsUtf8, string_bytes, ⊤}
 use Rattle.std.specs.Io.KnownBytes.{Keeps}
 use Rattle.std.specs.Option.{option_map, option_map_or}
 use Rattle.std.proofs.lemmas.List.{append-nil}
+use Rattle.access_rules.specs.Deciding.{SiteRules}
+use Rattle.access_rules.specs.RuleFiles.{rules_in_text}
+use Rattle.access_rules.specs.declared.fault.RuleFault.{RuleFault}
+use Rattle.access_rules.specs.declared.fault.RuleFault.TheVariants as rule_fault
 use Rattle.site_config.specs.Configurations.{config_of}
 use Rattle.site_config.specs.declared.config.Config.{Config}
 use Rattle.site_config.specs.declared.fault.ConfigFault.{ConfigFault}
@@ -11,14 +15,14 @@ use Rattle.site_config.specs.declared.fault.ConfigFault.TheVariants.{Range}
 use Rattle.slp_script.specs.Commands.{Command, Single, Text, Reads, order_of, block_of, word_of, block_end, longest_line, block_start, IsBodyLine, AtLine, AtBody, AtEnd, StopsAt}
 use Rattle.directory_program.specs.Sessions.{Holds}
 use Rattle.slp_script.specs.Lines.{Line}
-use Rattle.directory_program.specs.Worlds.{World, Adds, Does, Prints, IsOutput, Configures, opening_world, templates_with}
+use Rattle.directory_program.specs.Worlds.{World, Adds, Does, Prints, IsOutput, Configures, Reloads, opening_world, templates_with}
 use Rattle.directory_program.specs.Turns.{IsOpen, Stands, Turns, TurnsTo, TurnFailsBy, Begins, Ends, Lengthens, block_text, block_text_with}
 use Rattle.directory_program.specs.declared.fault.RunFault.{RunFault}
 use Rattle.directory_program.specs.declared.fault.RunFault.TheVariants as fault
 use Rattle.directory_program.specs.declared.fault.RunFault.TheVariants.{Read, Write, NoMemory}
 use Rattle.directory_program.specs.declared.progress.OpenBlock.{OpenBlock}
 use Rattle.directory_program.specs.declared.progress.Progress.{Progress}
-use Rattle.directory_program.proofs.BlockTexts.{block_text_with-kept, kept-config, kept-template}
+use Rattle.directory_program.proofs.BlockTexts.{block_text_with-kept, kept-config, kept-rules, kept-template}
 use Rattle.slp_script.specs.declared.command.Block.{Block}
 use Rattle.slp_script.specs.declared.command.Block.TheVariants as block
 use Rattle.srv_template.specs.Reading.{template_in}
@@ -43,6 +47,8 @@ Does-block block.Config body w kept now v is did =
     subst (λ (r : Result Config ConfigFault). Configures w.late w r now v) (ap (λ (o : Option (List ℕ)). option_map_or config_of o (Err Range)) is ∙ kept-config body) did
 Does-block block.Template body w kept now v is did =
     subst (λ (r : Result Template ParseFault). Adds w.late w (templates_with w r) now v) (ap (λ (o : Option (List ℕ)). option_map_or template_in o (Err (template.Line 1))) is ∙ kept-template body) did
+Does-block block.Rules body w kept now v is did =
+    subst (λ (r : Result SiteRules RuleFault). Reloads w r now v) (ap (λ (o : Option (List ℕ)). option_map_or rules_in_text o (Err (rule_fault.Shape 0))) is ∙ kept-rules body) did
 
 IsOpen-begins : (b : Option OpenBlock) (block : Block) (l : Line) (k number : ℕ) → l ≡ word_of block → number ≡ k + 1 → Begins block number b → IsOpen (l ∷ []) k b
 IsOpen-begins None block l k number is n h = absurd h

@@ -1,5 +1,6 @@
 pub mod Gives
 pub mod Opening
+pub mod OpeningRules
 pub mod Reads
 pub mod Reports
 pub mod Sessions

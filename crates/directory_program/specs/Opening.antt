@@ -1,6 +1,6 @@
 -- The setup with which a run begins.
 use Rattle.std.specs.Prelude.{false}
-use Rattle.access_rules.specs.Opening.{opening_rules}
+use Rattle.directory_program.specs.OpeningRules.{opening_rules}
 use Rattle.directory_state.specs.State.{opening_state}
 use Rattle.directory_program.specs.Worlds.{new_stream, opening_listen}
 use Rattle.directory_program.specs.Sites.{first_site}

@@ -1,6 +1,8 @@
 -- Which history an agent and a session stand for, and what a datagram does to it.
-use Rattle.std.specs.Prelude.{◌≡◌, ℕ, List, ◌++◌, Option, MatchOption, Result, Ok, Err}
-use Rattle.access_rules.specs.Opening.{opening_rules}
+use Rattle.std.specs.Prelude.{◌≡◌, ℕ, List, ◌++◌, length, Option, MatchOption, Result, Ok, Err}
+use Rattle.directory_program.specs.OpeningRules.{opening_rules}
+use Rattle.access_rules.specs.Deciding.{SiteRules}
+use Rattle.access_rules.specs.declared.fault.RuleFault.{RuleFault}
 use Rattle.slp_headers.specs.Headers.{heading_of}
 use Rattle.directory_judge.specs.History.{Event}
 use Rattle.directory_state.specs.Folds.{Fold}
@@ -13,7 +15,7 @@ use Rattle.slp_answer.specs.declared.answer.Sent.{Sent}
 use Rattle.slp_stream.specs.Cutting.{front_of, IsCut}
 use Rattle.slp_stream.specs.Framing.{Frames}
 use Rattle.slp_script.specs.Commands.{Command}
-use Rattle.directory_program.specs.Worlds.{World, opening_of, call_of, Answers, AnswersAll, Pieces, Does, closed_text, added_text, configured_world, template_fault_text, templated_world, end_text, end_refused, longest_on_stream, config_fault_text, configured_text}
+use Rattle.directory_program.specs.Worlds.{World, opening_of, call_of, Answers, AnswersAll, Pieces, Does, closed_text, added_text, configured_world, template_fault_text, templated_world, end_text, end_refused, longest_on_stream, config_fault_text, configured_text, reloaded_world, rule_fault_text, ruled_text}
 use Rattle.srv_template.specs.Conformity.{SiteTemplates}
 use Rattle.srv_template.specs.declared.fault.ParseFault.{ParseFault}
 use Rattle.site_config.specs.declared.config.Config.{Config}
@@ -85,3 +87,13 @@ template_text (Err e) = template_fault_text e
 abbrev pub AddsTo : World → Result SiteTemplates ParseFault → Result (Unit {0}) ParseFault → Agent → Type 0
 AddsTo w (Ok templates) told a = (told ≡ Ok tt) × IsAgent (templated_world templates w) a
 AddsTo w (Err e) told a = (told ≡ Err e) × IsAgent w a
+
+-- what is written of a rule file, which has so many rules or is refused
+abbrev pub rules_text : Result ℕ RuleFault → List ℕ
+rules_text (Ok number) = ruled_text number
+rules_text (Err e) = rule_fault_text e
+
+-- what came of a rule file, and the agent after it: that of the reload, or the one that it was
+abbrev pub ReloadsTo : World → Result SiteRules RuleFault → Result ℕ RuleFault → Agent → Type 0
+ReloadsTo w (Ok rs) told a = (told ≡ Ok (length rs)) × IsAgent (reloaded_world rs w) a
+ReloadsTo w (Err e) told a = (told ≡ Err e) × IsAgent w a

@@ -3,6 +3,8 @@ use Rattle.std.specs.Prelude.{◌≡◌, ◌⊎◌, ℕ, ◌+◌, ◌≤◌, nat
 use Rattle.std.specs.Option.{option_map, option_map_or}
 use Rattle.site_config.specs.Configurations.{config_of, longest_text}
 use Rattle.site_config.specs.declared.fault.ConfigFault.TheVariants.{Range}
+use Rattle.access_rules.specs.RuleFiles.{rules_in_text}
+use Rattle.access_rules.specs.declared.fault.RuleFault.TheVariants as rule_fault
 use Rattle.std.specs.Io.KnownBytes.{Keeps}
 use Rattle.slp_script.specs.Commands.{Command, Single, Reads, order_of, block_of, block_start, IsBody, IsBodyLine, block_end, longest_line}
 use Rattle.slp_script.specs.declared.command.Block.{Block}
@@ -12,7 +14,7 @@ use Rattle.directory_program.specs.Sessions.{Holds, Acts}
 use Rattle.slp_script.specs.Lines.{Line, line_bytes}
 use Rattle.srv_template.specs.Reading.{template_in}
 use Rattle.srv_template.specs.declared.fault.ParseFault.TheVariants as template
-use Rattle.directory_program.specs.Worlds.{World, Prints, Configures, Adds, opening_world, templates_with, text_of}
+use Rattle.directory_program.specs.Worlds.{World, Prints, Configures, Adds, Reloads, opening_world, templates_with, text_of}
 use Rattle.directory_program.specs.declared.progress.OpenBlock.{OpenBlock}
 use Rattle.directory_program.specs.declared.progress.Progress.{Progress}
 use Rattle.directory_program.specs.declared.session.Session.{Session}
@@ -20,7 +22,7 @@ use Rattle.directory_program.specs.declared.fault.RunFault.{RunFault}
 use Rattle.directory_program.specs.declared.fault.RunFault.TheVariants as fault
 use Rattle.directory_program.specs.declared.fault.RunFault.TheVariants.{Read, Write, NoMemory}
 
--- what is kept of the text of a block: nothing where it is longer than a configuration or a template may be
+-- what is kept of the text of a block: nothing where it is longer than a configuration, a template or a rule file may be
 abbrev pub block_text : List Line → Option (List ℕ)
 block_text body = if nat_le (length (text_of body)) longest_text then Some (text_of body) else None
 
@@ -47,11 +49,12 @@ abbrev pub block_text_with : Option (List ℕ) → Line → Option (List ℕ)
 block_text_with None l = None
 block_text_with (Some text) l = if nat_le (length (text ++ line_bytes l)) longest_text then Some (text ++ line_bytes l) else None
 
--- what the end of a block may write, and what it leaves, where this is kept of its text: a configuration that is too long is out of its range, and a
--- template that is too long does not fit from its first line on
+-- what the end of a block may write, and what it leaves, where this is kept of its text: a configuration that is too long is out of its range, a
+-- template that is too long does not fit from its first line on, and a rule file that is too long is at fault itself
 abbrev pub Ends : Block → World → Option (List ℕ) → List ℕ → World → Type 0
 Ends block.Config w kept now v = Configures w.late w (option_map_or config_of kept (Err Range)) now v
 Ends block.Template w kept now v = Adds w.late w (templates_with w (option_map_or template_in kept (Err (template.Line 1)))) now v
+Ends block.Rules w kept now v = Reloads w (option_map_or rules_in_text kept (Err (rule_fault.Shape 0))) now v
 
 -- the same of a session
 abbrev pub Closes : Session → Block → Option (List ℕ) → List ℕ → Session → Type 0

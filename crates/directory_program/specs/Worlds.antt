@@ -5,8 +5,10 @@ use Rattle.std.specs.Option.{option_map_or}
 use Rattle.hex.specs.Hex.{encode_lower}
 use Rattle.slp_headers.specs.Headers.{heading_of}
 use Rattle.access_rules.specs.Deciding.{SiteRules}
-use Rattle.access_rules.specs.Opening.{opening_rules}
-use Rattle.directory_judge.specs.History.{History, Event, Sweep, now}
+use Rattle.access_rules.specs.RuleFiles.{rules_in_text}
+use Rattle.access_rules.specs.declared.fault.RuleFault.{RuleFault}
+use Rattle.access_rules.specs.declared.fault.RuleFault.TheVariants as rule_fault
+use Rattle.directory_judge.specs.History.{History, Event, Act, Sweep, Reload, now}
 use Rattle.directory_judge.specs.Meaning.{rules}
 use Rattle.directory_answers.specs.Answers.{IsAnswer}
 use Rattle.directory_answers.specs.Calls.{Opening, Call}
@@ -28,6 +30,7 @@ use Rattle.srv_template.specs.Templates.{Template, added_to}
 use Rattle.srv_template.specs.declared.fault.ParseFault.{ParseFault}
 use Rattle.srv_template.specs.declared.fault.ParseFault.TheVariants as template
 use Rattle.slp_script.specs.Lines.{Line, lines_of, line_bytes, HasNoLf}
+use Rattle.directory_program.specs.OpeningRules.{opening_rules}
 use Rattle.directory_program.specs.Sites.{first_site}
 use Rattle.site_config.specs.Configurations.{config_of}
 use Rattle.site_config.specs.declared.config.Config.{Config}
@@ -137,9 +140,15 @@ Pieces w bytes out v =
 abbrev pub late_world : World → World
 late_world w = record w { late = true }
 
--- a sweep, at the moment that was set or the clock
+-- what the operator asks for happens, at the moment that was set or the clock
+abbrev pub world_with : Act → World → World
+world_with act w = record w { history = record { moment = now w.history w.moment; act = act } ∷ w.history; late = true }
+
 abbrev pub swept_world : World → World
-swept_world w = record w { history = record { moment = now w.history w.moment; act = Sweep } ∷ w.history; late = true }
+swept_world w = world_with Sweep w
+
+abbrev pub reloaded_world : SiteRules → World → World
+reloaded_world rs w = world_with (Reload rs) w
 
 -- the number of a fault of a configuration
 abbrev pub fault_number : ConfigFault → ℕ
@@ -205,6 +214,25 @@ Adds true w templates out v = (out ≡ late_text) × (v ≡ w)
 Adds false w (Ok templates) out v = (out ≡ added_text) × (v ≡ templated_world templates w)
 Adds false w (Err e) out v = (out ≡ template_fault_text e) × (v ≡ w)
 
+-- the number of a fault of a rule file
+abbrev pub rule_fault_number : RuleFault → ℕ
+rule_fault_number (rule_fault.Shape n) = 1
+rule_fault_number rule_fault.TwiceName = 2
+rule_fault_number rule_fault.NoMemory = 3
+rule_fault_number rule_fault.Toml = 4
+
+-- what is written where so many rules decide from now on, and of a rule file that is refused
+abbrev pub ruled_text : ℕ → List ℕ
+ruled_text number = codes "# rules " ++ decimal number ++ line_feed ∷ []
+
+abbrev pub rule_fault_text : RuleFault → List ℕ
+rule_fault_text e = codes "! rules " ++ decimal (rule_fault_number e) ++ line_feed ∷ []
+
+-- What a rule file may write, and what it leaves: its rules decide from now on, unless it is refused. Either way it is too late for another site.
+abbrev pub Reloads : World → Result SiteRules RuleFault → List ℕ → World → Type 0
+Reloads w (Ok rs) out v = (out ≡ ruled_text (length rs)) × (v ≡ reloaded_world rs w)
+Reloads w (Err e) out v = (out ≡ rule_fault_text e) × (v ≡ late_world w)
+
 -- what a command may write, and what it leaves
 abbrev pub Does : World → Command → List ℕ → World → Type 0
 Does w (Single order.Blank) out v = (out ≡ []) × (v ≡ w)
@@ -216,6 +244,7 @@ Does w (Single (order.Tcp bytes)) out v = MatchOption w.stream.refused (Pieces (
 Does w (Single order.Sweep) out v = (out ≡ codes "# sweep" ++ line_feed ∷ []) × (v ≡ swept_world w)
 Does w (Text block.Config body) out v = Configures w.late w (config_of (text_of body)) out v
 Does w (Text block.Template body) out v = Adds w.late w (templates_with w (template_in (text_of body))) out v
+Does w (Text block.Rules body) out v = Reloads w (rules_in_text (text_of body)) out v
 
 -- what these commands may write one after the other, and what they leave
 abbrev pub Prints : World → List Command → List ℕ → World → Type 0

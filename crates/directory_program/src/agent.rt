@@ -2,19 +2,22 @@ ghost use Rattle.std.specs.Prelude.{◌≡◌, ◌≤◌, [], IfOk, MatchResult}
 ghost use Rattle.std.specs.Arc.{arc_value};
 ghost use Rattle.std.specs.FinMap as fin;
 ghost use Rattle.std.specs.Option.{option_map_or, option_copied};
-ghost use Rattle.access_rules.specs.Opening.{opening_rules};
+ghost use Rattle.access_rules.specs.RuleFiles.{rules_in_text};
+ghost use Rattle.access_rules.specs.declared.fault.RuleFault.TheVariants as rule_fault;
 ghost use Rattle.directory_state.specs.Folds.{Fold};
 ghost use Rattle.directory_state.specs.State.{opening_state};
 ghost use Rattle.directory_program.specs.Worlds.{opening_listen, site_in};
 ghost use Rattle.site_config.specs.Configurations.{config_of, IsWithin};
 ghost use Rattle.site_config.specs.declared.fault.ConfigFault.TheVariants.{Range};
+ghost use Rattle.directory_program.specs.OpeningRules.{opening_rules};
 ghost use Rattle.directory_program.specs.Sites.{first_site};
 ghost use Rattle.slp_text.specs.Reading.{read_then};
 ghost use Rattle.srv_template.specs.Reading.{template_in};
 ghost use Rattle.srv_template.specs.Templates.{added_to, IsReading};
 ghost use Rattle.srv_template.specs.declared.fault.ParseFault.TheVariants as template;
 
-use access_rules::{Addr, Rules};
+use crate::opening;
+use access_rules::{Addr, RuleFault, Rules};
 use directory_judge::{Change, Site};
 use directory_state::Directory;
 use registry_core::{ListRegistry, RegistryFault};
@@ -126,7 +129,7 @@ fn begin(alloc: Global, site: &Site) -> Result<Directory<ListRegistry>, NoMemory
     ensures state { IfOk result (λ d. d ≡ opening_state (record { rules = opening_rules; site = site.now })) }
     ensures fold { IfOk result (λ d. Fold (record { rules = opening_rules; site = site.now }) [] d) }
 {
-    let rules = Arc::new(alloc, Rules::opening(alloc)?)?;
+    let rules = Arc::new(alloc, opening::rules(alloc)?)?;
     match ListRegistry::new(alloc, site.capacity()) {
         Ok(registry) => Directory::open(alloc, registry, site, rules),
         Err(RegistryFault::NoMemory) => Err(NoMemory),
@@ -136,8 +139,8 @@ fn begin(alloc: Global, site: &Site) -> Result<Directory<ListRegistry>, NoMemory
 
 impl Agent {
     ghost use Rattle.directory_program.specs.Opening.{opening_agent};
-    ghost use Rattle.directory_program.specs.Sessions.{IsAgent, Takes, AddsTo, ConfiguresTo};
-    ghost use Rattle.directory_program.specs.Worlds.{World, own_at, swept_world, templates_with};
+    ghost use Rattle.directory_program.specs.Sessions.{IsAgent, Takes, AddsTo, ConfiguresTo, ReloadsTo};
+    ghost use Rattle.directory_program.specs.Worlds.{World, own_at, reloaded_world, swept_world, templates_with};
 
     /// The setup with which a run begins: the scope `DEFAULT`, room for 16 entries, and rules that
     /// allow everything to everyone.
@@ -218,6 +221,38 @@ impl Agent {
     {
         let now = self.directory.now(self.moment);
         self.directory.apply(Change::Sweep(now));
+    }
+
+    // From the moment that was set on, or from the clock on where that is greater, these rules decide.
+    fn rule_by(&mut self, rules: Arc<Rules>)
+        ensures { (w : World) → IsAgent w self.old → IsAgent (reloaded_world (arc_value rules) w) self.new }
+    {
+        let now = self.directory.now(self.moment);
+        self.directory.apply(Change::Reload(now, rules));
+    }
+
+    /// The rules of a rule file decide from now on; it answers how many there are. A refused text
+    /// changes nothing, and one that is not kept is too long.
+    pub fn reload(
+        &mut self,
+        alloc: Global,
+        text: Option<&str>,
+    ) -> Result<Result<usize, RuleFault>, NoMemory>
+        ensures { (w : World) → IsAgent w self.old → IfOk result (λ told. ReloadsTo w (option_map_or rules_in_text (option_copied text.entry) (Err (rule_fault.Shape 0))) told self.new) }
+    {
+        let Some(text) = text else {
+            return Ok(Err(RuleFault::Shape(0)));
+        };
+        match Rules::from_text(alloc, text) {
+            Ok(rules) => {
+                let number = rules.len();
+                let rules = Arc::new(alloc, rules)?;
+                self.rule_by(rules);
+                Ok(Ok(number))
+            }
+            Err(RuleFault::NoMemory) => Err(NoMemory),
+            Err(fault) => Ok(Err(fault)),
+        }
     }
 
     /// Answers a message in at most `limit` bytes, and makes the change that it asks for. The reply

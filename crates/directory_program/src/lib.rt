@@ -5,6 +5,7 @@ mod agent;
 mod exchange;
 mod fault;
 mod line_input;
+mod opening;
 mod output;
 mod program;
 mod progress;

@@ -4,8 +4,8 @@ ghost use Rattle.std.specs.Option.{option_map, option_copied};
 ghost use Rattle.slp_script.specs.Commands.{longest_line, Single};
 ghost use Rattle.slp_script.specs.declared.command.Block.TheVariants as block;
 ghost use Rattle.slp_script.specs.declared.command.Order.TheVariants as order;
-ghost use Rattle.directory_program.specs.Worlds.{config_fault_text, template_fault_text};
-ghost use Rattle.directory_program.specs.Sessions.{Acts, config_text, template_text};
+ghost use Rattle.directory_program.specs.Worlds.{config_fault_text, rule_fault_text, template_fault_text};
+ghost use Rattle.directory_program.specs.Sessions.{Acts, config_text, rules_text, template_text};
 ghost use Rattle.directory_program.specs.Turns.{Closes, block_text_with, TurnsOutside, TurnsInside, OutsideFails, InsideFails, TurnsTo, TurnFails};
 ghost use Rattle.directory_program.specs.declared.fault.RunFault.TheVariants as fault;
 
@@ -13,7 +13,7 @@ use crate::exchange::meet;
 use crate::fault::RunFault;
 use crate::session::{LONGEST_ON_STREAM, LONGEST_REPLY, Session};
 use crate::stream::take_piece;
-use access_rules::Addr;
+use access_rules::{Addr, RuleFault};
 use site_config::{ConfigFault, LONGEST_CONFIG};
 use slp_answer::Answer;
 use slp_script::{Block, Order, Reading, read_line};
@@ -29,8 +29,8 @@ pub struct OpenBlock {
     pub block: Block,
     /// The line that began it.
     pub begun: u64,
-    /// Its lines so far, each with its LF; nothing where they are longer than a configuration or a
-    /// template may be.
+    /// Its lines so far, each with its LF; nothing where they are longer than a configuration, a
+    /// template or a rule file may be.
     pub text: Option<String>,
 }
 
@@ -146,6 +146,47 @@ fn close_template<W: Write>(
     }
 }
 
+// Writes why a rule file is refused.
+fn print_rule_fault<W: Write>(fault: RuleFault, writer: &mut W) -> io::Result<()>
+    ensures { OnOk result (Appends (W.contents writer.old) (W.contents writer.new) (rule_fault_text fault)) }
+{
+    match fault {
+        RuleFault::Shape(_) => writer.write_all(b"! rules 1\n"),
+        RuleFault::TwiceName => writer.write_all(b"! rules 2\n"),
+        RuleFault::NoMemory => writer.write_all(b"! rules 3\n"),
+        RuleFault::Toml => writer.write_all(b"! rules 4\n"),
+    }
+}
+
+// Writes what came of a rule file.
+fn print_ruled<W: Write>(told: Result<usize, RuleFault>, writer: &mut W) -> io::Result<()>
+    ensures { OnOk result (Appends (W.contents writer.old) (W.contents writer.new) (rules_text told)) }
+{
+    match told {
+        Ok(number) => writeln!(writer, "# rules {number}"),
+        Err(fault) => print_rule_fault(fault, writer),
+    }
+}
+
+// Ends a rule file of which this text is kept, after which it is too late for another site.
+fn close_rules<W: Write>(
+    session: &mut Session,
+    alloc: Global,
+    text: Option<&str>,
+    writer: &mut W,
+) -> Result<(), RunFault>
+    ensures { MatchResult result
+        (λ _. (now : List ℕ) × Appends (W.contents writer.old) (W.contents writer.new) now × Closes session.old block.Rules (option_copied text.entry) now session.new)
+        (λ e. (e ≡ fault.Write) ⊎ ((e ≡ fault.NoMemory) × Keeps (W.contents writer.old) (W.contents writer.new))) }
+{
+    let told = session.agent.reload(alloc, text)?;
+    session.late = true;
+    match print_ruled(told, writer) {
+        Ok(()) => Ok(()),
+        Err(_) => Err(RunFault::Write),
+    }
+}
+
 // Ends a block of which this text is kept.
 fn close<W: Write>(
     session: &mut Session,
@@ -161,6 +202,7 @@ fn close<W: Write>(
     match block {
         Block::Config => close_config(session, alloc, text, writer),
         Block::Template => close_template(session, alloc, text, writer),
+        Block::Rules => close_rules(session, alloc, text, writer),
     }
 }
 

@@ -8,6 +8,8 @@ mod lines;
 #[cfg(test)]
 mod messages;
 #[cfg(test)]
+mod rules;
+#[cfg(test)]
 mod runs;
 #[cfg(test)]
 mod scripts;

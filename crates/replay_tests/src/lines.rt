@@ -6,7 +6,7 @@ use std::test::Fail;
 // A line, and what it says: its word, its number and its bytes.
 type Row = (&'static str, &'static str, u32, &'static [u8]);
 
-static LINES: [Row; 14] = [
+static LINES: [Row; 15] = [
     ("", "", 0, b""),
     ("at 0", "at", 0, b""),
     ("at 007", "at", 7, b""),
@@ -21,9 +21,10 @@ static LINES: [Row; 14] = [
     ("sweep", "sweep", 0, b""),
     ("config", "config", 0, b""),
     ("template", "template", 0, b""),
+    ("rules", "rules", 0, b""),
 ];
 
-static OTHER_LINES: [&str; 41] = [
+static OTHER_LINES: [&str; 44] = [
     "templates",
     "template ",
     "at",
@@ -61,6 +62,9 @@ static OTHER_LINES: [&str; 41] = [
     "config ",
     "confi",
     "Config",
+    "rule",
+    "rules ",
+    "Rules",
     ".",
     "\r",
     " ",
@@ -85,6 +89,7 @@ fn parts(reading: &Reading) -> (&'static str, u32, &[u8]) {
         Reading::Order(order) => order_parts(order),
         Reading::Begins(Block::Config) => ("config", 0, b""),
         Reading::Begins(Block::Template) => ("template", 0, b""),
+        Reading::Begins(Block::Rules) => ("rules", 0, b""),
         Reading::Fault => ("wrong", 0, b""),
     }
 }

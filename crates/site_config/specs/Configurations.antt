@@ -1,14 +1,15 @@
 -- What a configuration says, from the table that its text is.
-use Rattle.std.specs.Prelude.{◌≡◌, ℕ, ◌≤◌, Bool, true, not, ◌==◌, ◌&&◌, nat_le, nat_lt, List, [], ◌∷◌, length, codes, ℤ, pos, negsuc, Option, Some, None, Result, Ok, Err, if◌then◌else◌, option_and_then}
+use Rattle.std.specs.Prelude.{◌≡◌, ℕ, ◌≤◌, Bool, true, not, ◌==◌, ◌&&◌, nat_le, nat_lt, List, [], ◌∷◌, length, codes, Option, Some, None, Result, Ok, Err, if◌then◌else◌, option_and_then}
 use Rattle.std.specs.List.{list_all, list_any}
 use Rattle.std.specs.Option.{option_map_or}
-use Rattle.toml.specs.Data.{Data, as_str, as_integer, as_array, Items, no_items, item, Members, no_members, member, get_member}
+use Rattle.toml.specs.Data.{Data, as_str, Members, get_member}
 use Rattle.toml.specs.Parse.{parse_document}
 use Rattle.slp_text.specs.Reading.{read_then}
 use Rattle.slp_text.specs.Scopes.{scopes_of, printed_scopes}
 use Rattle.slp_text.specs.Words.{bytes_eq}
 use Rattle.slp_text.specs.declared.faults.TextFault.{TextFault}
 use Rattle.access_rules.specs.Addresses.{socket_of}
+use Rattle.access_rules.specs.Tables.{if_where, number_in, array_in, keys_of}
 use Rattle.site_config.specs.declared.config.Config.{Config}
 use Rattle.site_config.specs.declared.fault.ConfigFault.{ConfigFault}
 use Rattle.site_config.specs.declared.fault.ConfigFault.TheVariants.{Toml, Missing, Range, NoMemory}
@@ -42,9 +43,6 @@ templates_key = codes "templates"
 
 -- ---- values, where they are of their kind and within their limits
 
-abbrev pub if_where : {A : Type 0} → (A → Bool) → A → Option A
-if_where p x = if p x then Some x else None
-
 -- 1 to 16 scopes, whose printed list has at most 1,024 bytes
 abbrev pub are_site_scopes : List (List ℕ) → Bool
 are_site_scopes scopes = nat_le 1 (length scopes) && nat_le (length scopes) 16 && nat_le (length (printed_scopes scopes)) 1024
@@ -56,27 +54,6 @@ site_scopes (Err e) = None
 -- a text that is such a scope list
 abbrev pub scopes_in : Data → Option (List (List ℕ))
 scopes_in d = option_and_then (λ text. site_scopes (scopes_of text)) (as_str d)
-
-abbrev pub natural : ℤ → Option ℕ
-natural (pos n) = Some n
-natural (negsuc n) = None
-
--- a whole number from low to high
-abbrev pub number_in : ℕ → ℕ → Data → Option ℕ
-number_in low high d = option_and_then (if_where (λ n. nat_le low n && nat_le n high)) (option_and_then natural (as_integer d))
-
-abbrev pub values_of : Items → List Data
-values_of no_items = []
-values_of (item d ds) = d ∷ values_of ds
-
--- what each of some values is, if each is one
-abbrev pub each_in : {A : Type 0} → (Data → Option A) → List Data → Option (List A)
-each_in f [] = Some []
-each_in f (d ∷ ds) = option_and_then (λ x. option_and_then (λ xs. Some (x ∷ xs)) (each_in f ds)) (f d)
-
--- an array whose values are read by f
-abbrev pub array_in : {A : Type 0} → (Data → Option A) → Data → Option (List A)
-array_in f d = option_and_then (λ ds. each_in f (values_of ds)) (as_array d)
 
 abbrev pub same_socket : ℕ × ℕ → ℕ × ℕ → Bool
 same_socket a b = a.0 == b.0 && a.1 == b.1
@@ -118,10 +95,6 @@ optional_value f key usual table = option_map_or (λ d. in_range (f d)) (get_mem
 abbrev pub is_known : List ℕ → Bool
 is_known key =
     list_any (bytes_eq key) (scopes_key ∷ listen_key ∷ capacity_key ∷ connections_key ∷ sweep_key ∷ rules_key ∷ templates_key ∷ [])
-
-abbrev pub keys_of : Members → List (List ℕ)
-keys_of no_members = []
-keys_of (member key d ms) = key ∷ keys_of ms
 
 -- the configuration, where the table has no key besides
 abbrev pub config_alone : Members → Config → Result Config ConfigFault

@@ -3,8 +3,9 @@ ghost use Rattle.std.specs.Prelude.{◌≡◌, ◌≤◌, None, [], length, stri
 ghost use Rattle.std.specs.BTreeMap.{keys};
 ghost use Rattle.std.specs.List.{list_all};
 ghost use Rattle.toml.specs.View.{view};
+ghost use Rattle.access_rules.specs.Tables.{number_in, keys_of};
 ghost use Rattle.site_config.specs.Configurations as spec;
-ghost use Rattle.site_config.specs.Configurations.{scopes_key, listen_key, capacity_key, rules_key, templates_key, are_site_scopes, scopes_in, number_in, are_listening, listen_in, path_in, templates_in, needed_value, optional_value, numbers_in, paths_in, keys_of, IsReading};
+ghost use Rattle.site_config.specs.Configurations.{scopes_key, listen_key, capacity_key, rules_key, templates_key, are_site_scopes, scopes_in, are_listening, listen_in, path_in, templates_in, needed_value, optional_value, numbers_in, paths_in, IsReading};
 ghost use Rattle.site_config.specs.Tables.{members_in};
 
 use crate::fault::ConfigFault;
@@ -119,7 +120,7 @@ fn has_known_keys(table: &Table) -> bool
 }
 
 /// Whether a table has no key but those of a configuration.
-#[tactic(auto, using(crate::proofs::KeysOfTables::test_keys))]
+#[tactic(auto, using(access_rules::proofs::KeysOfTables::test_keys))]
 pub fn are_known(table: &Value) -> bool
     ensures { result ≡ list_all spec.is_known (keys_of (members_in (view table.now))) }
 {

@@ -5,8 +5,9 @@ ghost use Rattle.std.specs.Option.{option_and_then};
 ghost use Rattle.toml.specs.Data.{as_str};
 ghost use Rattle.toml.specs.View.{view};
 ghost use Rattle.access_rules.specs.Addresses.{socket_of};
+ghost use Rattle.access_rules.specs.Tables.{each_in, array_in};
 ghost use Rattle.site_config.specs.Configurations as spec;
-ghost use Rattle.site_config.specs.Configurations.{in_range, each_in, array_in, same_socket, listen_in, IsReading};
+ghost use Rattle.site_config.specs.Configurations.{in_range, same_socket, listen_in, IsReading};
 
 use crate::fault::ConfigFault;
 use access_rules::Addr;
@@ -24,7 +25,7 @@ fn socket(value: &Value) -> Option<(Addr, u16)>
     Addr::parse_with_port(value.as_str()?.as_bytes())
 }
 
-#[tactic(auto, using(crate::proofs::Arrays::read_one, crate::proofs::Arrays::read_none))]
+#[tactic(auto, using(access_rules::proofs::Arrays::read_one, access_rules::proofs::Arrays::read_none))]
 fn sockets(alloc: Global, values: &[Value]) -> Result<Row<(Addr, u16)>, ConfigFault>
     ensures { IsReading result (in_range (each_in (λ t. option_and_then socket_of (as_str t)) (map view values.now))) }
 {
@@ -38,7 +39,7 @@ fn sockets(alloc: Global, values: &[Value]) -> Result<Row<(Addr, u16)>, ConfigFa
     Ok(Row::wrap(sockets))
 }
 
-#[tactic(auto, using(crate::proofs::Arrays::read_array))]
+#[tactic(auto, using(access_rules::proofs::Arrays::read_array))]
 fn listed(alloc: Global, value: &Value) -> Result<Row<(Addr, u16)>, ConfigFault>
     ensures { IsReading result (in_range (array_in (λ t. option_and_then socket_of (as_str t)) (view value.now))) }
 {

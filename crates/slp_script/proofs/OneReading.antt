@@ -4,7 +4,7 @@ use Rattle.std.specs.Prelude.{IsUtf8}
 use Rattle.std.proofs.lemmas.Option.{none-some, same_Some}
 use Rattle.slp_script.specs.Lines.{Line}
 use Rattle.slp_script.specs.declared.command.Block.{Block}
-use Rattle.slp_script.specs.declared.command.Block.TheVariants.{Config, Template}
+use Rattle.slp_script.specs.declared.command.Block.TheVariants.{Config, Template, Rules}
 use Rattle.slp_script.specs.declared.command.Order.{Order}
 use Rattle.slp_script.specs.Commands.{Command, Single, Text, Spells, Reads, order_of, block_of, word_of, block_end, longest_line, IsBody, IsStuck, AtLine, AtBody, AtEnd, StopsAt}
 use Rattle.slp_text.specs.Ascii.{dot}
@@ -14,10 +14,12 @@ word-order : (block : Block) → order_of (word_of block) ≡ None
 unfolding order_of
 word-order Config = refl
 word-order Template = refl
+word-order Rules = refl
 
 word-block : (block : Block) → block_of (word_of block) ≡ Some block
 word-block Config = refl
 word-block Template = refl
+word-block Rules = refl
 
 one_word : (a b : Block) → word_of a ≡ word_of b → a ≡ b
 one_word a b e = same_Some a b (sym (word-block a) ∙ ap block_of e ∙ word-block b)

@@ -7,21 +7,28 @@ use Rattle.std.proofs.lemmas.Option.{none-some, same_Some}
 use Rattle.slp_script.specs.Lines.{Line}
 use Rattle.slp_script.specs.Commands.{block_of, longest_line, word_of}
 use Rattle.slp_script.specs.declared.command.Block.{Block}
-use Rattle.slp_script.specs.declared.command.Block.TheVariants.{Config, Template}
+use Rattle.slp_script.specs.declared.command.Block.TheVariants.{Config, Template, Rules}
 
--- the word of one block, or else that of another
-by_test : (t u : Bool) (l : Line) (a c b : Block) → t ≡ pointwise ◌==◌ l (word_of a) → u ≡ pointwise ◌==◌ l (word_of c) → option_or (if t then Some a else None) (if u then Some c else None) ≡ Some b → l ≡ word_of b
-by_test true u l a c b e f is = subst (λ k. l ≡ word_of k) (same_Some a b is) (same_text l (word_of a) e)
-by_test false true l a c b e f is = subst (λ k. l ≡ word_of k) (same_Some c b is) (same_text l (word_of c) f)
-by_test false false l a c b e f is = absurd (none-some b is)
+-- the word of one block alone
+by_word : (t : Bool) (l : Line) (a b : Block) → t ≡ pointwise ◌==◌ l (word_of a) → (if t then Some a else None) ≡ Some b → l ≡ word_of b
+by_word true l a b e is = subst (λ k. l ≡ word_of k) (same_Some a b is) (same_text l (word_of a) e)
+by_word false l a b e is = absurd (none-some b is)
+
+-- the word of one block, or else what is said of another
+by_test : (t : Bool) (l : Line) (a b : Block) (other : Option Block) → t ≡ pointwise ◌==◌ l (word_of a) → (other ≡ Some b → l ≡ word_of b) → option_or (if t then Some a else None) other ≡ Some b → l ≡ word_of b
+by_test true l a b other e otherwise is = by_word true l a b e is
+by_test false l a b other e otherwise is = otherwise is
 
 -- it is the block's word
 pub word-of_block : (l : Line) (b : Block) → block_of l ≡ Some b → l ≡ word_of b
-word-of_block l b is = by_test (pointwise ◌==◌ l (word_of Config)) (pointwise ◌==◌ l (word_of Template)) l Config Template b refl refl is
+word-of_block l b is =
+    by_test (pointwise ◌==◌ l (word_of Config)) l Config b _ refl
+    (by_test (pointwise ◌==◌ l (word_of Template)) l Template b _ refl (by_word (pointwise ◌==◌ l (word_of Rules)) l Rules b refl)) is
 
 long_word : (b : Block) → longest_line < length (word_of b) → ⊥
 long_word Config h = omega (arith, h)
 long_word Template h = omega (arith, h)
+long_word Rules h = omega (arith, h)
 
 none_of : (o : Option Block) (l : Line) → block_of l ≡ o → longest_line < length l → o ≡ None
 none_of None l is h = refl

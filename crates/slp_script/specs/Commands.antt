@@ -8,7 +8,7 @@ use Rattle.hex.specs.declared.error.FromHexError.{FromHexError}
 use Rattle.access_rules.specs.Addresses.{number_of, address_of}
 use Rattle.slp_script.specs.Lines.{Line}
 use Rattle.slp_script.specs.declared.command.Block.{Block}
-use Rattle.slp_script.specs.declared.command.Block.TheVariants.{Config, Template}
+use Rattle.slp_script.specs.declared.command.Block.TheVariants.{Config, Template, Rules}
 use Rattle.slp_script.specs.declared.command.Order.{Order}
 use Rattle.slp_script.specs.declared.command.Order.TheVariants.{Blank, At, From, Udp, Open, Tcp, Sweep}
 
@@ -63,13 +63,17 @@ sweep_line = codes "sweep"
 abbrev pub word_of : Block → Line
 word_of Config = codes "config"
 word_of Template = codes "template"
+word_of Rules = codes "rules"
 
 abbrev pub block_end : Line
 block_end = codes "."
 
 -- the block that a line begins, if it begins one
 abbrev pub block_of : Line → Option Block
-block_of l = option_or (if_alone (word_of Config) Config l) (if_alone (word_of Template) Template l)
+block_of l =
+    option_or (if_alone (word_of Config) Config l)
+    (option_or (if_alone (word_of Template) Template l)
+    (if_alone (word_of Rules) Rules l))
 
 -- the order that a line is, if it is one
 unfoldable pub order_of : Line → Option Order

@@ -26,4 +26,6 @@ pub enum Block {
     Config,
     /// The site gets one template more.
     Template,
+    /// Other rules decide, by a rule file.
+    Rules,
 }

@@ -54,6 +54,9 @@ fn read_message(alloc: Global, line: &[u8]) -> Result<Reading, NoMemory>
     if line == b"template".as_slice() {
         return Ok(Reading::Begins(Block::Template));
     }
+    if line == b"rules".as_slice() {
+        return Ok(Reading::Begins(Block::Rules));
+    }
     if let Some(text) = line.strip_prefix(b"tcp ") {
         return match hex::decode(alloc, text) {
             Ok(bytes) => Ok(Reading::Order(Order::Tcp(Row::wrap(bytes)))),

@@ -3,8 +3,8 @@ use Rattle.std.specs.Option.{option_and_then}
 use Rattle.toml.specs.Data.{as_str}
 use Rattle.toml.specs.View.{view}
 use Rattle.access_rules.specs.Addresses.{socket_of}
-use Rattle.site_config.specs.Configurations.{each_in}
-use Rattle.site_config.proofs.Arrays.{with_front}
+use Rattle.access_rules.specs.Tables.{each_in}
+use Rattle.access_rules.proofs.Arrays.{with_front}
 use Rattle.site_config.proofs.sockets.sockets.Given as goal
 
 -- those so far stand before what is read of the rest

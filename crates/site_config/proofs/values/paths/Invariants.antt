@@ -1,8 +1,8 @@
 use Rattle.std.proofs.Common.{◌≡◌, drop, map}
 use Rattle.toml.specs.Data.{as_str}
 use Rattle.toml.specs.View.{view}
-use Rattle.site_config.specs.Configurations.{each_in}
-use Rattle.site_config.proofs.Arrays.{with_front}
+use Rattle.access_rules.specs.Tables.{each_in}
+use Rattle.access_rules.proofs.Arrays.{with_front}
 use Rattle.site_config.proofs.values.paths.Given as goal
 
 -- those so far stand before what is read of the rest

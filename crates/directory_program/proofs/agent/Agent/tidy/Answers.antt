@@ -1,5 +1,5 @@
 use Rattle.std.proofs.Common.{refl}
-use Rattle.directory_program.proofs.Sweeps.{IsAgent-swept_world}
+use Rattle.directory_program.proofs.Operations.{IsAgent-swept_world}
 use Rattle.directory_program.proofs.agent.Agent.tidy.Goals as goal
 
 pub returns : goal.returns

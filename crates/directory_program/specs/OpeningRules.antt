@@ -1,4 +1,4 @@
--- The rules before any is read: everyone may do everything everywhere.
+-- The rules with which a run begins: everyone may do everything everywhere.
 use Rattle.std.specs.Prelude.{ℕ, true, List, [], ◌∷◌, None, codes}
 use Rattle.access_rules.specs.declared.rule.Action.{Action}
 use Rattle.access_rules.specs.declared.rule.Action.TheVariants.{Register, Withdraw, See}

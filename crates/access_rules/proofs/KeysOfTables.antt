@@ -4,7 +4,7 @@ use Rattle.std.specs.declared.alloc.Global.{Global}
 use Rattle.std.specs.List.{list_all}
 use Rattle.toml.specs.View.{members_view}
 use Rattle.toml.specs.declared.value.Value.{Value}
-use Rattle.site_config.specs.Configurations.{keys_of}
+use Rattle.access_rules.specs.Tables.{keys_of}
 
 -- a test of the keys of a table is one of the keys of its map
 pub test_keys : (p : List ℕ → Bool) (es : List (String Global × Value)) → list_all p (keys_of (members_view es)) ≡ list_all (λ k. p (string_bytes k)) (map (λ e. e.0) es)

@@ -202,8 +202,8 @@ fn rules_of(alloc: Global, first: Written, second: Option<Written>) -> Result<Ru
     Ok(Rules::new(rules))
 }
 
-// What the rules decide for an action, as whether it is allowed and by which rule.
-fn decided(
+/// What the rules decide for an action on a type in a scope, as whether it is allowed and by which rule.
+pub fn decided(
     alloc: Global,
     rules: &Rules,
     asker: u32,
@@ -243,31 +243,5 @@ fn without_a_rule_all_is_denied(rt: HostRuntime) -> Result<(), Fail> {
     let told = decided(alloc, &one, OUTSIDE, Action::See, place);
     drop(one);
     assert_holds(&rt, told? == (false, None), "another action");
-    Ok(())
-}
-
-static OPENING: [(usize, Action, &str); 3] = [
-    (0, Action::Register, "all-register"),
-    (1, Action::Withdraw, "all-withdraw"),
-    (2, Action::See, "all-see"),
-];
-
-// Whether each action is allowed to everyone, by the rule of its name.
-fn are_open(alloc: Global, rules: &Rules) -> Result<bool, Fail> {
-    for (place, action, name) in &OPENING {
-        let told = decided(alloc, rules, OUTSIDE, *action, (PRINTER, "Default"))?;
-        if *place >= rules.len() || rules.name(*place) != *name || told != (true, Some(*place)) {
-            return Ok(false);
-        }
-    }
-    Ok(rules.len() == 3)
-}
-
-#[test]
-fn opening_rules_allow_everything(rt: HostRuntime) -> Result<(), Fail> {
-    let rules = Rules::opening(rt.alloc())?;
-    let told = are_open(rt.alloc(), &rules);
-    drop(rules);
-    assert_holds(&rt, told?, "opening rules");
     Ok(())
 }

@@ -4,7 +4,7 @@ use Rattle.std.specs.Option.{option_map, option_and_then}
 use Rattle.toml.specs.Data.{Data, as_array}
 use Rattle.toml.specs.View.{view, items_of, items_view}
 use Rattle.toml.specs.declared.value.Value.{Value}
-use Rattle.site_config.specs.Configurations.{values_of, each_in, array_in}
+use Rattle.access_rules.specs.Tables.{values_of, each_in, array_in, array_values}
 
 -- what was read so far, and what is read of the rest
 abbrev pub with_front : {A : Type 0} → List A → Option (List A) → Option (List A)
@@ -29,3 +29,6 @@ values_of_items (d ∷ ds) = ap (λ es. d ∷ es) (values_of_items ds)
 -- what an array is
 pub read_array : {A : Type 0} (f : Data → Option A) (d : Data) (vs : List Value) → as_array d ≡ Some (items_view vs) → array_in f d ≡ each_in f (map view vs)
 read_array f d vs h = ap (option_and_then (λ ds. each_in f (values_of ds))) h ∙ ap (each_in f) (values_of_items (map view vs))
+
+pub array_values_are : (d : Data) (vs : List Value) → as_array d ≡ Some (items_view vs) → array_values d ≡ Some (map view vs)
+array_values_are d vs h = ap (option_map values_of) h ∙ ap Some (values_of_items (map view vs))

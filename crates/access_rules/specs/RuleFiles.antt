@@ -1,0 +1,228 @@
+-- What a rule file says, from the table that its text is.
+use Rattle.std.specs.Prelude.{◌≡◌, ℕ, ◌+◌, Bool, true, false, not, ◌==◌, ◌&&◌, ◌||◌, nat_le, nat_lt, List, [], ◌∷◌, ◌++◌, length, codes, Option, Some, None, is_some, Result, Ok, Err, if◌then◌else◌, option_and_then}
+use Rattle.std.specs.List.{flat_map, list_all, list_any}
+use Rattle.std.specs.Option.{option_map, option_map_or}
+use Rattle.std.specs.Result.{result_ok}
+use Rattle.toml.specs.Data.{Data, as_str, as_table, Members, get_member}
+use Rattle.toml.specs.Parse.{parse_document}
+use Rattle.slp_text.specs.Ascii.{comma, hyphen, is_digit, is_lower}
+use Rattle.slp_text.specs.Reading.{read_map, read_then}
+use Rattle.slp_text.specs.Scopes.{scopes_of}
+use Rattle.slp_text.specs.Words.{bytes_eq}
+use Rattle.service_url.specs.Types.{type_of}
+use Rattle.access_rules.specs.Addresses.{prefix_of}
+use Rattle.access_rules.specs.Deciding.{SiteRules}
+use Rattle.access_rules.specs.Tables.{if_where, is_some_list, number_in, each_in, array_values, text_at, values_at, keys_of}
+use Rattle.access_rules.specs.declared.fault.RuleFault.{RuleFault}
+use Rattle.access_rules.specs.declared.fault.RuleFault.TheVariants.{Shape, TwiceName, NoMemory, Toml}
+use Rattle.access_rules.specs.declared.rule.Action.{Action}
+use Rattle.access_rules.specs.declared.rule.Action.TheVariants.{Register, Withdraw, See}
+use Rattle.access_rules.specs.declared.rule.Prefix.{Prefix}
+use Rattle.access_rules.specs.declared.rule.Rule.{Rule}
+
+-- the bytes of the longest rule file
+abbrev pub longest_text : ℕ
+longest_text = 1048576
+
+-- ---- the keys
+
+abbrev pub version_key : List ℕ
+version_key = codes "version"
+
+abbrev pub rule_key : List ℕ
+rule_key = codes "rule"
+
+abbrev pub name_key : List ℕ
+name_key = codes "name"
+
+abbrev pub from_key : List ℕ
+from_key = codes "from"
+
+abbrev pub action_key : List ℕ
+action_key = codes "action"
+
+abbrev pub type_key : List ℕ
+type_key = codes "type"
+
+abbrev pub scopes_key : List ℕ
+scopes_key = codes "scopes"
+
+abbrev pub verdict_key : List ℕ
+verdict_key = codes "verdict"
+
+-- ---- what stands at each key of a rule
+
+-- `*`, which stands for every type and for every scope
+abbrev pub every_word : List ℕ
+every_word = codes "*"
+
+-- small letters, digits and `-`
+abbrev pub is_name_byte : ℕ → Bool
+is_name_byte b = is_lower b || is_digit b || b == hyphen
+
+-- 1 to 32 of these
+abbrev pub is_rule_name : List ℕ → Bool
+is_rule_name text = nat_le 1 (length text) && nat_le (length text) 32 && list_all is_name_byte text
+
+abbrev pub name_in : Members → Option (List ℕ)
+name_in table = option_and_then (if_where is_rule_name) (text_at name_key table)
+
+abbrev pub prefix_in : Data → Option Prefix
+prefix_in d = option_and_then prefix_of (as_str d)
+
+-- at least one prefix
+abbrev pub prefixes_listed : List Data → Option (List Prefix)
+prefixes_listed ds = if is_some_list ds then each_in prefix_in ds else None
+
+abbrev pub from_in : Members → Option (List Prefix)
+from_in table = option_and_then prefixes_listed (values_at from_key table)
+
+abbrev pub action_named : List ℕ → Option Action
+action_named word =
+    if bytes_eq word (codes "register") then Some Register
+    else (if bytes_eq word (codes "withdraw") then Some Withdraw
+    else (if bytes_eq word (codes "see") then Some See else None))
+
+abbrev pub action_in : Members → Option Action
+action_in table = option_and_then action_named (text_at action_key table)
+
+-- every type, or the one that is named
+abbrev pub kind_named : List ℕ → Option (Option (List ℕ))
+kind_named text = if bytes_eq text every_word then Some None else option_map Some (result_ok (type_of text))
+
+abbrev pub kind_in : Members → Option (Option (List ℕ))
+kind_in table = option_and_then kind_named (text_at type_key table)
+
+-- a scope list of one scope
+abbrev pub is_scope_name : List ℕ → Bool
+is_scope_name text = option_map_or (λ scopes. length scopes == 1) (result_ok (scopes_of text)) false
+
+abbrev pub scope_name_in : Data → Option (List ℕ)
+scope_name_in d = option_and_then (if_where is_scope_name) (as_str d)
+
+-- names with a comma after each
+abbrev pub comma_ended : List (List ℕ) → List ℕ
+comma_ended names = flat_map (λ name. name ++ comma ∷ []) names
+
+-- the scopes that some names are together
+abbrev pub scopes_named : List (List ℕ) → Option (List (List ℕ))
+scopes_named names = result_ok (scopes_of (comma_ended names))
+
+-- `*` alone
+abbrev pub is_every_scope : List Data → Bool
+is_every_scope [] = false
+is_every_scope (d ∷ []) = option_map_or (bytes_eq every_word) (as_str d) false
+is_every_scope (d ∷ e ∷ ds) = false
+
+-- at least one name of a scope
+abbrev pub listed_scopes : List Data → Option (List (List ℕ))
+listed_scopes ds = if is_some_list ds then option_and_then scopes_named (each_in scope_name_in ds) else None
+
+-- every scope, or those that are named
+abbrev pub scopes_listed : List Data → Option (Option (List (List ℕ)))
+scopes_listed ds = if is_every_scope ds then Some None else option_map Some (listed_scopes ds)
+
+abbrev pub scopes_in : Members → Option (Option (List (List ℕ)))
+scopes_in table = option_and_then scopes_listed (values_at scopes_key table)
+
+abbrev pub verdict_named : List ℕ → Option Bool
+verdict_named word =
+    if bytes_eq word (codes "allow") then Some true else (if bytes_eq word (codes "deny") then Some false else None)
+
+abbrev pub verdict_in : Members → Option Bool
+verdict_in table = option_and_then verdict_named (text_at verdict_key table)
+
+-- ---- rules
+
+abbrev pub is_rule_key : List ℕ → Bool
+is_rule_key key =
+    list_any (bytes_eq key) (name_key ∷ from_key ∷ action_key ∷ type_key ∷ scopes_key ∷ verdict_key ∷ [])
+
+-- what it is about that is done, and whether it is allowed
+abbrev pub deed_in : Members → Option (Action × Bool)
+deed_in table =
+    option_and_then (λ action. option_and_then (λ allow. Some (action, allow))
+    (verdict_in table))
+    (action_in table)
+
+-- the types and the scopes that it is about
+abbrev pub matter_in : Members → Option (Option (List ℕ) × Option (List (List ℕ)))
+matter_in table =
+    option_and_then (λ kind. option_and_then (λ scopes. Some (kind, scopes))
+    (scopes_in table))
+    (kind_in table)
+
+-- the rule of what stands at the keys of a table
+abbrev pub rule_with : Members → Option Rule
+rule_with table =
+    option_and_then (λ deed. option_and_then (λ matter. option_and_then (λ name. option_and_then (λ from.
+    Some (record { name = name; from = from; action = deed.0; kind = matter.0; scopes = matter.1; allow = deed.1 }))
+    (from_in table))
+    (name_in table))
+    (matter_in table))
+    (deed_in table)
+
+-- the rule that a table is: it has just these keys
+abbrev pub rule_of_table : Members → Option Rule
+rule_of_table table = if list_all is_rule_key (keys_of table) then rule_with table else None
+
+abbrev pub rule_in : Data → Option Rule
+rule_in d = option_and_then rule_of_table (as_table d)
+
+-- the rules that values are, of which the first has this number; at fault is the first that is none
+abbrev pub rules_from : ℕ → List Data → Result SiteRules RuleFault
+rules_from n [] = Ok []
+rules_from n (d ∷ ds) = option_map_or (λ r. read_map (λ rs. r ∷ rs) (rules_from (n + 1) ds)) (rule_in d) (Err (Shape n))
+
+-- no two have one name
+abbrev pub are_named_once : SiteRules → Bool
+are_named_once [] = true
+are_named_once (r ∷ rs) = not (list_any (λ s. bytes_eq r.name s.name) rs) && are_named_once rs
+
+abbrev pub named_once : SiteRules → Result SiteRules RuleFault
+named_once rs = if are_named_once rs then Ok rs else Err TwiceName
+
+-- ---- the file
+
+abbrev pub is_file_key : List ℕ → Bool
+is_file_key key = list_any (bytes_eq key) (version_key ∷ rule_key ∷ [])
+
+-- version 1, and no other key
+abbrev pub is_file : Members → Bool
+is_file table = is_some (option_and_then (number_in 1 1) (get_member version_key table)) && list_all is_file_key (keys_of table)
+
+-- the values of its rules, none where the key is missing
+abbrev pub all_values_in : Members → Option (List Data)
+all_values_in table = option_map_or array_values (get_member rule_key table) (Some [])
+
+-- at most 1,024 of them
+abbrev pub rule_values_in : Members → Option (List Data)
+rule_values_in table =
+    option_and_then (if_where (λ ds. nat_le (length ds) 1024)) (all_values_in table)
+
+-- What a table says: first the file itself is asked for, then rule after rule, last that no two have one name.
+unfoldable pub rules_in_table : Members → Result SiteRules RuleFault
+rules_in_table table =
+    if is_file table then option_map_or (λ ds. read_then named_once (rules_from 1 ds)) (rule_values_in table) (Err (Shape 0)) else Err (Shape 0)
+
+abbrev pub rules_in_document : Option Members → Result SiteRules RuleFault
+rules_in_document None = Err Toml
+rules_in_document (Some table) = rules_in_table table
+
+-- what a text says
+unfoldable pub rules_in_text : List ℕ → Result SiteRules RuleFault
+rules_in_text text = if nat_lt longest_text (length text) then Err (Shape 0) else rules_in_document (parse_document text)
+
+-- ---- readings
+
+-- the fault that reading gives, unless memory ran out
+abbrev pub IsFault : {A : Type 0} → RuleFault → Result A RuleFault → Type 0
+IsFault NoMemory read = Unit {0}
+IsFault (Shape n) read = read ≡ Err (Shape n)
+IsFault TwiceName read = read ≡ Err TwiceName
+IsFault Toml read = read ≡ Err Toml
+
+-- what reading gives, unless memory ran out
+abbrev pub IsReading : {A : Type 0} → Result A RuleFault → Result A RuleFault → Type 0
+IsReading (Ok x) read = read ≡ Ok x
+IsReading (Err e) read = IsFault e read

@@ -1,0 +1,48 @@
+ghost use Rattle.std.specs.Prelude.{◌≡◌};
+ghost use Rattle.access_rules.specs.declared.fault.RuleFault.TheVariants as fault;
+
+use slp_text::NoMemory;
+use std::alloc::{AllocError, AllocFailed};
+use thiserror::Error;
+
+/// Why a text or a table is not a rule file.
+#[derive(Clone, Copy, Debug, PartialEq, Eq, Error)]
+pub enum RuleFault {
+    /// The number of the first rule that is none, counted from 1. It is 0 for the file: its version or
+    /// one of its keys is another, its rules are no array or more than 1,024, or the text is longer
+    /// than 1,048,576 bytes, which is asked first.
+    #[error("rule {0} is none")]
+    Shape(usize),
+    /// Two rules have one name.
+    #[error("two rules of one name")]
+    TwiceName,
+    #[error("out of memory")]
+    NoMemory,
+    /// The text is not TOML.
+    #[error("no TOML")]
+    Toml,
+}
+
+impl From<NoMemory> for RuleFault {
+    ghost from_gives = { λ _ e. e ≡ fault.NoMemory };
+
+    fn from(_e: NoMemory) -> RuleFault {
+        RuleFault::NoMemory
+    }
+}
+
+impl From<AllocError> for RuleFault {
+    ghost from_gives = { λ _ e. e ≡ fault.NoMemory };
+
+    fn from(_e: AllocError) -> RuleFault {
+        RuleFault::NoMemory
+    }
+}
+
+impl<T: Drop> From<AllocFailed<T>> for RuleFault {
+    ghost from_gives = { λ _ e. e ≡ fault.NoMemory };
+
+    fn from(_e: AllocFailed<T>) -> RuleFault {
+        RuleFault::NoMemory
+    }
+}

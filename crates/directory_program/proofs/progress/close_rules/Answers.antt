@@ -1,0 +1,9 @@
+use Rattle.std.specs.Option.{option_copied}
+use Rattle.directory_program.specs.Sessions.{IsAgent, rules_text}
+use Rattle.directory_program.specs.Worlds.{World}
+use Rattle.directory_program.proofs.CommandsDone.{Closes-ruled}
+use Rattle.directory_program.proofs.progress.close_rules.Goals as goal
+
+pub returns-in-Ok : goal.returns-in-Ok
+returns-in-Ok g c =
+    (rules_text c.in_ok-told.told, c.in-Ok.ensures, Closes-ruled c.args.session.now c.reload.new.self (option_copied c.args.text) c.in_ok-told.told (λ (w : World) (h : IsAgent w c.args.session.now.agent). c.in_ok-told.ensures w h))
