@@ -150,7 +150,8 @@ fn rule_values(table: &Table) -> Option<&[Value]>
 
 impl Rules {
     /// The rules that a table is: `version = 1` and an array `rule` of tables, each of which has just
-    /// `name`, `from`, `action`, `type`, `scopes` and `verdict`.
+    /// `name`, `from`, `action`, `type`, `scopes` and `verdict`. First the file is asked for, then rule
+    /// after rule (`Shape`), last that no two rules have one name (`TwiceName`).
     #[tactic(auto, unfolding(crate::specs::RuleFiles::rules_in_table))]
     pub fn from_table(alloc: Global, table: &Table) -> Result<Rules, RuleFault>
         ensures { IsReading result (rules_in_table (table_view table.now)) }
@@ -168,7 +169,8 @@ impl Rules {
         Ok(Rules::new(rules))
     }
 
-    /// The rules that a text of TOML is.
+    /// The rules that a text of TOML is. One of more than 1,048,576 bytes is refused first, then one that
+    /// is not TOML.
     #[tactic(auto, unfolding(crate::specs::RuleFiles::rules_in_text))]
     pub fn from_text(alloc: Global, text: &str) -> Result<Rules, RuleFault>
         ensures { IsReading result (rules_in_text text.now) }
