@@ -1,5 +1,6 @@
 -- Arrays of values that are read one by one.
-use Rattle.std.proofs.Common.{◌≡◌, List, [], ◌∷◌, ◌++◌, Option, Some, None, refl, ap, sym, ◌∙◌, append_assoc, map}
+use Rattle.std.proofs.Common.{◌≡◌, ◌<◌, ◌+◌, ℕ, length, get_or, drop, List, [], ◌∷◌, ◌++◌, Option, Some, None, refl, ap, sym, ◌∙◌, append_assoc, map}
+use Rattle.std.proofs.lemmas.List.{drop_more}
 use Rattle.std.specs.Option.{option_map, option_and_then}
 use Rattle.toml.specs.Data.{Data, as_array}
 use Rattle.toml.specs.View.{view, items_of, items_view}
@@ -32,3 +33,15 @@ read_array f d vs h = ap (option_and_then (λ ds. each_in f (values_of ds))) h �
 
 pub array_values_are : (d : Data) (vs : List Value) → as_array d ≡ Some (items_view vs) → array_values d ≡ Some (map view vs)
 array_values_are d vs h = ap (option_map values_of) h ∙ ap Some (values_of_items (map view vs))
+
+-- the value at an index is read
+pub read_more : {A : Type 0} (f : Data → Option A) (values : List Value) (i : ℕ) (other : Value) (xs : List A) (x : A) → i < length values → f (view (get_or values i other)) ≡ Some x
+    → with_front xs (each_in f (map view (drop i values))) ≡ with_front (xs ++ x ∷ []) (each_in f (map view (drop (i + 1) values)))
+read_more f values i other xs x h is =
+    ap (λ vs. with_front xs (each_in f (map view vs))) (drop_more values i other h) ∙ read_one f xs (view (get_or values i other)) (map view (drop (i + 1) values)) x is
+
+-- it is none
+pub read_no_more : {A : Type 0} (f : Data → Option A) (values : List Value) (i : ℕ) (other : Value) (xs : List A) → i < length values → f (view (get_or values i other)) ≡ None
+    → with_front xs (each_in f (map view (drop i values))) ≡ None
+read_no_more f values i other xs h is =
+    ap (λ vs. with_front xs (each_in f (map view vs))) (drop_more values i other h) ∙ read_none f xs (view (get_or values i other)) (map view (drop (i + 1) values)) is

@@ -93,7 +93,6 @@ fn prefix(value: &Value) -> Option<Prefix>
     Prefix::parse(value.as_str()?.as_bytes())
 }
 
-#[tactic(auto, using(crate::proofs::Arrays::read_one, crate::proofs::Arrays::read_none))]
 fn prefixes(alloc: Global, values: &[Value]) -> Result<Option<Row<Prefix>>, NoMemory>
     ensures { IfOk result (λ o. o ≡ each_in prefix_in (map view values.now)) }
 {
