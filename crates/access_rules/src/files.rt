@@ -18,7 +18,7 @@ use std::alloc::Global;
 use toml::{Table, Value};
 
 /// The bytes of the longest rule file.
-pub const LONGEST_RULES: usize = 1_048_576;
+const LONGEST_RULES: usize = 1_048_576;
 
 /// The most rules.
 const MOST_RULES: usize = 1_024;

@@ -12,6 +12,5 @@ mod rules;
 
 pub use address::{Addr, number};
 pub use fault::RuleFault;
-pub use files::LONGEST_RULES;
 pub use rule::{Action, Prefix, Rule};
 pub use rules::{Rules, Verdict};
