@@ -4,37 +4,48 @@ ghost use Rattle.std.specs.List.{AllByRecursion};
 ghost use Rattle.byteorder.specs.Endian.{big_bytes};
 ghost use Rattle.slp_messages.specs.Layouts as layout;
 ghost use Rattle.slp_messages.specs.Layouts.{FitsLayout};
+ghost use Rattle.slp_messages.specs.Views.{attribute_request_in};
 ghost use Rattle.slp_fields.specs.Spelling.{layout_bytes};
 ghost use Rattle.slp_fields.specs.Steps.{Gives};
 ghost use Rattle.slp_fields.specs.Writing.{fields_bytes, IsField};
 ghost use Rattle.slp_bodies.specs.Bodies.{attribute_request_at, attribute_reply_at};
 
 use crate::replies::after_code;
-use slp_fields::{Field, WireFault, after_no_block, after_no_index, number_of, text_of};
-use slp_messages::{AttributeReply, AttributeRequest, ErrorCode, Kind, code};
+use slp_fields::{Field, WireFault, after_no_block, after_no_index, number_of, str_of, text_of};
+use slp_messages::{AttributeReply, AttributeRequest, AttributeRequestView, ErrorCode, Kind, code};
 use slp_text::Text;
 use std::alloc::Global;
 
-/// Reads a request.
+/// Reads a request without a copy.
 #[tactic(auto, unfolding(crate::specs::Bodies::attribute_request_at))]
+pub fn attribute_request_view_of(
+    bytes: &[u8],
+) -> Result<(AttributeRequestView<'_>, &[u8]), WireFault>
+    ensures { Gives (λ x. (attribute_request_in x.0, x.1.now)) result (attribute_request_at bytes.now) }
+{
+    let (responders, rest) = str_of(bytes)?;
+    let (subject, rest) = str_of(rest)?;
+    let (scopes, rest) = str_of(rest)?;
+    let (tags, rest) = str_of(rest)?;
+    let rest = after_no_index(rest)?;
+    let view = AttributeRequestView {
+        responders,
+        subject,
+        scopes,
+        tags,
+    };
+    Ok((view, rest))
+}
+
+/// Reads a request.
 pub fn attribute_request_of(
     alloc: Global,
     bytes: &[u8],
 ) -> Result<(AttributeRequest, &[u8]), WireFault>
     ensures { Gives (λ x. (x.0, x.1.now)) result (attribute_request_at bytes.now) }
 {
-    let (responders, rest) = text_of(alloc, bytes)?;
-    let (subject, rest) = text_of(alloc, rest)?;
-    let (scopes, rest) = text_of(alloc, rest)?;
-    let (tags, rest) = text_of(alloc, rest)?;
-    let rest = after_no_index(rest)?;
-    let request = AttributeRequest {
-        responders,
-        subject,
-        scopes,
-        tags,
-    };
-    Ok((request, rest))
+    let (view, rest) = attribute_request_view_of(bytes)?;
+    Ok((view.copy(alloc)?, rest))
 }
 
 /// The fields of a request.

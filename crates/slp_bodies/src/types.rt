@@ -4,31 +4,40 @@ ghost use Rattle.std.specs.List.{AllByRecursion};
 ghost use Rattle.byteorder.specs.Endian.{big_bytes};
 ghost use Rattle.slp_messages.specs.Layouts as layout;
 ghost use Rattle.slp_messages.specs.Layouts.{FitsLayout};
+ghost use Rattle.slp_messages.specs.Views.{type_request_in};
 ghost use Rattle.slp_fields.specs.Spelling.{layout_bytes};
 ghost use Rattle.slp_fields.specs.Steps.{Gives};
 ghost use Rattle.slp_fields.specs.Writing.{fields_bytes, IsField};
 ghost use Rattle.slp_bodies.specs.Bodies.{type_request_at, type_reply_at};
 
 use crate::replies::after_code;
-use slp_fields::{Field, WireFault, authority_of, number_of, text_of};
-use slp_messages::{ErrorCode, Kind, TypeReply, TypeRequest, code};
+use slp_fields::{Field, WireFault, authority_view_of, number_of, str_of, text_of};
+use slp_messages::{ErrorCode, Kind, TypeReply, TypeRequest, TypeRequestView, code};
 use slp_text::Text;
 use std::alloc::Global;
 
-/// Reads a request.
+/// Reads a request without a copy.
 #[tactic(auto, unfolding(crate::specs::Bodies::type_request_at))]
-pub fn type_request_of(alloc: Global, bytes: &[u8]) -> Result<(TypeRequest, &[u8]), WireFault>
-    ensures { Gives (λ x. (x.0, x.1.now)) result (type_request_at bytes.now) }
+pub fn type_request_view_of(bytes: &[u8]) -> Result<(TypeRequestView<'_>, &[u8]), WireFault>
+    ensures { Gives (λ x. (type_request_in x.0, x.1.now)) result (type_request_at bytes.now) }
 {
-    let (responders, rest) = text_of(alloc, bytes)?;
-    let (authority, rest) = authority_of(alloc, rest)?;
-    let (scopes, rest) = text_of(alloc, rest)?;
-    let request = TypeRequest {
+    let (responders, rest) = str_of(bytes)?;
+    let (authority, rest) = authority_view_of(rest)?;
+    let (scopes, rest) = str_of(rest)?;
+    let view = TypeRequestView {
         responders,
         authority,
         scopes,
     };
-    Ok((request, rest))
+    Ok((view, rest))
+}
+
+/// Reads a request.
+pub fn type_request_of(alloc: Global, bytes: &[u8]) -> Result<(TypeRequest, &[u8]), WireFault>
+    ensures { Gives (λ x. (x.0, x.1.now)) result (type_request_at bytes.now) }
+{
+    let (view, rest) = type_request_view_of(bytes)?;
+    Ok((view.copy(alloc)?, rest))
 }
 
 /// The fields of a request.

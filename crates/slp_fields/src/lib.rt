@@ -12,8 +12,8 @@ pub use fault::WireFault;
 pub use field::Field;
 pub use lengths::{LONGEST, entry_length, with_fields};
 pub use reading::{
-    after_no_block, after_no_index, authority_of, entry_view_of, listing_of, long_of, number_of,
-    str_of, text_of,
+    after_no_block, after_no_index, authority_view_of, entry_view_of, listing_of, long_of,
+    number_of, str_of, text_of,
 };
 pub use skipping::skip_fields;
 pub use writing::{append, put_entry, put_fields};

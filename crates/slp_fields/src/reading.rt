@@ -1,11 +1,11 @@
 //! Reading of single fields: each answers its value and the bytes after it.
-ghost use Rattle.slp_messages.specs.Views.{entry_in};
+ghost use Rattle.slp_messages.specs.Views.{authority_in, entry_in};
 ghost use Rattle.slp_fields.specs.Steps.{Gives};
 ghost use Rattle.slp_fields.specs.Reading.{byte_at, number_at, long_at, string_at, no_block_at, no_index_at, entry_at, entries_at, listing_at, authority_at};
 
 use crate::fault::WireFault;
 use byteorder::{BigEndian, ByteOrder};
-use slp_messages::{Authority, EntryView, UrlEntry};
+use slp_messages::{AuthorityView, EntryView, UrlEntry};
 use slp_text::{Row, Text};
 use std::alloc::Global;
 
@@ -137,15 +137,15 @@ pub fn listing_of(alloc: Global, bytes: &[u8]) -> Result<(Row<UrlEntry>, &[u8]),
 /// The greatest length of a naming authority stands for all of them.
 pub(crate) const ALL: u16 = 0xffff;
 
-/// A naming authority (RFC 2608, section 10.1).
+/// A naming authority (RFC 2608, section 10.1), lent.
 #[tactic(auto, unfolding(crate::specs::Reading::authority_at))]
-pub fn authority_of(alloc: Global, bytes: &[u8]) -> Result<(Authority, &[u8]), WireFault>
-    ensures { Gives (λ x. (x.0, x.1.now)) result (authority_at bytes.now) }
+pub fn authority_view_of(bytes: &[u8]) -> Result<(AuthorityView<'_>, &[u8]), WireFault>
+    ensures { Gives (λ x. (authority_in x.0, x.1.now)) result (authority_at bytes.now) }
 {
     let (length, rest) = number_of(bytes)?;
     if length == ALL {
-        return Ok((Authority::All, rest));
+        return Ok((AuthorityView::All, rest));
     }
-    let (name, rest) = text_of(alloc, bytes)?;
-    Ok((Authority::Named(name), rest))
+    let (name, rest) = str_of(bytes)?;
+    Ok((AuthorityView::Named(name), rest))
 }

@@ -18,5 +18,6 @@ pub use message::{
     UrlEntry, Withdrawal,
 };
 pub use views::{
-    ChangeView, EntryView, KeptHeader, RegistrationView, ServiceRequestView, WithdrawalView,
+    AttributeRequestView, AuthorityView, ChangeView, EntryView, KeptHeader, RegistrationView,
+    ServiceRequestView, TypeRequestView, WithdrawalView,
 };

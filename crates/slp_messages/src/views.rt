@@ -1,9 +1,11 @@
 //! Messages whose texts are lent: they are judged and answered without a copy.
 ghost use Rattle.std.specs.Prelude.{◌≡◌, IfOk};
-ghost use Rattle.slp_messages.specs.Views.{entry_in, header_in, registration_in, request_in, withdrawal_in};
+ghost use Rattle.slp_messages.specs.Views.{attribute_request_in, authority_in, entry_in, header_in, registration_in, request_in, type_request_in, withdrawal_in};
 
 use crate::header::{Flags, Header};
-use crate::message::{Registration, ServiceRequest, UrlEntry, Withdrawal};
+use crate::message::{
+    AttributeRequest, Authority, Registration, ServiceRequest, TypeRequest, UrlEntry, Withdrawal,
+};
 use slp_text::{NoMemory, Text};
 use std::alloc::Global;
 
@@ -29,6 +31,30 @@ pub struct ServiceRequestView<'a> {
     pub kind: &'a str,
     pub scopes: &'a str,
     pub predicate: &'a str,
+}
+
+/// An attribute request, lent.
+#[derive(Clone, Copy)]
+pub struct AttributeRequestView<'a> {
+    pub responders: &'a str,
+    pub subject: &'a str,
+    pub scopes: &'a str,
+    pub tags: &'a str,
+}
+
+/// Whose service types are asked for, lent.
+#[derive(Clone, Copy)]
+pub enum AuthorityView<'a> {
+    All,
+    Named(&'a str),
+}
+
+/// A type request, lent.
+#[derive(Clone, Copy)]
+pub struct TypeRequestView<'a> {
+    pub responders: &'a str,
+    pub authority: AuthorityView<'a>,
+    pub scopes: &'a str,
 }
 
 /// A registration, lent.
@@ -91,6 +117,52 @@ impl ServiceRequestView<'_> {
             kind,
             scopes,
             predicate,
+        })
+    }
+}
+
+impl AttributeRequestView<'_> {
+    /// The request with texts of its own.
+    pub fn copy(&self, alloc: Global) -> Result<AttributeRequest, NoMemory>
+        ensures { IfOk result (λ r. r ≡ attribute_request_in self.now) }
+    {
+        let responders = copied(alloc, self.responders)?;
+        let subject = copied(alloc, self.subject)?;
+        let scopes = copied(alloc, self.scopes)?;
+        let tags = copied(alloc, self.tags)?;
+        Ok(AttributeRequest {
+            responders,
+            subject,
+            scopes,
+            tags,
+        })
+    }
+}
+
+impl AuthorityView<'_> {
+    /// The same with a text of its own.
+    pub fn copy(&self, alloc: Global) -> Result<Authority, NoMemory>
+        ensures { IfOk result (λ a. a ≡ authority_in self.now) }
+    {
+        match self {
+            AuthorityView::All => Ok(Authority::All),
+            AuthorityView::Named(name) => Ok(Authority::Named(copied(alloc, name)?)),
+        }
+    }
+}
+
+impl TypeRequestView<'_> {
+    /// The request with texts of its own.
+    pub fn copy(&self, alloc: Global) -> Result<TypeRequest, NoMemory>
+        ensures { IfOk result (λ r. r ≡ type_request_in self.now) }
+    {
+        let responders = copied(alloc, self.responders)?;
+        let authority = self.authority.copy(alloc)?;
+        let scopes = copied(alloc, self.scopes)?;
+        Ok(TypeRequest {
+            responders,
+            authority,
+            scopes,
         })
     }
 }

@@ -8,14 +8,17 @@ pub mod laws;
 mod reading;
 mod writing;
 
-pub use reading::{decode, read_change, read_service_request};
+pub use reading::{
+    decode, read_attribute_request, read_change, read_service_request, read_type_request,
+};
 pub use slp_fields::{WireFault, append, entry_length, put_entry};
 pub use slp_headers::{
     HeaderView, error_reply, flag, offset, opening, read_header, reply_function, two_bytes,
 };
 pub use slp_messages::{
-    AttributeReply, AttributeRequest, Authority, ChangeView, DirectoryAdvert, DirectoryAgent,
-    ErrorCode, Flags, Header, Message, Registration, ServiceAgent, ServiceReply, ServiceRequest,
-    ServiceRequestView, Tag, TypeReply, TypeRequest, UrlEntry, Withdrawal, code, function,
+    AttributeReply, AttributeRequest, AttributeRequestView, Authority, AuthorityView, ChangeView,
+    DirectoryAdvert, DirectoryAgent, ErrorCode, Flags, Header, Message, Registration, ServiceAgent,
+    ServiceReply, ServiceRequest, ServiceRequestView, Tag, TypeReply, TypeRequest, TypeRequestView,
+    UrlEntry, Withdrawal, code, function,
 };
 pub use writing::encode;
