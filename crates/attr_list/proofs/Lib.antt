@@ -13,6 +13,7 @@ pub mod ReadLists
 pub mod ReadPieces
 pub mod ReadTags
 pub mod ReadValues
+pub mod SelectedElements
 pub mod SortedByKey
 pub mod SpelledElements
 pub mod StoredAttributes

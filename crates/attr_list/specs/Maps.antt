@@ -1,5 +1,5 @@
 -- What is made of attributes: updated, without some tags, some of them, and joined.
-use Rattle.std.specs.Prelude.{ℕ, not, List, [], ◌∷◌, ◌++◌, map}
+use Rattle.std.specs.Prelude.{ℕ, not, List, [], ◌∷◌, ◌++◌, map, flat_map}
 use Rattle.std.specs.FinMap as fin
 use Rattle.slp_text.specs.Tags.{Part, selects}
 use Rattle.attr_list.specs.Elements.{Element}
@@ -28,3 +28,7 @@ elements_in a = map (λ p. record { tag = p.0; values = values_in p.1 }) (fin.en
 -- joined as the elements of one list are, these first
 abbrev pub union_of : Attributes → Attributes → Attributes
 union_of a more = attributes_of (elements_in a ++ elements_in more)
+
+-- many joined so, in their order
+unfoldable pub joined_attributes : List Attributes → Attributes
+joined_attributes all = attributes_of (flat_map elements_in all)

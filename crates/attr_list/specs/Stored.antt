@@ -1,5 +1,5 @@
 -- What a list of attributes keeps.
-use Rattle.std.specs.Prelude.{ℕ, Bool, List, map, filter, is_none, not, if◌then◌else◌, T}
+use Rattle.std.specs.Prelude.{ℕ, Bool, List, map, filter, flat_map, is_none, not, if◌then◌else◌, T}
 use Rattle.slp_text.specs.Tags.{Part, selects}
 use Rattle.std.specs.FinMap as fin
 use Rattle.std.specs.FinMap.{is_sorted}
@@ -7,6 +7,7 @@ use Rattle.std.specs.List.{AllByRecursion}
 use Rattle.slp_text.specs.Words.{bytes_cmp}
 use Rattle.attr_list.specs.Lists.{Attributes, values_in}
 use Rattle.attr_list.specs.Elements.{Element}
+use Rattle.attr_list.specs.Maps.{elements_in}
 use Rattle.attr_list.specs.Texts.{IsAttribute}
 use Rattle.attr_list.specs.declared.attrs.Attribute.{Attribute}
 use Rattle.attr_list.specs.declared.held.Held.{Held}
@@ -40,3 +41,11 @@ other_attributes others list = filter (λ a. is_none (fin.get others a.tag)) lis
 -- an attribute as an element of a list
 abbrev pub element_stored : Attribute → Element
 element_stored a = record { tag = a.tag; values = values_in a.held }
+
+-- the elements whose tags a list of tags selects
+abbrev pub selected_elements : List Part → List Element → List Element
+selected_elements tags es = filter (λ e. selects tags e.tag) es
+
+-- those of many attributes
+abbrev pub selected_of_all : List Part → List Attributes → List Element
+selected_of_all tags all = flat_map (λ a. selected_elements tags (elements_in a)) all

@@ -1,10 +1,11 @@
 ghost use Rattle.std.specs.Prelude.{◌≡◌, ◌++◌, map, IfOk, OnErr};
+ghost use Rattle.std.specs.List.{AllByRecursion};
 ghost use Rattle.std.specs.FinMap as fin;
 ghost use Rattle.slp_text.specs.Tags.{selects};
 ghost use Rattle.attr_values.specs.declared.fault.AttrFault.TheVariants as fault;
-ghost use Rattle.attr_list.specs.Maps.{attributes_without, selected_attributes, union_of, updated_attributes};
-ghost use Rattle.attr_list.specs.Pieces.{element_in};
-ghost use Rattle.attr_list.specs.Stored.{element_stored, other_attributes, picked_attributes};
+ghost use Rattle.attr_list.specs.Maps.{attributes_without, elements_in, joined_attributes, selected_attributes, union_of, updated_attributes};
+ghost use Rattle.attr_list.specs.Pieces.{element_in, IsElement};
+ghost use Rattle.attr_list.specs.Stored.{element_stored, other_attributes, picked_attributes, selected_elements};
 
 use crate::attrs::{Attribute, Attrs};
 use crate::elements::Element;
@@ -72,7 +73,39 @@ fn append_others(
     Ok(())
 }
 
+// The same of those attributes whose tags a list of tags selects.
+fn append_selected(
+    alloc: Global,
+    attributes: &Attrs,
+    tags: &TagList,
+    elements: &mut Vec<Element>,
+) -> Result<(), NoMemory>
+    ensures added { IfOk result (λ _. map element_in elements.new.items ≡ map element_in elements.old.items ++ selected_elements tags.now (elements_in attributes.now)) }
+    ensures sound { IfOk result (λ _. AllByRecursion IsElement (map element_in elements.old.items) → AllByRecursion IsElement (map element_in elements.new.items)) }
+{
+    for entry in attributes.entries() {
+        if tags.selects(&entry.tag) {
+            elements.push(element_of(alloc, entry)?)?;
+        }
+    }
+    Ok(())
+}
+
 impl Attrs {
+    /// What a list of tags selects of all these, joined as the elements of one list are, in their order. Only
+    /// what is selected is copied, and it is joined once. Want of memory is the only fault.
+    pub fn joined(alloc: Global, all: &[&Attrs], tags: &TagList) -> Result<Attrs, AttrFault>
+        ensures value { IfOk result (λ a. a ≡ selected_attributes (joined_attributes (map (λ p. p.now) all.now)) tags.now) }
+        ensures memory { OnErr result (result ≡ Err fault.NoMemory) }
+    {
+        let mut elements = Vec::new(alloc);
+        for attributes in all {
+            append_selected(alloc, attributes, tags, &mut elements)?;
+        }
+        let attributes = join(alloc, elements)?;
+        Ok(attributes)
+    }
+
     /// The attributes with the tags of others as they are there. Want of memory is the only fault.
     pub fn updated(&self, alloc: Global, more: &Attrs) -> Result<Attrs, AttrFault>
         ensures value { IfOk result (λ a. a ≡ updated_attributes self.now more.now) }
