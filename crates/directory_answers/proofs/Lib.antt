@@ -1,2 +1,2 @@
-pub mod Questions
+pub mod NamedParts
 pub mod Readings

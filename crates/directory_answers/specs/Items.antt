@@ -1,10 +1,14 @@
--- Which entries answer a question, and what is answered of them (RFC 2608, section 8.2).
-use Rattle.std.specs.Prelude.{◌≡◌, ℕ, ◌-◌, ◌≤◌, Bool, true, false, ◌&&◌, is_some, List, map, Contains, IsTrue}
+-- Which entries answer a question, and what is answered of them (RFC 2608, sections 8.2, 10.2 and 10.4).
+use Rattle.std.specs.Prelude.{◌≡◌, ℕ, ◌-◌, ◌≤◌, Bool, true, false, ◌&&◌, is_none, is_some, List, map, Contains, Option, Some, None, IsTrue}
+use Rattle.std.specs.FinMap as fin
 use Rattle.std.specs.Option.{option_map_or}
+use Rattle.attr_list.specs.Lists.{Attributes}
+use Rattle.attr_list.specs.Maps.{joined_attributes, selected_attributes}
+use Rattle.attr_list.specs.Texts.{attribute_text}
 use Rattle.access_rules.specs.Deciding.{SiteRules, deciding}
 use Rattle.access_rules.specs.declared.rule.Action.TheVariants.{See}
 use Rattle.registry_core.specs.declared.entry.Entry.{Entry}
-use Rattle.service_url.specs.Types.{covers}
+use Rattle.service_url.specs.Types.{authority_of, covers}
 use Rattle.slp_text.specs.Words.{bytes_eq, IsAscending}
 use Rattle.search_filter.specs.Filters.{holds}
 use Rattle.slp_messages.specs.declared.message.UrlEntry.{UrlEntry}
@@ -12,7 +16,13 @@ use Rattle.directory_judge.specs.History.{History, now}
 use Rattle.directory_judge.specs.Meaning.{Live, rules}
 use Rattle.directory_judge.specs.Sites.{Site}
 use Rattle.directory_answers.specs.Calls.{Opening}
+use Rattle.directory_answers.specs.declared.query.AttrQuery.{AttrQuery}
+use Rattle.directory_answers.specs.declared.query.Authority.{Authority}
+use Rattle.directory_answers.specs.declared.query.Authority.TheVariants as authority
 use Rattle.directory_answers.specs.declared.query.ServiceQuery.{ServiceQuery}
+use Rattle.directory_answers.specs.declared.query.Target.{Target}
+use Rattle.directory_answers.specs.declared.query.Target.TheVariants.{Kind, Place}
+use Rattle.directory_answers.specs.declared.query.TypeQuery.{TypeQuery}
 
 -- some scope of the entry, of the request and of the site is one in which the asker may see its type
 pub record Open (rs : SiteRules) (site : Site) (asker : ℕ) (asked : List (List ℕ)) (e : Entry) : Type 0 where
@@ -27,10 +37,22 @@ pub record IsOpenNow (o : Opening) (h : History) (m asker : ℕ) (asked : List (
   pub live : Live h m e
   pub open_to : Open (rules o.rules h) o.site asker asked e
 
--- the entry is one of those that are open, and of a type that the one asked for covers
-pub record Matches (IsOpen : Entry → Type 0) (q : ServiceQuery) (e : Entry) : Type 0 where
+-- the entry is one of those that are open, and is of what is asked about
+pub record Matches (IsOpen : Entry → Type 0) (is_about : Entry → Bool) (e : Entry) : Type 0 where
   pub opened : IsOpen e
-  pub covered : IsTrue (covers q.kind e.kind)
+  pub about : IsTrue (is_about e)
+
+-- something matches, but nothing in the language
+pub record IsElsewhere (P : Entry → Type 0) (language : List ℕ) : Type 0 where
+  pub other : Entry
+  pub matched : P other
+  pub none : (e : Entry) → P e → bytes_eq e.language language ≡ false
+
+-- ---- services
+
+-- of a type that the one asked for covers
+abbrev pub is_covered : ServiceQuery → Entry → Bool
+is_covered q e = covers q.kind e.kind
 
 -- it is asked for: any is where there is no filter, else those in the language on whose attributes the filter holds
 abbrev pub is_wanted : ServiceQuery → Entry → Bool
@@ -38,15 +60,13 @@ is_wanted q e = option_map_or (λ f. bytes_eq e.language q.language && holds f e
 
 -- the entry matches, and is asked for
 pub record Answers (IsOpen : Entry → Type 0) (q : ServiceQuery) (e : Entry) : Type 0 where
-  pub matched : Matches IsOpen q e
+  pub matched : Matches IsOpen (is_covered q) e
   pub wanted : IsTrue (is_wanted q e)
 
 -- there is a filter, and something matches, but nothing in the language that is asked for
 pub record IsForeign (IsOpen : Entry → Type 0) (q : ServiceQuery) : Type 0 where
   pub filtered : IsTrue (is_some q.filter)
-  pub other : Entry
-  pub matched : Matches IsOpen q other
-  pub none : (e : Entry) → Matches IsOpen q e → bytes_eq e.language q.language ≡ false
+  pub elsewhere : IsElsewhere (Matches IsOpen (is_covered q)) q.language
 
 -- the URL of an entry of which P holds, with the greatest remaining lifetime of all such entries of the URL
 pub record IsItem (P : Entry → Type 0) (moment : ℕ) (i : UrlEntry) : Type 0 where
@@ -65,3 +85,64 @@ pub record AreItems (P : Entry → Type 0) (moment : ℕ) (items : List UrlEntry
 -- the answer set of a service request
 abbrev pub AreServices : Opening → History → ℕ → ℕ → ServiceQuery → List UrlEntry → Type 0
 AreServices o h m asker q items = AreItems (Answers (IsOpenNow o h m asker q.scopes) q) (now h m) items
+
+-- ---- attributes
+
+-- of the URL, or of a type that the one asked for covers
+abbrev pub is_target : Target → Entry → Bool
+is_target (Kind kind) e = covers kind e.kind
+is_target (Place url) e = bytes_eq e.url url
+
+-- the type that is asked about, if it is a type
+abbrev pub kind_asked : Target → Option (List ℕ)
+kind_asked (Kind kind) = Some kind
+kind_asked (Place url) = None
+
+abbrev pub IsAskedAbout : (Entry → Type 0) → AttrQuery → Entry → Type 0
+IsAskedAbout IsOpen q = Matches IsOpen (is_target q.target)
+
+-- it is asked about, in the language
+pub record IsDescribed (IsOpen : Entry → Type 0) (q : AttrQuery) (e : Entry) : Type 0 where
+  pub matched : IsAskedAbout IsOpen q e
+  pub language : IsTrue (bytes_eq e.language q.language)
+
+-- the entries of which P holds, none missing and none besides, each once, in the byte order of their URLs
+pub record AreInOrder (P : Entry → Type 0) (es : List Entry) : Type 0 where
+  pub ordered : IsAscending (map (λ e. e.url) es)
+  pub each : (e : Entry) → Contains es e → P e
+  pub all : (e : Entry) → P e → Contains es e
+
+-- what the tags select of the attributes of these entries, joined in the byte order of their URLs
+pub record AreJoined (P : Entry → Type 0) (q : AttrQuery) (a : Attributes) : Type 0 where
+  pub from : List Entry
+  pub in_order : AreInOrder P from
+  pub joined : a ≡ selected_attributes (joined_attributes (map (λ e. e.attrs) from)) q.tags
+
+-- the answer set of an attribute request
+abbrev pub AreAttributesOf : Opening → History → ℕ → ℕ → AttrQuery → Attributes → Type 0
+AreAttributesOf o h m asker q = AreJoined (IsDescribed (IsOpenNow o h m asker q.scopes) q) q
+
+-- each attribute as it is written, in key order
+abbrev pub attribute_texts : Attributes → List (List ℕ)
+attribute_texts a = map (λ p. attribute_text p.0 p.1) (fin.entries a)
+
+-- ---- types
+
+-- of a type with the naming authority that is asked for
+abbrev pub is_under : Authority → Entry → Bool
+is_under authority.All e = true
+is_under authority.Unnamed e = is_none (authority_of e.kind)
+is_under (authority.Named name) e = option_map_or (λ own. bytes_eq own name) (authority_of e.kind) false
+
+abbrev pub IsNamed : (Entry → Type 0) → TypeQuery → Entry → Type 0
+IsNamed IsOpen q = Matches IsOpen (is_under q.authority)
+
+-- the types of the entries of which P holds, none missing and none besides, each once, in key order
+pub record AreTypes (P : Entry → Type 0) (types : List (List ℕ)) : Type 0 where
+  pub ordered : IsAscending types
+  pub each : (t : List ℕ) → Contains types t → (e : Entry) × P e × (e.kind ≡ t)
+  pub all : (e : Entry) → P e → Contains types e.kind
+
+-- the answer set of a type request
+abbrev pub AreTypesOf : Opening → History → ℕ → ℕ → TypeQuery → List (List ℕ) → Type 0
+AreTypesOf o h m asker q = AreTypes (IsNamed (IsOpenNow o h m asker q.scopes) q)

@@ -8,10 +8,11 @@ mod fault;
 mod query;
 mod question;
 mod reading;
+mod responders;
 
 pub use call::Call;
 pub use change::{is_change, is_change_function};
 pub use fault::decider_of;
-pub use query::{QueryFault, ServiceQuery};
+pub use query::{AgentQuery, AttrQuery, Authority, QueryFault, ServiceQuery, Target, TypeQuery};
 pub use question::{Question, asked};
 pub use reading::{asked_change, understood};

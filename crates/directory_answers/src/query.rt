@@ -1,11 +1,12 @@
 ghost use Rattle.std.specs.Prelude.{◌≡◌};
-ghost use Rattle.directory_answers.specs.Items.{is_wanted};
+ghost use Rattle.std.specs.Option.{option_copied};
+ghost use Rattle.directory_answers.specs.Items.{is_target, is_under, is_wanted, kind_asked};
 ghost use Rattle.directory_answers.specs.declared.query.QueryFault.TheVariants as fault;
 
 use registry_core::Entry;
 use search_filter::Filter;
-use service_url::ServiceType;
-use slp_text::{Key, NoMemory, ScopeList};
+use service_url::{ServiceType, Url};
+use slp_text::{Key, NoMemory, ScopeList, TagList};
 use std::alloc::{AllocError, AllocFailed};
 use thiserror::Error;
 
@@ -29,6 +30,87 @@ impl ServiceQuery {
             None => true,
         }
     }
+}
+
+/// What an attribute request is about: a type and what it covers, or one URL.
+#[derive(Drop)]
+pub enum Target {
+    Kind(ServiceType),
+    Place(Url),
+}
+
+impl Target {
+    /// The type, if it is one. Takes no memory.
+    pub fn kind(&self) -> Option<&ServiceType>
+        ensures { option_copied result ≡ kind_asked self.now }
+    {
+        match self {
+            Target::Kind(kind) => Some(kind),
+            Target::Place(_) => None,
+        }
+    }
+
+    /// Whether it is about an entry. Takes no memory.
+    pub fn is_about(&self, entry: &Entry) -> bool
+        ensures { result ≡ is_target self.now entry.now }
+    {
+        match self {
+            Target::Kind(kind) => kind.covers(&entry.kind),
+            Target::Place(url) => entry.url == *url,
+        }
+    }
+}
+
+/// What an attribute request asks for (RFC 2608, section 10.3).
+#[derive(Drop)]
+pub struct AttrQuery {
+    pub target: Target,
+    pub scopes: ScopeList,
+    pub language: Key,
+    /// The tags that are asked for; where there is none, all are.
+    pub tags: TagList,
+}
+
+/// Whose types a type request asks for (RFC 2608, section 10.1).
+#[derive(Drop)]
+pub enum Authority {
+    /// Those of every naming authority.
+    All,
+    /// Those without one.
+    Unnamed,
+    Named(Key),
+}
+
+impl Authority {
+    /// Whether the type of an entry is among those. Takes no memory.
+    pub fn is_over(&self, entry: &Entry) -> bool
+        ensures { result ≡ is_under self.now entry.now }
+    {
+        match self {
+            Authority::All => true,
+            Authority::Unnamed => entry.kind.authority().is_none(),
+            Authority::Named(name) => match entry.kind.authority() {
+                Some(own) => own == name.as_str(),
+                None => false,
+            },
+        }
+    }
+}
+
+/// What a type request asks for.
+#[derive(Drop)]
+pub struct TypeQuery {
+    pub authority: Authority,
+    pub scopes: ScopeList,
+}
+
+/// Which directory agents are asked for (RFC 2608, section 11.2).
+#[derive(Drop)]
+pub struct AgentQuery {
+    /// Their type.
+    pub kind: ServiceType,
+    /// None where the scopes or the predicate are not read.
+    pub scopes: Option<ScopeList>,
 }
 
 /// Why a question has no answer: an error code (RFC 2608, section 7).

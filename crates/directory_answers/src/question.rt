@@ -1,86 +1,246 @@
-ghost use Rattle.std.specs.Result.{result_ok};
 ghost use Rattle.search_filter.specs.Reading.{predicate_in};
-ghost use Rattle.std.specs.Prelude.{◌≡◌, ◌==◌, ◌||◌, not, length, IfOk, MatchResult, Some};
-ghost use Rattle.slp_headers.specs.Headers.{has_flag, heading_in, heading_of};
-ghost use Rattle.slp_headers.specs.declared.flag.TheConstants.{MULTICAST};
-ghost use Rattle.slp_messages.specs.Views.{request_in};
+ghost use Rattle.std.specs.Result.{result_ok};
+ghost use Rattle.std.specs.Prelude.{◌≡◌, ◌⊎◌, IfOk, MatchResult, Some};
+ghost use Rattle.slp_headers.specs.Headers.{heading_in, heading_of};
+ghost use Rattle.slp_messages.specs.Views.{attribute_request_in, authority_in, request_in, type_request_in};
 ghost use Rattle.slp_wire.specs.Reading.{kept_header};
-ghost use Rattle.directory_answers.specs.Questions.{question_of};
+ghost use Rattle.slp_text.specs.Scopes.{scopes_of};
+ghost use Rattle.directory_answers.specs.Questions.{agents_in, attribute_question, authority_asked, service_question, target_of, type_question};
 ghost use Rattle.directory_answers.specs.Readings.{IsAsked, IsUnread};
 
-use crate::query::ServiceQuery;
-use directory_judge::{is_agent, read_kind, read_scopes};
+use crate::query::{AgentQuery, AttrQuery, Authority, ServiceQuery, Target, TypeQuery};
+use crate::responders;
+use access_rules::Addr;
+use directory_judge::{is_agent, read_kind, read_language, read_scopes, read_tags, read_url};
 use search_filter::{Filter, FilterFault};
-use slp_text::{NoMemory, TextFault, is_blank, key};
-use slp_wire::{HeaderView, ServiceRequestView, WireFault, flag, read_service_request};
+use service_url::{ServiceType, UrlFault, parse_authority};
+use slp_text::{NoMemory, is_blank};
+use slp_wire::{
+    AttributeRequestView, AuthorityView, HeaderView, ServiceRequestView, TypeRequestView,
+    WireFault, function, read_attribute_request, read_service_request, read_type_request,
+};
 use std::alloc::Global;
 
-/// What a service request asks.
+/// What a message asks that asks for no change.
 #[derive(Drop)]
 pub enum Question {
-    /// Nothing that a directory answers.
+    /// Nothing that a directory answers, or it answered already.
     Silent,
-    /// Its type, its scopes or its predicate are not read.
+    /// A part of it is not read.
     Unreadable,
-    Asks(ServiceQuery),
+    Services(ServiceQuery),
+    Attributes(AttrQuery),
+    Types(TypeQuery),
+    Agents(AgentQuery),
 }
 
 /// The type that only service agents answer for.
 const OTHER_AGENT_TYPE: &str = "service:service-agent";
 
-/// What the service request in front of bytes asks, or the fault for which they are none. The header
-/// was read from them, and is that of a service request. Requests that are sent to many or name
-/// responders, and those for directory agents are not answered yet.
+/// What the request in front of bytes asks at an address, or the fault for which they are none. The header
+/// was read from them, and is that of a service, attribute or type request.
 pub fn asked(
     alloc: Global,
+    own: Addr,
+    header: &HeaderView<'_>,
+    bytes: &[u8],
+) -> Result<Result<Question, WireFault>, NoMemory>
+    requires header { heading_of bytes.now ≡ Some (heading_in header.now) }
+    requires function { (header.now.function ≡ 1) ⊎ ((header.now.function ≡ 6) ⊎ (header.now.function ≡ 9)) }
+    ensures { IfOk result (λ read. MatchResult read (IsAsked own bytes.now) (IsUnread bytes.now)) }
+{
+    match header.function {
+        function::SERVICE_REQUEST => services_asked(alloc, own, header, bytes),
+        function::ATTRIBUTE_REQUEST => attributes_asked(alloc, own, header, bytes),
+        _ => types_asked(alloc, own, header, bytes),
+    }
+}
+
+// What a service request asks.
+fn services_asked(
+    alloc: Global,
+    own: Addr,
     header: &HeaderView<'_>,
     bytes: &[u8],
 ) -> Result<Result<Question, WireFault>, NoMemory>
     requires header { heading_of bytes.now ≡ Some (heading_in header.now) }
     requires function { header.now.function ≡ 1 }
-    ensures { IfOk result (λ read. MatchResult read (IsAsked (heading_in header.now) bytes.now) (IsUnread bytes.now)) }
+    ensures { IfOk result (λ read. MatchResult read (IsAsked own bytes.now) (IsUnread bytes.now)) }
 {
     match read_service_request(header, bytes) {
-        Ok(request) => Ok(Ok(question_in(alloc, header, &request)?)),
+        Ok(request) => {
+            if responders::has_answered(alloc, own, request.responders)? {
+                return Ok(Ok(Question::Silent));
+            }
+            Ok(Ok(service_question_in(alloc, header, &request)?))
+        }
         Err(WireFault::NoMemory) => Err(NoMemory),
         Err(fault) => Ok(Err(fault)),
     }
 }
 
-// What a service request asks.
-fn question_in(
+// What an attribute request asks.
+fn attributes_asked(
+    alloc: Global,
+    own: Addr,
+    header: &HeaderView<'_>,
+    bytes: &[u8],
+) -> Result<Result<Question, WireFault>, NoMemory>
+    requires header { heading_of bytes.now ≡ Some (heading_in header.now) }
+    requires function { header.now.function ≡ 6 }
+    ensures { IfOk result (λ read. MatchResult read (IsAsked own bytes.now) (IsUnread bytes.now)) }
+{
+    match read_attribute_request(header, bytes) {
+        Ok(request) => {
+            if responders::has_answered(alloc, own, request.responders)? {
+                return Ok(Ok(Question::Silent));
+            }
+            Ok(Ok(attribute_question_in(alloc, header, &request)?))
+        }
+        Err(WireFault::NoMemory) => Err(NoMemory),
+        Err(fault) => Ok(Err(fault)),
+    }
+}
+
+// What a type request asks.
+fn types_asked(
+    alloc: Global,
+    own: Addr,
+    header: &HeaderView<'_>,
+    bytes: &[u8],
+) -> Result<Result<Question, WireFault>, NoMemory>
+    requires header { heading_of bytes.now ≡ Some (heading_in header.now) }
+    requires function { header.now.function ≡ 9 }
+    ensures { IfOk result (λ read. MatchResult read (IsAsked own bytes.now) (IsUnread bytes.now)) }
+{
+    match read_type_request(header, bytes) {
+        Ok(request) => {
+            if responders::has_answered(alloc, own, request.responders)? {
+                return Ok(Ok(Question::Silent));
+            }
+            Ok(Ok(type_question_in(alloc, &request)?))
+        }
+        Err(WireFault::NoMemory) => Err(NoMemory),
+        Err(fault) => Ok(Err(fault)),
+    }
+}
+
+// What a service request asks of who has not answered.
+fn service_question_in(
     alloc: Global,
     header: &HeaderView<'_>,
     request: &ServiceRequestView<'_>,
 ) -> Result<Question, NoMemory>
-    ensures { IfOk result (λ q. q ≡ question_of (kept_header (heading_in header.now)) (request_in request.now)) }
+    ensures { IfOk result (λ q. q ≡ service_question (kept_header (heading_in header.now)) (request_in request.now)) }
 {
-    let kind = read_kind(alloc, request.kind)?;
-    if is_odd(header, request) || is_agent(kind.as_ref()) {
-        return Ok(Question::Silent);
-    }
-    let Some(kind) = kind else {
+    let Some(kind) = read_kind(alloc, request.kind)? else {
         return Ok(Question::Unreadable);
     };
+    if is_agent(Some(&kind)) {
+        return agents_question_in(alloc, kind, request);
+    }
     if kind.text() == OTHER_AGENT_TYPE {
         return Ok(Question::Silent);
     }
     let Some(scopes) = read_scopes(alloc, request.scopes)? else {
         return Ok(Question::Unreadable);
     };
-    let language = match key(alloc, header.language) {
-        Ok(language) => language,
-        Err(TextFault::NoMemory) => return Err(NoMemory),
-        Err(_) => unreachable!(),
-    };
+    let language = read_language(alloc, header.language)?;
     match read_predicate(alloc, request.predicate)? {
-        Some(filter) => Ok(Question::Asks(ServiceQuery {
+        Some(filter) => Ok(Question::Services(ServiceQuery {
             kind,
             scopes,
             language,
             filter,
         })),
         None => Ok(Question::Unreadable),
+    }
+}
+
+// What who asks for directory agents asks. The predicate is read, and not kept.
+fn agents_question_in(
+    alloc: Global,
+    kind: ServiceType,
+    request: &ServiceRequestView<'_>,
+) -> Result<Question, NoMemory>
+    ensures { IfOk result (λ q. q ≡ agents_in kind (result_ok (scopes_of request.now.scopes.now)) (result_ok (predicate_in request.now.predicate.now))) }
+{
+    if read_predicate(alloc, request.predicate)?.is_none() {
+        return Ok(Question::Agents(AgentQuery { kind, scopes: None }));
+    }
+    let scopes = read_scopes(alloc, request.scopes)?;
+    Ok(Question::Agents(AgentQuery { kind, scopes }))
+}
+
+// What an attribute request asks of who has not answered.
+fn attribute_question_in(
+    alloc: Global,
+    header: &HeaderView<'_>,
+    request: &AttributeRequestView<'_>,
+) -> Result<Question, NoMemory>
+    ensures { IfOk result (λ q. q ≡ attribute_question (kept_header (heading_in header.now)) (attribute_request_in request.now)) }
+{
+    let Some(target) = read_target(alloc, request.subject)? else {
+        return Ok(Question::Unreadable);
+    };
+    let Some(scopes) = read_scopes(alloc, request.scopes)? else {
+        return Ok(Question::Unreadable);
+    };
+    let language = read_language(alloc, header.language)?;
+    match read_tags(alloc, request.tags)? {
+        Some(tags) => Ok(Question::Attributes(AttrQuery {
+            target,
+            scopes,
+            language,
+            tags,
+        })),
+        None => Ok(Question::Unreadable),
+    }
+}
+
+// What a type request asks of who has not answered.
+fn type_question_in(alloc: Global, request: &TypeRequestView<'_>) -> Result<Question, NoMemory>
+    ensures { IfOk result (λ q. q ≡ type_question (type_request_in request.now)) }
+{
+    let Some(authority) = read_authority(alloc, request.authority)? else {
+        return Ok(Question::Unreadable);
+    };
+    match read_scopes(alloc, request.scopes)? {
+        Some(scopes) => Ok(Question::Types(TypeQuery { authority, scopes })),
+        None => Ok(Question::Unreadable),
+    }
+}
+
+// The type, or else the URL, that a text is, if it is one.
+fn read_target(alloc: Global, text: &str) -> Result<Option<Target>, NoMemory>
+    ensures { IfOk result (λ t. t ≡ target_of text.now) }
+{
+    if let Some(kind) = read_kind(alloc, text)? {
+        return Ok(Some(Target::Kind(kind)));
+    }
+    match read_url(alloc, text)? {
+        Some(url) => Ok(Some(Target::Place(url))),
+        None => Ok(None),
+    }
+}
+
+// Whose types are asked for, if that is read.
+fn read_authority(
+    alloc: Global,
+    authority: AuthorityView<'_>,
+) -> Result<Option<Authority>, NoMemory>
+    ensures { IfOk result (λ a. a ≡ authority_asked (authority_in authority.entry)) }
+{
+    let AuthorityView::Named(text) = authority else {
+        return Ok(Some(Authority::All));
+    };
+    if text.is_empty() {
+        return Ok(Some(Authority::Unnamed));
+    }
+    match parse_authority(alloc, text) {
+        Ok(name) => Ok(Some(Authority::Named(name))),
+        Err(UrlFault::NoMemory) => Err(NoMemory),
+        Err(_) => Ok(None),
     }
 }
 
@@ -96,11 +256,4 @@ fn read_predicate(alloc: Global, predicate: &str) -> Result<Option<Option<Filter
         Err(FilterFault::NoMemory) => Err(NoMemory),
         Err(_) => Ok(None),
     }
-}
-
-// Whether a request is sent to many, or names responders.
-fn is_odd(header: &HeaderView<'_>, request: &ServiceRequestView<'_>) -> bool
-    ensures { result ≡ (has_flag MULTICAST header.now.flags || not (length request.now.responders.now == 0)) }
-{
-    header.flags & flag::MULTICAST != 0 || !request.responders.is_empty()
 }

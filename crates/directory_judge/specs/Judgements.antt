@@ -74,7 +74,7 @@ pub data Judgement : Type 0 where
   Accepts : Event → Because → Judgement
   -- no change, and nobody had to decide
   Ignores : Judgement
-  -- nothing comes of it yet
+  -- nothing is judged of a message that asks for no change
   Waits : Judgement
   -- an error code
   Denies : ℕ → Because → Judgement
@@ -147,19 +147,14 @@ because_of_entry d e = record { decider = d; kind = Some e.kind; scope = slice_g
 abbrev pub because_of_placed : Decider → Placed → Because
 because_of_placed d placed = because_of_entry d (arc_value placed.entry)
 
--- ---- what is not judged yet
+-- ---- the type of directory agents
 
--- `service:directory-agent`, which no one registers
 abbrev pub agent_type : List ℕ
 agent_type = codes "service:directory-agent"
 
 abbrev pub is_agent : Option (List ℕ) → Bool
 is_agent (Some kind) = bytes_eq kind agent_type
 is_agent None = false
-
--- Registrations of which nothing comes yet: those sent to many, and those of a directory agent.
-abbrev pub is_ignored : Header → Registration → Bool
-is_ignored h r = h.flags.multicast || is_agent (result_ok (type_of r.kind))
 
 -- ---- what a registration names
 
@@ -268,7 +263,7 @@ judgement_of_reading g h r (Ok t) = judgement_of_particulars g h r t
 judgement_of_reading g h r (Err j) = j
 
 abbrev pub judgement_of_registration : Grounds → Header → Registration → Judgement
-judgement_of_registration g h r = if is_ignored h r then Waits else judgement_of_reading g h r (particulars g.site h r)
+judgement_of_registration g h r = judgement_of_reading g h r (particulars g.site h r)
 
 -- ---- withdrawals of a URL
 
@@ -355,11 +350,9 @@ judgement_of_texts g language (Some url) (Some tags) None = denial_by decider.Pa
 judgement_of_texts g language (Some url) None scopes = denial_by decider.Parse
 judgement_of_texts g language None tags scopes = denial_by decider.Parse
 
--- nothing comes yet of those sent to many
 abbrev pub judgement_of_withdrawal : Grounds → Header → Withdrawal → Judgement
 judgement_of_withdrawal g h w =
-    if h.flags.multicast then Waits
-    else judgement_of_texts g (key_of h.language) (result_ok (url_of w.entry.url)) (result_ok (tags_of w.tags)) (result_ok (scopes_of w.scopes))
+    judgement_of_texts g (key_of h.language) (result_ok (url_of w.entry.url)) (result_ok (tags_of w.tags)) (result_ok (scopes_of w.scopes))
 
 -- ---- messages that may change something
 
@@ -395,12 +388,11 @@ judgement_in (decision.Founded placed d) = judged.Accept (change.Put placed) (be
 judgement_in (decision.Edited placed d) = judged.Accept (change.Edit placed) (because_of_placed d placed)
 judgement_in (decision.Judged j) = j
 
--- the code of it, and who decided on what, where there is a verdict
-abbrev pub finding_in : Judged → Option (ℕ × Because)
-finding_in (judged.Accept c because) = Some (OK, because)
-finding_in judged.Nothing = Some (code_by decider.Nobody, by_step decider.Nobody None)
-finding_in judged.Unjudged = None
-finding_in (judged.Deny code because) = Some (code, because)
+-- the code of it, and who decided on what
+abbrev pub finding_in : Judged → ℕ × Because
+finding_in (judged.Accept c because) = (OK, because)
+finding_in judged.Nothing = (code_by decider.Nobody, by_step decider.Nobody None)
+finding_in (judged.Deny code because) = (code, because)
 
 abbrev pub finding_of : Finding → ℕ × Because
 finding_of f = (f.code, because_of f.reason)
@@ -409,12 +401,10 @@ finding_of f = (f.code, because_of f.reason)
 abbrev pub change_of : Judged → Option Change
 change_of (judged.Accept c because) = Some c
 change_of judged.Nothing = None
-change_of judged.Unjudged = None
 change_of (judged.Deny code because) = None
 
 -- what was answered is the judgement, with a change that holds what the event asks for
 abbrev pub IsJudgement : Entries → Judged → Judgement → Type 0
 IsJudgement live (judged.Accept c because) j = (event : Event) × (j ≡ Accepts event because) × (content c ≡ content_on live event)
 IsJudgement live judged.Nothing j = j ≡ Ignores
-IsJudgement live judged.Unjudged j = j ≡ Waits
 IsJudgement live (judged.Deny code because) j = j ≡ Denies code because

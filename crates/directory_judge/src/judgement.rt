@@ -1,5 +1,4 @@
 ghost use Rattle.std.specs.Prelude.{◌≡◌, IfOk};
-ghost use Rattle.std.specs.Option.{option_map};
 ghost use Rattle.directory_judge.specs.Judgements.{because_of, finding_of, because_of_placed, judgement_in, change_of, finding_in};
 
 use crate::change::{Change, Placed};
@@ -14,8 +13,6 @@ pub enum Judged {
     Accept(Change, Because),
     /// Nothing is changed, and nobody had to decide.
     Nothing,
-    /// Messages of this kind are not judged yet.
-    Unjudged,
     /// An error code (RFC 2608, section 7).
     Deny(u16, Because),
 }
@@ -42,29 +39,28 @@ fn registering_reason(placed: &Placed, decider: Decider) -> Reason<'_>
 }
 
 impl Decision {
-    /// The code of what was decided, and who decided on what, where there is a verdict.
-    pub fn finding(&self) -> Option<Finding<'_>>
-        ensures { option_map finding_of result ≡ finding_in (judgement_in self.now) }
+    /// The code of what was decided, and who decided on what.
+    pub fn finding(&self) -> Finding<'_>
+        ensures { finding_of result ≡ finding_in (judgement_in self.now) }
     {
         match self {
-            Decision::Founded(placed, decider) => Some(Finding {
+            Decision::Founded(placed, decider) => Finding {
                 code: code::OK,
                 reason: registering_reason(placed, *decider),
-            }),
-            Decision::Edited(placed, decider) => Some(Finding {
+            },
+            Decision::Edited(placed, decider) => Finding {
                 code: code::OK,
                 reason: registering_reason(placed, *decider),
-            }),
-            Decision::Judged(Judged::Accept(_, because)) => Some(Finding {
+            },
+            Decision::Judged(Judged::Accept(_, because)) => Finding {
                 code: code::OK,
                 reason: because.reason(),
-            }),
-            Decision::Judged(Judged::Nothing) => Some(Finding::by(Decider::Nobody, None)),
-            Decision::Judged(Judged::Unjudged) => None,
-            Decision::Judged(Judged::Deny(code, because)) => Some(Finding {
+            },
+            Decision::Judged(Judged::Nothing) => Finding::by(Decider::Nobody, None),
+            Decision::Judged(Judged::Deny(code, because)) => Finding {
                 code: *code,
                 reason: because.reason(),
-            }),
+            },
         }
     }
 

@@ -16,7 +16,7 @@ mod withdrawals;
 pub use change::{Change, Placed, Withdrawn};
 pub use grounds::Grounds;
 pub use judgement::{Decision, Judged};
-pub use particulars::{is_agent, read_kind, read_scopes};
+pub use particulars::{is_agent, read_kind, read_language, read_scopes, read_tags, read_url};
 pub use reason::{Because, Decider, Finding, Reason};
 pub use registrations::{change_view, judge_on};
 pub use site::Site;

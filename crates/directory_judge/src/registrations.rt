@@ -147,9 +147,6 @@ impl<'a, R: Registry> Grounds<'a, R> {
         ensures { IfOk result (λ j. IsJudgement self.now.live (judgement_in j) (judgement_of_registration self.now (header_in header.now) (registration_in registration.now))) }
     {
         let kind = read_kind(alloc, registration.kind)?;
-        if header.flags.multicast || is_agent(kind.as_ref()) {
-            return Ok(Decision::Judged(Judged::Unjudged));
-        }
         match name(alloc, self.site, header, registration, kind)? {
             Reading::Denied(because) => Ok(Decision::Judged(denied(because))),
             Reading::Read(particulars) => self.judge_particulars(

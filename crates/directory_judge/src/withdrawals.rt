@@ -191,9 +191,6 @@ impl<'a, R: Registry> Grounds<'a, R> {
     ) -> Result<Judged, NoMemory>
         ensures { IfOk result (λ j. IsJudgement self.now.live j (judgement_of_withdrawal self.now (header_in header.now) (withdrawal_in withdrawal.now))) }
     {
-        if header.flags.multicast {
-            return Ok(Judged::Unjudged);
-        }
         match read_tags(alloc, withdrawal.tags)? {
             Some(tags) => self.judge_asked(alloc, header, withdrawal, &tags),
             None => Ok(deny_by(Decider::Parse)),

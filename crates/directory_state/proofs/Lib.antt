@@ -1,4 +1,5 @@
 pub mod AcceptedChanges
+pub mod ArrangedEntries
 pub mod Conforming
 pub mod Cuts
 pub mod EventContents
@@ -10,6 +11,7 @@ pub mod Judgements
 pub mod Languages
 pub mod LegalHistories
 pub mod Lifetimes
+pub mod OpenEntries
 pub mod Outcomes
 pub mod Reloads
 pub mod Rows
@@ -18,3 +20,4 @@ pub mod SearchAnswers
 pub mod SeenUrls
 pub mod Shortlists
 pub mod States
+pub mod Viewers

@@ -1,5 +1,5 @@
 -- What is seen answers the question.
-use Rattle.std.proofs.Common.{◌≡◌, ℕ, ◌+◌, ◌≤◌, max, Bool, true, false, cond, List, [], ◌∷◌, map, get_or, Some, None, Result, Ok, Err, refl, sym, ap, ap₂, subst, ◌∙◌, arith, inl, inr}
+use Rattle.std.proofs.Common.{◌≡◌, ℕ, ◌+◌, ◌≤◌, max, Bool, true, false, cond, List, [], ◌∷◌, map, get_or, Option, Some, None, Result, Ok, Err, refl, sym, ap, ap₂, subst, ◌∙◌, arith, inl, inr}
 use Rattle.std.specs.Prelude.{◌&&◌, ◌||◌, IsTrue, IfOk, IsErrOf, is_some, slice_get, filter, find, Contains}
 use Rattle.std.specs.List.{list_any, All, AllByRecursion}
 use Rattle.std.specs.BTreeMap.{is_at}
@@ -18,9 +18,8 @@ use Rattle.slp_text.proofs.KeySets.{bytes_same}
 use Rattle.access_rules.specs.Deciding.{SiteRules, deciding}
 use Rattle.access_rules.specs.declared.rule.Action.TheVariants.{See}
 use Rattle.registry_core.specs.declared.entry.Entry.{Entry}
-use Rattle.registry_core.specs.Entries.{Entries, pair_of, is_of, outlives, has_scope, is_at_place, IsDistinct, IsListing}
+use Rattle.registry_core.specs.Entries.{Entries, pair_of, is_of, is_kind, outlives, has_scope, is_at_place, IsDistinct, IsListing}
 use Rattle.registry_core.proofs.Lists.{pair_eq-true, pair_eq-same}
-use Rattle.service_url.specs.Types.{covers}
 use Rattle.slp_text.specs.Words.{bytes_eq, bytes_cmp, IsAscending}
 use Rattle.search_filter.specs.Filters.{holds}
 use Rattle.slp_messages.specs.declared.message.UrlEntry.{UrlEntry}
@@ -30,7 +29,7 @@ use Rattle.directory_judge.specs.Judgements.{supports}
 use Rattle.directory_judge.specs.Meaning.{AreLive, rules}
 use Rattle.directory_judge.specs.Sites.{Site}
 use Rattle.directory_answers.specs.declared.query.ServiceQuery.{ServiceQuery}
-use Rattle.directory_answers.specs.Items.{is_wanted, Answers, IsForeign, IsOpenNow, Matches, IsItem, AreItems, AreServices}
+use Rattle.directory_answers.specs.Items.{is_covered, is_wanted, Answers, IsForeign, IsOpenNow, Matches, IsItem, AreItems, AreServices}
 use Rattle.directory_state.specs.Deadlines.{UrlDeadline, urls_of}
 use Rattle.directory_state.specs.declared.search.Spoken.TheVariants.{Others}
 use Rattle.directory_state.specs.Searches.{deadlines_with, entries_in, is_found, is_seen, found_entries, seen_entries, spoken_of, item_at}
@@ -70,7 +69,7 @@ each_passes (x ∷ xs) s =
     (All-weaker (λ y. y ≡ s → list_any (λ k. bytes_eq k s) xs ≡ true) (λ y. y ≡ s → list_any (λ k. bytes_eq k s) (x ∷ xs) ≡ true)
     (λ y is same. ap (λ b. bytes_eq x s || b) (is same) ∙ or_cond-true (bytes_eq x s)) xs (each_passes xs s))
 
-list_any-contains : (xs : List (List ℕ)) (s : List ℕ) → list_any (λ k. bytes_eq k s) xs ≡ true → Contains xs s
+pub list_any-contains : (xs : List (List ℕ)) (s : List ℕ) → list_any (λ k. bytes_eq k s) xs ≡ true → Contains xs s
 list_any-contains [] s h = cc
 list_any-contains (x ∷ xs) s h =
     elim (bytes_eq x s) as (λ b. bytes_eq x s ≡ b → cond b true (list_any (λ k. bytes_eq k s) xs) ≡ true → Contains (x ∷ xs) s) [
@@ -78,7 +77,7 @@ list_any-contains (x ∷ xs) s h =
       | false ↦ λ t rest. there x s xs (list_any-contains xs s rest)
     ] refl (or_cond (bytes_eq x s) (list_any (λ k. bytes_eq k s) xs) ∙ h)
 
-contains-list_any : (xs : List (List ℕ)) (s : List ℕ) → Contains xs s → list_any (λ k. bytes_eq k s) xs ≡ true
+pub contains-list_any : (xs : List (List ℕ)) (s : List ℕ) → Contains xs s → list_any (λ k. bytes_eq k s) xs ≡ true
 contains-list_any xs s h = All-contains (λ y. y ≡ s → list_any (λ k. bytes_eq k s) xs ≡ true) xs s (each_passes xs s) h refl
 
 kept_all : (p : Entry → Bool) (es : List Entry) → All (λ e. p e ≡ true → Contains (filter p es) e) es
@@ -90,12 +89,12 @@ kept_all p (x ∷ es) =
       | false ↦ λ f. All-cons (λ e. p e ≡ true → Contains (filter p es) e) x es (λ t. absurd (let k : true ≡ false = sym t ∙ f in cc)) (kept_all p es)
     ] refl
 
-Contains-filter : (p : Entry → Bool) (es : List Entry) (e : Entry) → Contains es e → p e ≡ true → Contains (filter p es) e
+pub Contains-filter : (p : Entry → Bool) (es : List Entry) (e : Entry) → Contains es e → p e ≡ true → Contains (filter p es) e
 Contains-filter p es e h t = All-contains (λ e. p e ≡ true → Contains (filter p es) e) es e (kept_all p es) h t
 
 -- ---- what a listing has
 
-find-contains : (p : Entry → Bool) (es : List Entry) (e : Entry) → find p es ≡ Some e → Contains es e
+pub find-contains : (p : Entry → Bool) (es : List Entry) (e : Entry) → find p es ≡ Some e → Contains es e
 find-contains p [] e h = absurd (none-some e h)
 find-contains p (x ∷ es) e h =
     elim (p x) as (λ b. cond b (Some x) (find p es) ≡ Some e → Contains (x ∷ es) e) [
@@ -115,7 +114,7 @@ found_all (x ∷ es) d =
     ] refl)
     es (found_all es d.1))
 
-contains-find : (es : List Entry) (e : Entry) → IsDistinct es → Contains es e → find (is_of (pair_of e)) es ≡ Some e
+pub contains-find : (es : List Entry) (e : Entry) → IsDistinct es → Contains es e → find (is_of (pair_of e)) es ≡ Some e
 contains-find es e d h = All-contains (λ e. find (is_of (pair_of e)) es ≡ Some e) es e (found_all es d) h
 
 -- ---- what passes in the scopes
@@ -166,7 +165,7 @@ module _ (listing : List ℕ → List Entry) (passes : List ℕ → Entry → Bo
         (All-weaker (IsShown scopes) (IsShown (s ∷ scopes))
         (λ t shown is listed passed. Contains-append_right (cond (supports site s) part []) (entries_in listing passes site scopes) e (shown is listed passed)) scopes (all_shown scopes))
 
-    entries-from : (scopes : List (List ℕ)) → Contains (entries_in listing passes site scopes) e → PassesIn listing passes site scopes e
+    pub entries-from : (scopes : List (List ℕ)) → Contains (entries_in listing passes site scopes) e → PassesIn listing passes site scopes e
     entries-from scopes has = All-contains (PassesIn listing passes site scopes) (entries_in listing passes site scopes) e (all_pass scopes) has
 
     entries-have : (scopes : List (List ℕ)) → PassesIn listing passes site scopes e → Contains (entries_in listing passes site scopes) e
@@ -209,20 +208,20 @@ nothing_found listing rs site n asker query filtered others =
 -- ---- what is seen answers
 
 -- each scope of the request and of the site is listed
-abbrev pub AreListings : (List ℕ → List Entry) → Site → ServiceQuery → Entries → Type 0
-AreListings listing site query live = (k : ℕ) (s : List ℕ) → slice_get query.scopes k ≡ Some s → IsTrue (supports site s) → IsListing (is_at_place s (Some query.kind)) live (listing s)
+abbrev pub AreListings : (List ℕ → List Entry) → Site → List (List ℕ) → Option (List ℕ) → Entries → Type 0
+AreListings listing site scopes kind live = (k : ℕ) (s : List ℕ) → slice_get scopes k ≡ Some s → IsTrue (supports site s) → IsListing (is_at_place s kind) live (listing s)
 
-module _ (o : Opening) (h : History) (m asker : ℕ) (query : ServiceQuery) (listing : List ℕ → List Entry) (live : Entries) (n : ℕ)
-    (is : n ≡ now h m) (are : AreLive h 0 live) (listings : AreListings listing o.site query live) where
-  listing-of : (s : List ℕ) → Contains query.scopes s → supports o.site s ≡ true → IsListing (is_at_place s (Some query.kind)) live (listing s)
-  listing-of s has in_site = listings has.0 s (slice_get-get_or query.scopes has.0 s has.1 ∙ ap Some has.2) in_site
+module _ (o : Opening) (h : History) (m asker : ℕ) (scopes : List (List ℕ)) (kind : Option (List ℕ)) (listing : List ℕ → List Entry) (live : Entries) (n : ℕ)
+    (is : n ≡ now h m) (are : AreLive h 0 live) (listings : AreListings listing o.site scopes kind live) where
+  listing-of : (s : List ℕ) → Contains scopes s → supports o.site s ≡ true → IsListing (is_at_place s kind) live (listing s)
+  listing-of s has in_site = listings has.0 s (slice_get-get_or scopes has.0 s has.1 ∙ ap Some has.2) in_site
 
-  seen-answers : (e : Entry) → PassesIn listing (is_seen (rules o.rules h) n asker) o.site query.scopes e → Matches (IsOpenNow o h m asker query.scopes) query e
+  seen-answers : (e : Entry) → PassesIn listing (is_seen (rules o.rules h) n asker) o.site scopes e → Matches (IsOpenNow o h m asker scopes) (is_kind kind) e
   seen-answers e i =
       let l = listing-of i.scope i.requested i.supported in
       let found = contains-find (listing i.scope) e l.once i.listed in
-      let k = if_kept-some (is_at_place i.scope (Some query.kind)) (fin.get live (pair_of e)) e (sym (l.each (pair_of e)) ∙ found) in
-      let place = and_parts (covers query.kind e.kind) (has_scope i.scope e) k.1 in
+      let k = if_kept-some (is_at_place i.scope kind) (fin.get live (pair_of e)) e (sym (l.each (pair_of e)) ∙ found) in
+      let place = and_parts (is_kind kind e) (has_scope i.scope e) k.1 in
       let seen = and_parts (outlives n e) (deciding (rules o.rules h) asker See e.kind i.scope).allow i.passed in
       let lives = ((are (pair_of e) e).0 k.0).1 in
       record {
@@ -236,21 +235,21 @@ module _ (o : Opening) (h : History) (m asker : ℕ) (query : ServiceQuery) (lis
             allowed = seen.1;
           };
         };
-        covered = place.0;
+        about = place.0;
       }
 
-  answers-seen : (e : Entry) → Matches (IsOpenNow o h m asker query.scopes) query e → PassesIn listing (is_seen (rules o.rules h) n asker) o.site query.scopes e
+  answers-seen : (e : Entry) → Matches (IsOpenNow o h m asker scopes) (is_kind kind) e → PassesIn listing (is_seen (rules o.rules h) n asker) o.site scopes e
   answers-seen e a =
       let s = a.opened.open_to.scope in
       let in_site = contains-list_any o.site.scopes s a.opened.open_to.supported in
       let l = listing-of s a.opened.open_to.requested in_site in
       let got = (are (pair_of e) e).1 (refl, record { stands = a.opened.live.stands; lasts = omega (arith, a.opened.live.lasts) }) in
-      let place : is_at_place s (Some query.kind) e ≡ true = ap₂ ◌&&◌ a.covered (contains-list_any e.scopes s a.opened.open_to.stored) in
+      let place : is_at_place s kind e ≡ true = ap₂ ◌&&◌ a.about (contains-list_any e.scopes s a.opened.open_to.stored) in
       record {
         scope = s;
         requested = a.opened.open_to.requested;
         supported = in_site;
-        listed = find-contains (is_of (pair_of e)) (listing s) e (l.each (pair_of e) ∙ some-if_kept (is_at_place s (Some query.kind)) (fin.get live (pair_of e)) e got place);
+        listed = find-contains (is_of (pair_of e)) (listing s) e (l.each (pair_of e) ∙ some-if_kept (is_at_place s kind) (fin.get live (pair_of e)) e got place);
         passed = ap₂ ◌&&◌ (lt-ltb n e.deadline (omega (arith, is, a.opened.live.lasts))) a.opened.open_to.allowed;
       }
 
@@ -316,10 +315,32 @@ module _ (P : Entry → Type 0) (n : ℕ) (es : List Entry) (sound : (e : Entry)
         all = has-item;
       }
 
+-- ---- what is seen in the state of a history
+
+module _ (o : Opening) (h : History) (s : State) (m asker n : ℕ) (scopes : List (List ℕ)) (kind : Option (List ℕ)) (listing : List ℕ → List Entry)
+    (fold : Fold o h s) (is : n ≡ max m s.clock) (listings : AreListings listing s.site scopes kind s.entries) where
+  at_now : n ≡ now h m
+  at_now = is ∙ ap (max m) fold.clocks
+
+  -- what holds by the rules and the site of the history holds by those of its state
+  by_state : (F : SiteRules → Site → Type 0) → F (rules o.rules h) o.site → F s.rules s.site
+  by_state F holds = subst (λ rs. F rs s.site) (sym fold.ruled) (subst (λ x. F (rules o.rules h) x) (sym fold.placed) holds)
+
+  listed_there : AreListings listing o.site scopes kind s.entries
+  listed_there = subst (λ (x : Site). AreListings listing x scopes kind s.entries) fold.placed listings
+
+  pub seen-match : (e : Entry) → Contains (seen_entries listing s.rules s.site n asker scopes) e → Matches (IsOpenNow o h m asker scopes) (is_kind kind) e
+  seen-match e = by_state (λ rs x. Contains (seen_entries listing rs x n asker scopes) e → Matches (IsOpenNow o h m asker scopes) (is_kind kind) e)
+      (λ has. seen-answers o h m asker scopes kind listing s.entries n at_now fold.entries listed_there e (entries-from listing (is_seen (rules o.rules h) n asker) o.site e scopes has))
+
+  pub match-seen : (e : Entry) → Matches (IsOpenNow o h m asker scopes) (is_kind kind) e → Contains (seen_entries listing s.rules s.site n asker scopes) e
+  match-seen e matched = by_state (λ rs x. Contains (seen_entries listing rs x n asker scopes) e)
+      (entries-have listing (is_seen (rules o.rules h) n asker) o.site e scopes (answers-seen o h m asker scopes kind listing s.entries n at_now fold.entries listed_there e matched))
+
 -- ---- the answer
 
 module _ (o : Opening) (h : History) (s : State) (m asker n : ℕ) (query : ServiceQuery) (listing : List ℕ → List Entry)
-    (fold : Fold o h s) (is : n ≡ max m s.clock) (listings : AreListings listing s.site query s.entries) where
+    (fold : Fold o h s) (is : n ≡ max m s.clock) (listings : AreListings listing s.site query.scopes (Some query.kind) s.entries) where
   abbrev IsOpen : Entry → Type 0
   IsOpen = IsOpenNow o h m asker query.scopes
 
@@ -329,52 +350,45 @@ module _ (o : Opening) (h : History) (s : State) (m asker n : ℕ) (query : Serv
   abbrev found : List Entry
   found = found_entries listing s.rules s.site n asker query
 
-  at_now : n ≡ now h m
-  at_now = is ∙ ap (max m) fold.clocks
+  seen-matches : (e : Entry) → Contains seen e → Matches IsOpen (is_covered query) e
+  seen-matches e has =
+      let a = seen-match o h s m asker n query.scopes (Some query.kind) listing fold is listings e has in
+      record { opened = a.opened; about = a.about }
 
-  -- what holds by the rules and the site of the history holds by those of its state
-  by_state : (F : SiteRules → Site → Type 0) → F (rules o.rules h) o.site → F s.rules s.site
-  by_state F holds = subst (λ rs. F rs s.site) (sym fold.ruled) (subst (λ x. F (rules o.rules h) x) (sym fold.placed) holds)
-
-  listed_there : AreListings listing o.site query s.entries
-  listed_there = subst (λ (x : Site). AreListings listing x query s.entries) fold.placed listings
-
-  seen-match : (e : Entry) → Contains seen e → Matches IsOpen query e
-  seen-match e = by_state (λ rs x. Contains (seen_entries listing rs x n asker query.scopes) e → Matches IsOpen query e)
-      (λ has. seen-answers o h m asker query listing s.entries n at_now fold.entries listed_there e (entries-from listing (is_seen (rules o.rules h) n asker) o.site e query.scopes has))
-
-  match-seen : (e : Entry) → Matches IsOpen query e → Contains seen e
-  match-seen e matched = by_state (λ rs x. Contains (seen_entries listing rs x n asker query.scopes) e)
-      (entries-have listing (is_seen (rules o.rules h) n asker) o.site e query.scopes (answers-seen o h m asker query listing s.entries n at_now fold.entries listed_there e matched))
+  matches-seen : (e : Entry) → Matches IsOpen (is_covered query) e → Contains seen e
+  matches-seen e a = match-seen o h s m asker n query.scopes (Some query.kind) listing fold is listings e (record { opened = a.opened; about = a.about })
 
   found-answers : (e : Entry) → Contains found e → Answers IsOpen query e
   found-answers e has =
       let found = found-from listing s.rules s.site n asker query e has in
-      record { matched = seen-match e found.0; wanted = found.1 }
+      record { matched = seen-matches e found.0; wanted = found.1 }
 
   answers-found : (e : Entry) → Answers IsOpen query e → Contains found e
-  answers-found e a = found-has listing s.rules s.site n asker query e (match-seen e a.matched) a.wanted
+  answers-found e a = found-has listing s.rules s.site n asker query e (matches-seen e a.matched) a.wanted
 
   pub services-are : IsLegal o h → AreServices o h m asker query (map (item_at n) (deadlines_with found []))
   services-are legal =
-      subst (λ t. AreItems (Answers IsOpen query) t (map (item_at n) (deadlines_with found []))) at_now
+      let at : n ≡ now h m = is ∙ ap (max m) fold.clocks in
+      subst (λ t. AreItems (Answers IsOpen query) t (map (item_at n) (deadlines_with found []))) at
       (items-are (Answers IsOpen query) n found found-answers answers-found
       (λ e holds.
       let k = last-deadline o h (pair_of e) e.deadline legal holds.matched.opened.live.stands.deadline in
-      omega (arith, at_now, k)))
+      omega (arith, at, k)))
 
   -- what is seen in other languages alone is what matches
   pub foreign-is : IsTrue (is_some query.filter) → spoken_of query seen ≡ Others → IsForeign IsOpen query
   foreign-is filtered others =
       let some = others-some query seen others in record {
         filtered = filtered;
-        other = some.0;
-        matched = seen-match some.0 some.1;
-        none = λ e matched. others-none query seen others e (match-seen e matched);
+        elsewhere = record {
+          other = some.0;
+          matched = seen-matches some.0 some.1;
+          none = λ e matched. others-none query seen others e (matches-seen e matched);
+        };
       }
 
   pub is-foreign : IsForeign IsOpen query → spoken_of query seen ≡ Others
-  is-foreign f = others-of query seen f.other (match-seen f.other f.matched) (λ e has. f.none e (seen-match e has))
+  is-foreign f = others-of query seen f.elsewhere.other (matches-seen f.elsewhere.other f.elsewhere.matched) (λ e has. f.elsewhere.none e (seen-matches e has))
 
 -- ---- a fault that is passed on
 

@@ -70,7 +70,7 @@ deadlines_with-append : (a b : List Entry) (ps : List UrlDeadline) → deadlines
 deadlines_with-append [] b ps = refl
 deadlines_with-append (e ∷ a) b ps = deadlines_with-append a b (with_deadline e.url e.deadline ps)
 
-drop_here : (scopes : List (List ℕ)) (i : ℕ) (s : List ℕ) → slice_get scopes i ≡ Some s → drop i scopes ≡ s ∷ drop (i + 1) scopes
+pub drop_here : (scopes : List (List ℕ)) (i : ℕ) (s : List ℕ) → slice_get scopes i ≡ Some s → drop i scopes ≡ s ∷ drop (i + 1) scopes
 drop_here scopes i s is = drop-cons scopes i s (slice_get_within scopes i s is) ∙ ap₂ (λ x n. x ∷ drop n scopes) (get_or_from_slice_get scopes i s s is) (sym (add-one i))
 
 pub not_none : (scopes : List (List ℕ)) (i : ℕ) → i < length scopes → slice_get scopes i ≡ None → ⊥

@@ -1,8 +1,8 @@
 -- How what answers a question is found: each entry that is seen joins a list of URLs with their latest deadlines, which is cut to its room.
-use Rattle.std.specs.Prelude.{◌≡◌, ℕ, ◌+◌, ◌-◌, ◌<◌, ◌≤◌, Bool, true, ◌&&◌, nat_le, min, if◌then◌else◌, List, [], ◌∷◌, ◌++◌, length, filter, Option, Some, None, IfSome}
+use Rattle.std.specs.Prelude.{◌≡◌, ℕ, ◌+◌, ◌-◌, ◌<◌, ◌≤◌, Bool, true, ◌&&◌, nat_le, min, if◌then◌else◌, List, [], ◌∷◌, ◌++◌, length, map, filter, Contains, Option, Some, None, IfSome, IsTrue}
 use Rattle.access_rules.specs.Deciding.{SiteRules, deciding}
 use Rattle.access_rules.specs.declared.rule.Action.TheVariants.{See}
-use Rattle.registry_core.specs.Entries.{outlives}
+use Rattle.registry_core.specs.Entries.{has_scope, outlives, pair_of}
 use Rattle.registry_core.specs.declared.entry.Entry.{Entry}
 use Rattle.slp_messages.specs.declared.message.UrlEntry.{UrlEntry}
 use Rattle.directory_judge.specs.Judgements.{supports}
@@ -10,9 +10,10 @@ use Rattle.directory_judge.specs.Sites.{Site}
 use Rattle.directory_answers.specs.Items.{is_wanted}
 use Rattle.directory_answers.specs.declared.query.ServiceQuery.{ServiceQuery}
 use Rattle.directory_state.specs.Deadlines.{UrlDeadline, with_deadline, total_cost, urls_of}
-use Rattle.std.specs.List.{AllByRecursion}
+use Rattle.std.specs.List.{AllByRecursion, list_any}
+use Rattle.std.specs.Borrow.{Bor}
 use Rattle.std.specs.Ordering.{is_le}
-use Rattle.slp_text.specs.Words.{bytes_cmp, bytes_eq}
+use Rattle.slp_text.specs.Words.{bytes_cmp, bytes_eq, IsAscending}
 use Rattle.directory_state.specs.declared.search.Shortlist.{Shortlist}
 use Rattle.directory_state.specs.declared.search.Room.{Room}
 use Rattle.directory_state.specs.declared.search.Search.{Search}
@@ -29,6 +30,10 @@ deadlines_with (e ∷ es) ps = deadlines_with es (with_deadline e.url e.deadline
 -- the entry lives on, and the asker may see its type in the scope
 abbrev pub is_seen : SiteRules → ℕ → ℕ → List ℕ → Entry → Bool
 is_seen rules now asker scope e = outlives now e && (deciding rules asker See e.kind scope).allow
+
+-- it is seen in one of the scopes, in which it stands and which the site supports
+abbrev pub is_seen_in : SiteRules → Site → ℕ → ℕ → List (List ℕ) → Entry → Bool
+is_seen_in rules site now asker scopes e = list_any (λ s. supports site s && (has_scope s e && is_seen rules now asker s e)) scopes
 
 -- it is seen, and asked for
 abbrev pub is_found : ServiceQuery → SiteRules → ℕ → ℕ → List ℕ → Entry → Bool
@@ -97,4 +102,26 @@ pub record IsBound (cost : List ℕ → ℕ) (left : ℕ) (url : List ℕ) (ps :
 
 -- what is kept, with what is seen of these entries of a scope
 abbrev pub shortlist_with : Shortlist → Search → List ℕ → List Entry → List UrlDeadline
-shortlist_with k s scope es = cut_in k.room (deadlines_with (filter (is_found s.query.now s.rules.now s.moment s.asker scope) es) k.latest)
+shortlist_with k s scope es = cut_in k.room (deadlines_with (filter (is_found s.query.now s.viewer.rules.now s.viewer.moment s.viewer.asker scope) es) k.latest)
+
+-- ---- what is made of the entries that are seen
+
+-- entries that are lent
+abbrev pub entries_lent : List (Bor Entry) → List Entry
+entries_lent es = map (λ p. p.now) es
+
+abbrev pub IsIn : List Entry → Entry → Type 0
+IsIn es e = Contains es e
+
+abbrev pub IsInAnd : List Entry → (Entry → Bool) → Entry → Type 0
+IsInAnd es p e = Contains es e × IsTrue (p e)
+
+-- no two of them are of one pair
+abbrev pub HasOneOfEachPair : List Entry → Type 0
+HasOneOfEachPair es = (e f : Entry) → Contains es e → Contains es f → pair_of e ≡ pair_of f → e ≡ f
+
+-- these entries in the byte order of a text of theirs, one of each text
+pub record IsArranged (text : Entry → List ℕ) (es arranged : List Entry) : Type 0 where
+  pub ordered : IsAscending (map text arranged)
+  pub within : (e : Entry) → Contains arranged e → Contains es e
+  pub covers : (e : Entry) → Contains es e → Contains (map text arranged) (text e)

@@ -7,22 +7,27 @@ ghost use Rattle.directory_judge.specs.History.{History, Event};
 ghost use Rattle.directory_judge.specs.Judgements.{IsChange, Judgement, judgement_in, supports};
 ghost use Rattle.directory_judge.specs.Contents.{content};
 ghost use Rattle.directory_answers.specs.Calls.{Opening};
-ghost use Rattle.directory_answers.specs.Items.{AreServices, IsForeign, IsOpenNow};
+ghost use Rattle.registry_core.specs.declared.entry.Entry as spec;
+ghost use Rattle.directory_answers.specs.Items.{AreAttributesOf, AreServices, AreTypesOf, IsAskedAbout, IsElsewhere, IsForeign, IsOpenNow};
 ghost use Rattle.directory_state.specs.Deadlines.{UrlDeadline};
-ghost use Rattle.directory_state.specs.Searches.{item_at, cut_in, IsSmall, IsKept};
+ghost use Rattle.directory_state.specs.Searches.{item_at, cut_in, entries_lent, HasOneOfEachPair, IsIn, IsSmall, IsKept};
 ghost use Rattle.directory_state.specs.Fronts.{IsFront, items_in, size_in};
 ghost use Rattle.directory_state.specs.Folds.{Fold, StandsFor};
 ghost use Rattle.directory_state.specs.State.{State, opening_state, state_made};
 ghost use Rattle.directory_answers.specs.Verdicts.{IsLegal, IsVerdict};
 ghost use Rattle.directory_state.specs.Folds.{IsJudgedAs};
 
+use crate::arranging::{describe, name_types};
 use crate::search::{FoundItems, Room, Search, Shortlist};
+use crate::viewer::Viewer;
 use access_rules::{Addr, Rules};
-use directory_answers::{QueryFault, ServiceQuery};
+use attr_list::Attrs;
+use directory_answers::{AttrQuery, QueryFault, ServiceQuery, Target, TypeQuery};
 use directory_judge::{Change, Decision, Grounds, Judged, Placed, Site, change_view};
-use registry_core::Registry;
+use registry_core::{Entry, Registry};
+use service_url::ServiceType;
 use slp_messages::{ChangeView, Message, UrlEntry};
-use slp_text::NoMemory;
+use slp_text::{NoMemory, ScopeList};
 use std::alloc::Global;
 use std::marker::Model;
 use std::sync::Arc;
@@ -178,6 +183,28 @@ impl<R: Registry> Directory<R> {
         }
     }
 
+    /// Whether the site supports one of these scopes.
+    pub fn supports(&self, scopes: &ScopeList) -> bool
+        ensures { result ≡ list_any (supports self.now.site) scopes.now }
+    {
+        self.viewer(0, Addr(0)).supports(scopes)
+    }
+
+    // Who asks, and what decides on what is open.
+    fn viewer(&self, moment: u32, asker: Addr) -> Viewer<'_>
+        ensures asker { result.asker ≡ asker }
+        ensures moment { result.moment ≡ max moment self.now.clock }
+        ensures rules { result.rules.now ≡ self.now.rules }
+        ensures site { result.site.now ≡ self.now.site }
+    {
+        Viewer {
+            asker,
+            moment: u64::from(self.now(moment)),
+            rules: &self.rules,
+            site: &self.site,
+        }
+    }
+
     // Finds what answers a question, and keeps of it what there is room for.
     fn search(
         &self,
@@ -197,10 +224,7 @@ impl<R: Registry> Directory<R> {
     {
         let search = Search {
             query,
-            asker,
-            moment: u64::from(self.now(moment)),
-            rules: &self.rules,
-            site: &self.site,
+            viewer: self.viewer(moment, asker),
         };
         Shortlist::search(alloc, &self.registry, &search, room)
     }
@@ -248,4 +272,99 @@ impl<R: Registry> Directory<R> {
         let kept = self.search(alloc, moment, asker, query, Some(room))?;
         Ok(kept.fitting(u64::from(self.now(moment))))
     }
+    // What is open to the asker of what a question is about.
+    fn find_about(
+        &self,
+        alloc: Global,
+        moment: u32,
+        asker: Addr,
+        query: &AttrQuery,
+    ) -> Result<Vec<&Entry>, QueryFault>
+        ensures scope { IsErrOf result QueryFault.Scope ↔ (list_any (supports self.now.site) query.now.scopes ≡ false) }
+        ensures spoken { IsErrOf result QueryFault.Language → ⊥ }
+        ensures once { IfOk result (λ v. HasOneOfEachPair (entries_lent v.items)) }
+        ensures found { (o : Opening) (h : History) → Fold o h self.now
+            → IfOk result (λ v. (e : spec.Entry) → IsIn (entries_lent v.items) e ↔ IsAskedAbout (IsOpenNow o h moment asker query.now.scopes) query.now e) }
+    {
+        let viewer = self.viewer(moment, asker);
+        if !viewer.supports(&query.scopes) {
+            return Err(QueryFault::Scope);
+        }
+        let (registry, scopes) = (&self.registry, &query.scopes);
+        match &query.target {
+            Target::Kind(kind) => Ok(viewer.gather(alloc, registry, scopes, Some(kind))?),
+            Target::Place(url) => Ok(viewer.gather_url(alloc, registry, scopes, url)?),
+        }
+    }
+
+    /// What the tags of a question select of the attributes of the live entries that are open to the asker,
+    /// match it and are in its language, joined in the byte order of their URLs (RFC 2608, section 10.4). Where
+    /// something matches, but nothing in that language, the answer is `Language`.
+    pub fn attributes(
+        &self,
+        alloc: Global,
+        moment: u32,
+        asker: Addr,
+        query: &AttrQuery,
+    ) -> Result<Attrs, QueryFault>
+        ensures scope { IsErrOf result QueryFault.Scope ↔ (list_any (supports self.now.site) query.now.scopes ≡ false) }
+        ensures language { (o : Opening) (h : History) → Fold o h self.now → IsLegal o h
+            → (IsErrOf result QueryFault.Language → IsElsewhere (IsAskedAbout (IsOpenNow o h moment asker query.now.scopes) query.now) query.now.language)
+            × IfOk result (λ _. ¬ IsElsewhere (IsAskedAbout (IsOpenNow o h moment asker query.now.scopes) query.now) query.now.language) }
+        ensures joined { (o : Opening) (h : History) → Fold o h self.now → IsLegal o h
+            → IfOk result (λ a. AreAttributesOf o h moment asker query.now a) }
+    {
+        let found = self.find_about(alloc, moment, asker, query)?;
+        describe(alloc, found, query)
+    }
+
+    /// What `types` answers, lent where it lies: an entry of each type, in the key order of the types.
+    pub fn find_types(
+        &self,
+        alloc: Global,
+        moment: u32,
+        asker: Addr,
+        query: &TypeQuery,
+    ) -> Result<Vec<&Entry>, QueryFault>
+        ensures scope { IsErrOf result QueryFault.Scope ↔ (list_any (supports self.now.site) query.now.scopes ≡ false) }
+        ensures spoken { IsErrOf result QueryFault.Language → ⊥ }
+        ensures types { (o : Opening) (h : History) → Fold o h self.now → IsLegal o h
+            → IfOk result (λ v. AreTypesOf o h moment asker query.now (map (λ e. e.kind) (entries_lent v.items))) }
+    {
+        let viewer = self.viewer(moment, asker);
+        if !viewer.supports(&query.scopes) {
+            return Err(QueryFault::Scope);
+        }
+        let found = viewer.gather(alloc, &self.registry, &query.scopes, None)?;
+        Ok(name_types(found, query))
+    }
+
+    /// The types of the live entries, of every language, that are open to the asker and of the naming
+    /// authority that is asked for, in key order, each once (RFC 2608, section 10.2).
+    pub fn types(
+        &self,
+        alloc: Global,
+        moment: u32,
+        asker: Addr,
+        query: &TypeQuery,
+    ) -> Result<Vec<ServiceType>, QueryFault>
+        ensures scope { IsErrOf result QueryFault.Scope ↔ (list_any (supports self.now.site) query.now.scopes ≡ false) }
+        ensures spoken { IsErrOf result QueryFault.Language → ⊥ }
+        ensures types { (o : Opening) (h : History) → Fold o h self.now → IsLegal o h
+            → IfOk result (λ v. AreTypesOf o h moment asker query.now v.items) }
+    {
+        let found = self.find_types(alloc, moment, asker, query)?;
+        Ok(copied_types(alloc, &found)?)
+    }
+}
+
+// The types of entries.
+fn copied_types(alloc: Global, entries: &[&Entry]) -> Result<Vec<ServiceType>, NoMemory>
+    ensures { IfOk result (λ v. v.items ≡ map (λ e. e.kind) (entries_lent entries.now)) }
+{
+    let mut types = Vec::with_capacity(alloc, entries.len())?;
+    for entry in entries {
+        types.push(entry.kind.copy(alloc)?)?;
+    }
+    Ok(types)
 }

@@ -2,12 +2,14 @@
 //! it answers.
 #![tactic(auto)]
 
+mod arranging;
 mod deadlines;
 mod directory;
 pub mod laws;
 mod search;
+mod viewer;
 
 pub use deadlines::Deadlines;
 pub use directory::Directory;
-pub use directory_answers::{QueryFault, ServiceQuery};
+pub use directory_answers::{AttrQuery, QueryFault, ServiceQuery, TypeQuery};
 pub use search::{FoundItems, Room};

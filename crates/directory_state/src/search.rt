@@ -8,9 +8,8 @@ ghost use Rattle.directory_state.specs.Fronts.{IsFront, items_in};
 ghost use Rattle.directory_state.specs.declared.search.Spoken.TheVariants as spoken_is;
 
 use crate::deadlines::Deadlines;
-use access_rules::{Action, Addr, Rules};
+use crate::viewer::Viewer;
 use directory_answers::{QueryFault, ServiceQuery};
-use directory_judge::Site;
 use registry_core::{Entry, Registry};
 use service_url::Url;
 use slp_messages::UrlEntry;
@@ -35,14 +34,11 @@ pub struct FoundItems<'a> {
     pub is_cut: bool,
 }
 
-/// What is asked, by whom and at which moment, and what decides on it.
+/// What is asked, and by whom.
 #[derive(Clone, Copy)]
 pub struct Search<'q> {
     pub query: &'q ServiceQuery,
-    pub asker: Addr,
-    pub moment: u64,
-    pub rules: &'q Rules,
-    pub site: &'q Site,
+    pub viewer: Viewer<'q>,
 }
 
 /// What was seen, by its language.
@@ -56,26 +52,15 @@ pub enum Spoken {
 }
 
 impl Search<'_> {
-    // Whether an entry is live, and open to the asker in a scope.
-    fn sees(&self, entry: &Entry, scope: &Key) -> bool
-        ensures { result ≡ is_seen self.now.rules.now self.now.moment self.now.asker scope.now entry.now }
-    {
-        entry.deadline > self.moment
-            && self
-                .rules
-                .decide(self.asker, Action::See, &entry.kind, scope)
-                .allow
-    }
-
     // What is seen in a scope, by its language.
     fn spoken_in<R: Registry>(&self, registry: &R, scope: &Key) -> Spoken
-        ensures spoken { result ≡ spoken_of self.now.query.now (filter (is_seen self.now.rules.now self.now.moment self.now.asker scope.now) (R.rest_at registry.now scope.now (Some self.now.query.now.kind) 0)) }
+        ensures spoken { result ≡ spoken_of self.now.query.now (filter (is_seen self.now.viewer.rules.now self.now.viewer.moment self.now.viewer.asker scope.now) (R.rest_at registry.now scope.now (Some self.now.query.now.kind) 0)) }
         ensures listing { IsListing (is_at_place scope.now (Some self.now.query.now.kind)) (R.contents registry.now) (R.rest_at registry.now scope.now (Some self.now.query.now.kind) 0) }
     {
         let mut spoken = Spoken::Nothing;
         let mut from = 0;
         while let Some((entry, next)) = registry.by_place(scope, Some(&self.query.kind), from) {
-            if self.sees(entry, scope) {
+            if self.viewer.sees(entry, scope) {
                 if entry.language == self.query.language {
                     return Spoken::Asked;
                 }
@@ -88,13 +73,13 @@ impl Search<'_> {
 
     // What is seen in the scopes that the site supports, by its language.
     fn spoken<R: Registry>(&self, registry: &R) -> Spoken
-        ensures { result ≡ spoken_of self.now.query.now (seen_entries (λ s. R.rest_at registry.now s (Some self.now.query.now.kind) 0) self.now.rules.now self.now.site.now self.now.moment self.now.asker self.now.query.now.scopes) }
+        ensures { result ≡ spoken_of self.now.query.now (seen_entries (λ s. R.rest_at registry.now s (Some self.now.query.now.kind) 0) self.now.viewer.rules.now self.now.viewer.site.now self.now.viewer.moment self.now.viewer.asker self.now.query.now.scopes) }
     {
         let mut spoken = Spoken::Nothing;
         let scopes = &self.query.scopes;
         for place in 0..scopes.len() {
             if let Some(scope) = scopes.at(place)
-                && self.site.scopes().has(scope)
+                && self.viewer.site.scopes().has(scope)
             {
                 match self.spoken_in(registry, scope) {
                     Spoken::Asked => return Spoken::Asked,
@@ -188,9 +173,9 @@ impl<'a> Shortlist<'a> {
         requires { IsKept self.old }
         ensures room { self.new.room ≡ self.old.room }
         ensures kept { IfOk result (λ _. IsKept self.new) }
-        ensures found { IfOk result (λ _. self.new.latest ≡ cut_in self.old.room (deadlines_with (filter (is_found question.now.query.now question.now.rules.now question.now.moment question.now.asker scope.now) (entry.now ∷ [])) self.old.latest)) }
+        ensures found { IfOk result (λ _. self.new.latest ≡ cut_in self.old.room (deadlines_with (filter (is_found question.now.query.now question.now.viewer.rules.now question.now.viewer.moment question.now.viewer.asker scope.now) (entry.now ∷ [])) self.old.latest)) }
     {
-        if !question.sees(entry, scope) || !question.query.wants(entry) {
+        if !question.viewer.sees(entry, scope) || !question.query.wants(entry) {
             return Ok(());
         }
         self.put(&entry.url, entry.deadline)?;
@@ -244,7 +229,7 @@ impl<'a> Shortlist<'a> {
         requires { IsKept self.old }
         ensures room { self.new.room ≡ self.old.room }
         ensures kept { IfOk result (λ _. IsKept self.new) }
-        ensures found { IfOk result (λ _. self.new.latest ≡ cut_in self.old.room (deadlines_with (filter (is_found question.now.query.now question.now.rules.now question.now.moment question.now.asker scope.now) (R.rest_at registry.now scope.now (Some question.now.query.now.kind) 0)) self.old.latest)) }
+        ensures found { IfOk result (λ _. self.new.latest ≡ cut_in self.old.room (deadlines_with (filter (is_found question.now.query.now question.now.viewer.rules.now question.now.viewer.moment question.now.viewer.asker scope.now) (R.rest_at registry.now scope.now (Some question.now.query.now.kind) 0)) self.old.latest)) }
         ensures listing { IfOk result (λ _. IsListing (is_at_place scope.now (Some question.now.query.now.kind)) (R.contents registry.now) (R.rest_at registry.now scope.now (Some question.now.query.now.kind) 0)) }
     {
         let mut from = 0;
@@ -264,17 +249,17 @@ impl<'a> Shortlist<'a> {
         requires { IsKept self.old }
         ensures room { self.new.room ≡ self.old.room }
         ensures kept { IfOk result (λ _. IsKept self.new) }
-        ensures found { IfOk result (λ _. self.new.latest ≡ cut_in self.old.room (deadlines_with (found_entries (λ s. R.rest_at registry.now s (Some question.now.query.now.kind) 0) question.now.rules.now question.now.site.now question.now.moment question.now.asker question.now.query.now) self.old.latest)) }
-        ensures listings { IfOk result (λ _. (k : ℕ) (s : List ℕ) → slice_get question.now.query.now.scopes k ≡ Some s → IsTrue (supports question.now.site.now s)
+        ensures found { IfOk result (λ _. self.new.latest ≡ cut_in self.old.room (deadlines_with (found_entries (λ s. R.rest_at registry.now s (Some question.now.query.now.kind) 0) question.now.viewer.rules.now question.now.viewer.site.now question.now.viewer.moment question.now.viewer.asker question.now.query.now) self.old.latest)) }
+        ensures listings { IfOk result (λ _. (k : ℕ) (s : List ℕ) → slice_get question.now.query.now.scopes k ≡ Some s → IsTrue (supports question.now.viewer.site.now s)
             → IsListing (is_at_place s (Some question.now.query.now.kind)) (R.contents registry.now) (R.rest_at registry.now s (Some question.now.query.now.kind) 0)) }
-        ensures supported { IfOk result (λ is. is ≡ list_any (supports question.now.site.now) question.now.query.now.scopes) }
-        ensures err { OnErr result (IsTrue (list_any (supports question.now.site.now) question.now.query.now.scopes)) }
+        ensures supported { IfOk result (λ is. is ≡ list_any (supports question.now.viewer.site.now) question.now.query.now.scopes) }
+        ensures err { OnErr result (IsTrue (list_any (supports question.now.viewer.site.now) question.now.query.now.scopes)) }
     {
         let mut is_supported = false;
         let scopes = &question.query.scopes;
         for place in 0..scopes.len() {
             if let Some(scope) = scopes.at(place)
-                && question.site.scopes().has(scope)
+                && question.viewer.site.scopes().has(scope)
             {
                 is_supported = true;
                 self.collect(registry, question, scope)?;
@@ -291,13 +276,13 @@ impl<'a> Shortlist<'a> {
         room: Option<Room>,
     ) -> Result<Shortlist<'a>, QueryFault>
         requires { IsSmall room }
-        ensures scope { IsErrOf result QueryFault.Scope ↔ (list_any (supports question.now.site.now) question.now.query.now.scopes ≡ false) }
-        ensures language { IsErrOf result QueryFault.Language → IsTrue (is_some question.now.query.now.filter) × (spoken_of question.now.query.now (seen_entries (λ s. R.rest_at registry.now s (Some question.now.query.now.kind) 0) question.now.rules.now question.now.site.now question.now.moment question.now.asker question.now.query.now.scopes) ≡ spoken_is.Others) }
-        ensures spoken { IfOk result (λ _. IsTrue (is_some question.now.query.now.filter) → spoken_of question.now.query.now (seen_entries (λ s. R.rest_at registry.now s (Some question.now.query.now.kind) 0) question.now.rules.now question.now.site.now question.now.moment question.now.asker question.now.query.now.scopes) ≢ spoken_is.Others) }
+        ensures scope { IsErrOf result QueryFault.Scope ↔ (list_any (supports question.now.viewer.site.now) question.now.query.now.scopes ≡ false) }
+        ensures language { IsErrOf result QueryFault.Language → IsTrue (is_some question.now.query.now.filter) × (spoken_of question.now.query.now (seen_entries (λ s. R.rest_at registry.now s (Some question.now.query.now.kind) 0) question.now.viewer.rules.now question.now.viewer.site.now question.now.viewer.moment question.now.viewer.asker question.now.query.now.scopes) ≡ spoken_is.Others) }
+        ensures spoken { IfOk result (λ _. IsTrue (is_some question.now.query.now.filter) → spoken_of question.now.query.now (seen_entries (λ s. R.rest_at registry.now s (Some question.now.query.now.kind) 0) question.now.viewer.rules.now question.now.viewer.site.now question.now.viewer.moment question.now.viewer.asker question.now.query.now.scopes) ≢ spoken_is.Others) }
         ensures room { IfOk result (λ kept. kept.room ≡ room) }
         ensures kept { IfOk result (λ kept. IsKept kept) }
-        ensures found { IfOk result (λ kept. kept.latest ≡ cut_in room (deadlines_with (found_entries (λ s. R.rest_at registry.now s (Some question.now.query.now.kind) 0) question.now.rules.now question.now.site.now question.now.moment question.now.asker question.now.query.now) [])) }
-        ensures listings { MatchResult result (λ _. (k : ℕ) (s : List ℕ) → slice_get question.now.query.now.scopes k ≡ Some s → IsTrue (supports question.now.site.now s) → IsListing (is_at_place s (Some question.now.query.now.kind)) (R.contents registry.now) (R.rest_at registry.now s (Some question.now.query.now.kind) 0)) (λ e. e ≡ QueryFault.Language → (k : ℕ) (s : List ℕ) → slice_get question.now.query.now.scopes k ≡ Some s → IsTrue (supports question.now.site.now s) → IsListing (is_at_place s (Some question.now.query.now.kind)) (R.contents registry.now) (R.rest_at registry.now s (Some question.now.query.now.kind) 0)) }
+        ensures found { IfOk result (λ kept. kept.latest ≡ cut_in room (deadlines_with (found_entries (λ s. R.rest_at registry.now s (Some question.now.query.now.kind) 0) question.now.viewer.rules.now question.now.viewer.site.now question.now.viewer.moment question.now.viewer.asker question.now.query.now) [])) }
+        ensures listings { MatchResult result (λ _. (k : ℕ) (s : List ℕ) → slice_get question.now.query.now.scopes k ≡ Some s → IsTrue (supports question.now.viewer.site.now s) → IsListing (is_at_place s (Some question.now.query.now.kind)) (R.contents registry.now) (R.rest_at registry.now s (Some question.now.query.now.kind) 0)) (λ e. e ≡ QueryFault.Language → (k : ℕ) (s : List ℕ) → slice_get question.now.query.now.scopes k ≡ Some s → IsTrue (supports question.now.viewer.site.now s) → IsListing (is_at_place s (Some question.now.query.now.kind)) (R.contents registry.now) (R.rest_at registry.now s (Some question.now.query.now.kind) 0)) }
     {
         let mut kept = Shortlist {
             latest: Deadlines::new(alloc),

@@ -1,24 +1,18 @@
 -- What is told of bytes, by what they are read as.
-use Rattle.std.proofs.Common.{◌≡◌, ℕ, suc, arith, Bool, true, false, cond, List, [], ◌∷◌, length, Option, Some, None, Result, Ok, Err, refl, sym, ap, ap₂, subst, ◌∙◌, inl, inr}
-use Rattle.std.specs.Prelude.{◌==◌, ◌&&◌, ◌||◌, ◌+◌, ◌/◌, ◌%◌, ◌++◌, ◌↔◌, not, IsErrOf}
-use Rattle.std.specs.Fmt.{decimal}
+use Rattle.std.proofs.Common.{◌≡◌, ℕ, arith, Bool, true, false, cond, List, [], ◌∷◌, length, Option, Some, None, Result, Ok, Err, refl, sym, ap, ap₂, subst, ◌∙◌, inl, inr}
+use Rattle.std.specs.Prelude.{◌==◌, ◌&&◌, ◌+◌, ◌↔◌, ◌⊎◌, not, IsErrOf}
 use Rattle.std.specs.List.{list_any}
-use Rattle.std.proofs.lemmas.Option.{none-some}
 use Rattle.slp_headers.specs.Headers.{Heading, heading_of}
-use Rattle.slp_messages.specs.declared.header.Header.{Header}
 use Rattle.slp_messages.specs.declared.message.Message.{Message}
 use Rattle.slp_messages.specs.declared.message.Message.TheVariants as message
-use Rattle.slp_messages.specs.declared.message.ServiceRequest.{ServiceRequest}
 use Rattle.slp_fields.specs.declared.fault.WireFault.{WireFault}
-use Rattle.slp_wire.specs.Reading.{kept_header, reading}
+use Rattle.slp_wire.specs.Reading.{reading}
 use Rattle.slp_wire.proofs.Functions.{message_function}
 use Rattle.slp_wire.specs.Spelling.{plain_bytes}
 use Rattle.slp_messages.specs.declared.message.UrlEntry.{UrlEntry}
 use Rattle.access_rules.specs.Deciding.{SiteRules}
-use Rattle.slp_text.specs.Ascii.{dot}
-use Rattle.slp_text.specs.Words.{bytes_eq}
 use Rattle.directory_judge.specs.History.{History, Event, now}
-use Rattle.directory_judge.specs.Judgements.{Judgement, IsChange, by_step, change_of, supports, finding_in}
+use Rattle.directory_judge.specs.Judgements.{Judgement, IsChange, by_step, change_of, code_by, supports, finding_in}
 use Rattle.directory_judge.specs.declared.reason.Decider.TheVariants as decider
 use Rattle.directory_judge.specs.Meaning.{rules}
 use Rattle.directory_judge.specs.Sites.{Site}
@@ -27,28 +21,34 @@ use Rattle.directory_judge.specs.declared.reason.Because.{Because}
 use Rattle.directory_judge.specs.declared.change.Change.{Change}
 use Rattle.directory_judge.specs.declared.judgement.Judged.{Judged}
 use Rattle.directory_judge.specs.declared.judgement.Judged.TheVariants as judged
-use Rattle.directory_answers.specs.Answers.{Sense, Settled, Lists, IsListed, language_outcome, sense_under, sense_of_message, sense_of_question, IsAnswerTo, IsAnswer}
+use Rattle.directory_answers.specs.Answers.{Sense, Settled, Lists, Describes, Names, IsCutReply, IsListed, advert_code, advert_outcome, agents_outcome, is_agent_for, is_change_function, is_change_of, language_outcome, question_of, sense_of_reading, sense_under, sense_within, sense_of_message, sense_of_question, IsAnswerTo, IsAnswer}
 use Rattle.directory_answers.specs.Calls.{Opening, Call}
-use Rattle.directory_answers.specs.Outcomes.{Outcome, silence, outcome, sent_of, code_outcome, fault_outcome, acknowledgement_of}
-use Rattle.directory_answers.specs.Questions.{has_answered, question_of}
-use Rattle.directory_answers.specs.Items.{IsForeign, IsOpenNow, AreServices}
+use Rattle.directory_answers.specs.Cuts.{attributes_with, types_with}
+use Rattle.directory_answers.specs.Outcomes.{Outcome, silence, outcome, sent_of, code_outcome, code_outcome_as, decider_of_fault, denial_outcome, fault_outcome, acknowledgement_of}
+use Rattle.attr_list.specs.Lists.{Attributes}
+use Rattle.std.specs.Option.{option_map_or}
+use Rattle.std.proofs.lemmas.Bool.Decides.{nat_tests}
+use Rattle.slp_headers.specs.Headers.{reply_function_of}
+use Rattle.directory_answers.specs.Items.{attribute_texts, kind_asked, AreAttributesOf, AreServices, AreTypesOf, IsAskedAbout, IsElsewhere, IsForeign, IsOpenNow}
 use Rattle.directory_answers.specs.declared.query.QueryFault.{QueryFault}
 use Rattle.directory_answers.specs.declared.query.QueryFault.TheVariants as query_fault
+use Rattle.directory_answers.specs.declared.query.AgentQuery.{AgentQuery}
+use Rattle.directory_answers.specs.declared.query.AttrQuery.{AttrQuery}
 use Rattle.directory_answers.specs.declared.query.ServiceQuery.{ServiceQuery}
+use Rattle.directory_answers.specs.declared.query.TypeQuery.{TypeQuery}
 use Rattle.directory_answers.specs.declared.question.Question.{Question}
-use Rattle.directory_answers.specs.declared.question.Question.TheVariants.{Asks}
-use Rattle.directory_answers.specs.Readings.{may_change, request_of, IsAsked}
+use Rattle.directory_answers.specs.declared.question.Question.TheVariants as question
+use Rattle.directory_answers.specs.Readings.{may_change, IsAsked}
 use Rattle.directory_answers.specs.Verdicts.{IsLegal, IsVerdict, change_in, history_with}
 use Rattle.directory_judge.specs.Contents.{content}
 use Rattle.directory_state.specs.Fronts.{IsFront}
 use Rattle.directory_state.specs.Folds.{Fold, StandsFor, IsJudgedAs, HandsOut}
 use Rattle.directory_state.specs.State.{State}
 use Rattle.directory_state.specs.declared.search.Room.{Room}
-use Rattle.directory_answers.proofs.Questions.{responders-silence}
 use Rattle.directory_state.proofs.Histories.{legal_next}
 use Rattle.slp_answer.specs.ServiceReplies.{service_reply}
 use Rattle.slp_answer.specs.Answers.{Tells, Replies, Acknowledges, Steps, outcome_of_finding}
-use Rattle.slp_answer.proofs.Sizes.{positive, front-cut, front-empty}
+use Rattle.slp_answer.proofs.Sizes.{front-cut, front-empty}
 use Rattle.slp_answer.specs.declared.answer.Sent.{Sent}
 use Rattle.slp_answer.specs.declared.answer.Sent.TheVariants as sent
 
@@ -89,21 +89,7 @@ module _ (o : Opening) (h : History) (c : Call) where
   pub fault-answer : (head : Heading) (e : WireFault) → heading_of c.bytes ≡ Some head → reading c.bytes ≡ Err e → IsAnswer o h c (fault_outcome head e) None
   fault-answer head e is read = headed-answer (Some head) (Err e) (fault_outcome head e) None is read (refl, refl)
 
-  -- nothing is told of a message that is neither a service request nor a change
-  pub other-answer : (head : Heading) (x : Message) → request_of x ≡ None → may_change x ≡ false → IsAnswerTo o h c (sense_of_message o.site c.own head (Ok x)) silence None
-  other-answer head (message.ServiceRequest header q) none still = absurd (none-some _ (sym none))
-  other-answer head (message.Registration header r) none still = absurd cc
-  other-answer head (message.ServiceReply header r) none still = (refl, refl)
-  other-answer head (message.Acknowledgement header code) none still = (refl, refl)
-  other-answer head (message.Withdrawal header w) none still = absurd cc
-  other-answer head (message.AttributeRequest header q) none still = (refl, refl)
-  other-answer head (message.AttributeReply header r) none still = (refl, refl)
-  other-answer head (message.DirectoryAdvert header a) none still = (refl, refl)
-  other-answer head (message.TypeRequest header q) none still = (refl, refl)
-  other-answer head (message.TypeReply header r) none still = (refl, refl)
-  other-answer head (message.ServiceAdvert header a) none still = (refl, refl)
-
-  pub change-answer : (head : Heading) (x : Message) (v : Judgement) → IsChange x → IsVerdict o h c.moment c.asker x v → IsAnswerTo o h c (sense_of_message o.site c.own head (Ok x)) (acknowledgement_of head v) (change_in v)
+  pub change-answer : (head : Heading) (x : Message) (v : Judgement) → IsChange x → IsVerdict o h c.moment c.asker x v → IsAnswerTo o h c (sense_of_message o.site c.own head x) (acknowledgement_of head v) (change_in v)
   change-answer head (message.Registration header r) v is verdict = (v, verdict, refl, refl)
   change-answer head (message.ServiceRequest header q) v is verdict = absurd is
   change-answer head (message.ServiceReply header r) v is verdict = absurd is
@@ -118,44 +104,41 @@ module _ (o : Opening) (h : History) (c : Call) where
 
 -- ---- questions
 
--- an address is not empty
-nobody-answered : (own : ℕ) → has_answered own [] ≡ false
-nobody-answered own =
-    elim (decimal (own / 16777216)) as (λ d. (bytes_eq [] (d ++ dot ∷ decimal (own / 65536 % 256) ++ dot ∷ decimal (own / 256 % 256) ++ dot ∷ decimal (own % 256)) || false) ≡ false) [ [] ↦ refl | x ∷ xs ↦ refl ]
-
-either : (b : Bool) → cond b (Settled silence) (Settled silence) ≡ Settled silence
-either true = refl
-either false = refl
-
-module _ (site : Site) (own : ℕ) (head : Heading) (header : Header) (request : ServiceRequest) where
-  -- what names responders is silent so far, whoever they are
-  asked-by : (responders : List ℕ) → request.responders ≡ responders
-      → cond (has_answered own request.responders) (Settled silence) (sense_of_question site head (question_of header request)) ≡ sense_of_question site head (question_of header request)
-  asked-by [] is = ap (λ b. cond b (Settled silence) (sense_of_question site head (question_of header request))) (ap (has_answered own) is ∙ nobody-answered own)
-  asked-by (x ∷ xs) is =
-      let some : not (length request.responders == 0) ≡ true = ap (λ (rs : List ℕ). not (length rs == 0)) is ∙ ap not (positive (suc (length xs)) (omega arith)) in
-      let silent = responders-silence header request some in
-      ap (λ (q : Question). cond (has_answered own request.responders) (Settled silence) (sense_of_question site head q)) silent
-      ∙ either (has_answered own request.responders)
-      ∙ sym (ap (sense_of_question site head) silent)
+-- what comes of a message that asks for no change is what comes of its question
+still-question : (site : Site) (own : ℕ) (head : Heading) (m : Message) → may_change m ≡ false → sense_of_message site own head m ≡ sense_of_question site own head (question_of own m)
+still-question site own head (message.Registration h r) still = absurd cc
+still-question site own head (message.Withdrawal h w) still = absurd cc
+still-question site own head (message.ServiceRequest h q) still = refl
+still-question site own head (message.ServiceReply h r) still = refl
+still-question site own head (message.Acknowledgement h code) still = refl
+still-question site own head (message.AttributeRequest h q) still = refl
+still-question site own head (message.AttributeReply h r) still = refl
+still-question site own head (message.DirectoryAdvert h a) still = refl
+still-question site own head (message.TypeRequest h q) still = refl
+still-question site own head (message.TypeReply h r) still = refl
+still-question site own head (message.ServiceAdvert h a) still = refl
 
 module _ (o : Opening) (h : History) (c : Call) (head : Heading) where
-  -- what comes of a service request is what comes of its question
-  question-answer : (header : Header) (request : ServiceRequest) (q : Question) (r : Outcome) → question_of header request ≡ q
-      → IsAnswerTo o h c (sense_of_question o.site head q) r None → IsAnswerTo o h c (sense_of_message o.site c.own head (Ok (message.ServiceRequest header request))) r None
-  question-answer header request q r asks answer =
-      subst (λ (s : Sense). IsAnswerTo o h c s r None) (sym (asked-by o.site c.own head header request request.responders refl ∙ ap (sense_of_question o.site head) asks)) answer
+  -- what is asked where a scope is supported, and where none is
+  within-answer : (scopes : List (List ℕ)) (kind : Option (List ℕ)) (sense : Sense) (r : Outcome) → list_any (supports o.site) scopes ≡ true
+      → IsAnswerTo o h c sense r None → IsAnswerTo o h c (sense_within o.site head scopes kind sense) r None
+  within-answer scopes kind sense r supported answer =
+      subst (λ b. IsAnswerTo o h c (cond b sense (Settled (code_outcome head 4 (by_step decider.Scope kind)))) r None) (sym supported) answer
 
-  -- what is listed where a scope is supported
+  pub unsupported-answer : (scopes : List (List ℕ)) (kind : Option (List ℕ)) (sense : Sense) → list_any (supports o.site) scopes ≡ false
+      → IsAnswerTo o h c (sense_within o.site head scopes kind sense) (code_outcome head 4 (by_step decider.Scope kind)) None
+  unsupported-answer scopes kind sense none =
+      let it = code_outcome head 4 (by_step decider.Scope kind) in
+      subst (λ b. IsAnswerTo o h c (cond b sense (Settled it)) it None) (sym none) (refl, refl)
+
   listing-answer : (query : ServiceQuery) (r : Outcome) → list_any (supports o.site) query.scopes ≡ true
-      → IsListed (IsOpenNow o h c.moment c.asker query.scopes) (now h c.moment) c.limit head query r → IsAnswerTo o h c (sense_of_question o.site head (Asks query)) r None
-  listing-answer query r supported listed =
-      subst (λ b. IsAnswerTo o h c (cond b (Lists head query) (Settled (code_outcome head 4 (by_step decider.Scope (Some query.kind))))) r None) (sym supported) (listed, refl)
+      → IsListed (IsOpenNow o h c.moment c.asker query.scopes) (now h c.moment) c.limit head query r → IsAnswerTo o h c (sense_of_question o.site c.own head (question.Services query)) r None
+  listing-answer query r supported listed = within-answer query.scopes (Some query.kind) (Lists head query) r supported (listed, refl)
 
   pub listed-answer : (rs : SiteRules) (query : ServiceQuery) (all items : List UrlEntry) (is_cut : Bool) (room : Room) (what : Sent) (reply line : List ℕ) → room.bytes + 18 + length head.language ≡ c.limit → room.each ≡ 6
       → list_any (supports o.site) query.scopes ≡ true → ¬ IsForeign (IsOpenNow o h c.moment c.asker query.scopes) query → AreServices o h c.moment c.asker query all → IsFront room all items is_cut
       → Tells rs c.asker (Some head) (outcome (sent_of head 0 (length items == 0 && not is_cut) (plain_bytes (service_reply head is_cut items))) 0 (by_step decider.Nobody (Some query.kind))) what reply line
-      → (r : Outcome) × IsAnswerTo o h c (sense_of_question o.site head (Asks query)) r None × Tells rs c.asker (Some head) r what reply line
+      → (r : Outcome) × IsAnswerTo o h c (sense_of_question o.site c.own head (question.Services query)) r None × Tells rs c.asker (Some head) r what reply line
   listed-answer rs query all items is_cut room what reply line whole six supported spoken are front tells =
       let sending = plain_bytes (service_reply head is_cut items) in
       let told : Bool → Outcome = λ b. outcome (sent_of head 0 b sending) 0 (by_step decider.Nobody (Some query.kind)) in (
@@ -165,9 +148,11 @@ module _ (o : Opening) (h : History) (c : Call) (head : Heading) where
           record {
             items = all;
             are = are;
-            whole = sending;
-            cut = front-cut head room all items is_cut c.limit whole six front;
-            sent = ap told (front-empty head room all items is_cut c.limit whole six front);
+            reply = record {
+              whole = sending;
+              cut = front-cut head room all items is_cut c.limit whole six front;
+              sent = ap told (front-empty head room all items is_cut c.limit whole six front);
+            };
           },
         )),
         tells,
@@ -175,14 +160,38 @@ module _ (o : Opening) (h : History) (c : Call) (head : Heading) where
 
   -- nothing is in the language that is asked for
   pub foreign-answer : (query : ServiceQuery) → list_any (supports o.site) query.scopes ≡ true → IsForeign (IsOpenNow o h c.moment c.asker query.scopes) query
-      → IsAnswerTo o h c (sense_of_question o.site head (Asks query)) (language_outcome head query) None
-  foreign-answer query supported foreign = listing-answer query (language_outcome head query) supported (inl (foreign, refl))
+      → IsAnswerTo o h c (sense_of_question o.site c.own head (question.Services query)) (language_outcome head (Some query.kind)) None
+  foreign-answer query supported foreign = listing-answer query (language_outcome head (Some query.kind)) supported (inl (foreign, refl))
 
-  pub unsupported-answer : (query : ServiceQuery) → list_any (supports o.site) query.scopes ≡ false
-      → IsAnswerTo o h c (sense_of_question o.site head (Asks query)) (code_outcome head 4 (by_step decider.Scope (Some query.kind))) None
-  unsupported-answer query none =
-      let it = code_outcome head 4 (by_step decider.Scope (Some query.kind)) in
-      subst (λ b. IsAnswerTo o h c (cond b (Lists head query) (Settled it)) it None) (sym none) (refl, refl)
+  pub described-answer : (query : AttrQuery) (a : Attributes) (r : Outcome) → list_any (supports o.site) query.scopes ≡ true
+      → (IsElsewhere (IsAskedAbout (IsOpenNow o h c.moment c.asker query.scopes) query) query.language → ⊥) → AreAttributesOf o h c.moment c.asker query a
+      → IsCutReply (attributes_with head) c.limit head (by_step decider.Nobody (kind_asked query.target)) (attribute_texts a) r
+      → IsAnswerTo o h c (sense_of_question o.site c.own head (question.Attributes query)) r None
+  described-answer query a r supported spoken are cut =
+      within-answer query.scopes (kind_asked query.target) (Describes head query) r supported (inr (spoken, record { attributes = a; are = are; reply = cut }), refl)
+
+  pub elsewhere-answer : (query : AttrQuery) → list_any (supports o.site) query.scopes ≡ true
+      → IsElsewhere (IsAskedAbout (IsOpenNow o h c.moment c.asker query.scopes) query) query.language
+      → IsAnswerTo o h c (sense_of_question o.site c.own head (question.Attributes query)) (language_outcome head (kind_asked query.target)) None
+  elsewhere-answer query supported elsewhere =
+      within-answer query.scopes (kind_asked query.target) (Describes head query) (language_outcome head (kind_asked query.target)) supported (inl (elsewhere, refl), refl)
+
+  pub named-answer : (query : TypeQuery) (types : List (List ℕ)) (r : Outcome) → list_any (supports o.site) query.scopes ≡ true → AreTypesOf o h c.moment c.asker query types
+      → IsCutReply (types_with head) c.limit head (by_step decider.Nobody None) types r
+      → IsAnswerTo o h c (sense_of_question o.site c.own head (question.Types query)) r None
+  named-answer query types r supported are cut =
+      within-answer query.scopes None (Names head query) r supported (record { types = types; are = are; reply = cut }, refl)
+
+  -- the advert of the site, or the code that stands for it
+  pub agents-answer : (query : AgentQuery) (scopes : List (List ℕ)) (b : Bool) → query.scopes ≡ Some scopes → is_agent_for o.site scopes ≡ b
+      → IsAnswerTo o h c (sense_of_question o.site c.own head (question.Agents query)) (cond b (advert_outcome o.site c.own head query.kind) (advert_code head 4 (by_step decider.Scope (Some query.kind)))) None
+  agents-answer query scopes b named is =
+      (sym (ap (agents_outcome o.site c.own head query.kind) named ∙ ap (λ x. cond x (advert_outcome o.site c.own head query.kind) (advert_code head 4 (by_step decider.Scope (Some query.kind)))) is), refl)
+
+-- no scope is named, or some is supported
+pub agent-for : (site : Site) (scopes : List (List ℕ)) → (scopes ≡ []) ⊎ (list_any (supports site) scopes ≡ true) → is_agent_for site scopes ≡ true
+agent-for site [] h = refl
+agent-for site (s ∷ scopes) h = elim h [ inl none ↦ absurd cc | inr some ↦ some ]
 
 -- ---- changes
 
@@ -195,18 +204,16 @@ module _ (o : Opening) (h : History) (m asker : ℕ) (head : Heading) (x : Messa
   same-told : (j : Judged) (v : Judgement) → IsJudgedAs h j v → acknowledgement_of head v ≡ outcome_of_finding head (finding_in j)
   same-told (judged.Accept change because) v is = ap (acknowledgement_of head) is.1
   same-told judged.Nothing v is = ap (acknowledgement_of head) is
-  same-told judged.Unjudged v is = ap (acknowledgement_of head) is
   same-told (judged.Deny code because) v is = ap (acknowledgement_of head) is
 
   hands-out : (j : Judged) (v : Judgement) → IsMessage x → IsLegal o h → IsVerdict o h m asker x v → IsJudgedAs h j v → HandsOut o h (change_of j) (change_in v)
   hands-out (judged.Accept change because) v sound legal verdict is =
       (is.0, ap change_in is.1, is.2, subst (λ (u : Judgement). IsLegal o (history_with (change_in u) h)) is.1 (legal_next o h m asker x v legal sound verdict))
   hands-out judged.Nothing v sound legal verdict is = ap change_in is
-  hands-out judged.Unjudged v sound legal verdict is = ap change_in is
   hands-out (judged.Deny code because) v sound legal verdict is = ap change_in is
 
   -- it is told by its code and who decided on what, and its change is handed out
-  pub judged-told : (j : Judged) (found : Option (ℕ × Because)) (change : Option Change) → IsMessage x → IsLegal o h → (v : Judgement) × IsVerdict o h m asker x v × IsJudgedAs h j v
+  pub judged-told : (j : Judged) (found : ℕ × Because) (change : Option Change) → IsMessage x → IsLegal o h → (v : Judgement) × IsVerdict o h m asker x v × IsJudgedAs h j v
       → found ≡ finding_in j → change ≡ change_of j → Tells rs asker (Some head) (outcome_of_finding head found) what reply line → IsTold change
   judged-told j found change sound legal verdict finds makes tells = (
     verdict.0,
@@ -250,7 +257,7 @@ unheaded-acknowledges o h m asker bytes reply line none r l = record {
 
 module _ (o : Opening) (h : History) (c : Call) (what : Sent) (reply line : List ℕ) where
   pub answered-replies : (head : Heading) (x : Message) (rs : SiteRules) → rs ≡ rules o.rules h → heading_of c.bytes ≡ Some head → reading c.bytes ≡ Ok x
-      → (r : Outcome) × IsAnswerTo o h c (sense_of_message o.site c.own head (Ok x)) r None × Tells rs c.asker (Some head) r what reply line → Replies o h c what reply line
+      → (r : Outcome) × IsAnswerTo o h c (sense_of_message o.site c.own head x) r None × Tells rs c.asker (Some head) r what reply line → Replies o h c what reply line
   answered-replies head x rs ruled is read told = record {
     outcome = told.0;
     is = headed-answer o h c (Some head) (Ok x) told.0 None is read told.1;
@@ -271,40 +278,60 @@ unheaded-replies o h c reply line none r l = record {
   told = silence-tells (rules o.rules h) c.asker (heading_of c.bytes) reply line r l;
 }
 
--- a service request is answered as its question is
-pub asked-replies : (o : Opening) (h : History) (c : Call) (what : Sent) (reply line : List ℕ) (head : Heading) (q : Question) (rs : SiteRules) → rs ≡ rules o.rules h → heading_of c.bytes ≡ Some head → IsAsked head c.bytes q
-    → (r : Outcome) × IsAnswerTo o h c (sense_of_question o.site head q) r None × Tells rs c.asker (Some head) r what reply line → Replies o h c what reply line
+-- a message that asks for no change is answered as its question is
+pub asked-replies : (o : Opening) (h : History) (c : Call) (what : Sent) (reply line : List ℕ) (head : Heading) (q : Question) (rs : SiteRules) → rs ≡ rules o.rules h → heading_of c.bytes ≡ Some head → IsAsked c.own c.bytes q
+    → (r : Outcome) × IsAnswerTo o h c (sense_of_question o.site c.own head q) r None × Tells rs c.asker (Some head) r what reply line → Replies o h c what reply line
 asked-replies o h c what reply line head q rs ruled is asked told =
-    let x = message.ServiceRequest (kept_header head) asked.request in
-    answered-replies o h c what reply line head x rs ruled is asked.read (
+    answered-replies o h c what reply line head asked.sent rs ruled is asked.read (
       told.0,
-      question-answer o h c head (kept_header head) asked.request q told.0 (sym asked.asks) told.1,
+      subst (λ (s : Sense). IsAnswerTo o h c s told.0 None) (sym (still-question o.site c.own head asked.sent asked.still ∙ ap (sense_of_question o.site c.own head) (sym asked.asks))) told.1,
       told.2,
     )
 
-no_request_of : (x : Message) → (function_of x ≡ 1 → ⊥) → request_of x ≡ None
-no_request_of (message.ServiceRequest h q) other = absurd (other refl)
-no_request_of (message.Registration h r) other = refl
-no_request_of (message.ServiceReply h r) other = refl
-no_request_of (message.Acknowledgement h code) other = refl
-no_request_of (message.Withdrawal h w) other = refl
-no_request_of (message.AttributeRequest h q) other = refl
-no_request_of (message.AttributeReply h r) other = refl
-no_request_of (message.DirectoryAdvert h a) other = refl
-no_request_of (message.TypeRequest h q) other = refl
-no_request_of (message.TypeReply h r) other = refl
-no_request_of (message.ServiceAdvert h a) other = refl
+-- ---- functions that nothing is answered to
 
--- nothing is answered to a message of another function that asks for no change
-pub other-replies : (o : Opening) (h : History) (c : Call) (reply line : List ℕ) (head : Heading) (x : Message) (rs : SiteRules) → rs ≡ rules o.rules h → heading_of c.bytes ≡ Some head → reading c.bytes ≡ Ok x
-    → (head.function ≡ 1 → ⊥) → may_change x ≡ false → reply ≡ [] → line ≡ [] → Replies o h c sent.Silence reply line
-other-replies o h c reply line head x rs ruled is read other still r l =
-    let none = no_request_of x (λ e. other (sym (message_function c.bytes head x is read) ∙ e)) in
-    answered-replies o h c sent.Silence reply line head x rs ruled is read (
-      silence,
-      other-answer o h c head x none still,
-      silence-tells rs c.asker (Some head) reply line r l,
-    )
+-- a message of a function that is neither a question nor a change
+quiet-message : (site : Site) (own : ℕ) (head : Heading) (m : Message) → (function_of m ≡ 1 → ⊥) → (function_of m ≡ 6 → ⊥) → (function_of m ≡ 9 → ⊥) → may_change m ≡ false → sense_of_message site own head m ≡ Settled silence
+quiet-message site own head (message.ServiceRequest h q) a b c still = absurd (a refl)
+quiet-message site own head (message.AttributeRequest h q) a b c still = absurd (b refl)
+quiet-message site own head (message.TypeRequest h q) a b c still = absurd (c refl)
+quiet-message site own head (message.Registration h r) a b c still = absurd cc
+quiet-message site own head (message.Withdrawal h w) a b c still = absurd cc
+quiet-message site own head (message.ServiceReply h r) a b c still = refl
+quiet-message site own head (message.Acknowledgement h code) a b c still = refl
+quiet-message site own head (message.AttributeReply h r) a b c still = refl
+quiet-message site own head (message.DirectoryAdvert h x) a b c still = refl
+quiet-message site own head (message.TypeReply h r) a b c still = refl
+quiet-message site own head (message.ServiceAdvert h x) a b c still = refl
+
+-- a fault of a function to which no reply is known
+quiet-fault : (head : Heading) (e : WireFault) → reply_function_of head.function ≡ None → fault_outcome head e ≡ silence
+quiet-fault head e none = elim (decider_of_fault e) as (λ d. option_map_or (denial_outcome head) d silence ≡ silence) [
+  | None ↦ refl
+  | Some d ↦ ap (λ f. option_map_or (code_outcome_as head (code_by d) (by_step d None)) f silence) none
+]
+
+-- no reply answers a function that is neither
+no-reply-function : (f : ℕ) → (f ≡ 1 → ⊥) → (f ≡ 6 → ⊥) → (f ≡ 9 → ⊥) → is_change_function f ≡ false → reply_function_of f ≡ None
+no-reply-function f a b c still = grind (arith, nat_tests)
+
+pub quiet-replies : (o : Opening) (h : History) (c : Call) (reply line : List ℕ) (head : Heading) → heading_of c.bytes ≡ Some head → (head.function ≡ 1 → ⊥) → (head.function ≡ 6 → ⊥) → (head.function ≡ 9 → ⊥) → is_change_of c.bytes ≡ false
+    → reply ≡ [] → line ≡ [] → Replies o h c sent.Silence reply line
+unfolding is_change_of
+quiet-replies o h c reply line head is a b d still r l =
+    let unchanged : is_change_function head.function ≡ false = sym (ap (λ (x : Option Heading). option_map_or (λ (y : Heading). is_change_function y.function) x false) is) ∙ still in
+    let sense : (read : Result Message WireFault) → reading c.bytes ≡ read → sense_of_reading o.site c.own head read ≡ Settled silence =
+    λ read. elim read as (λ x. reading c.bytes ≡ x → sense_of_reading o.site c.own head x ≡ Settled silence) [
+      | Ok m ↦ λ same.
+          let f : head.function ≡ function_of m = sym (message_function c.bytes head m is same) in
+          quiet-message o.site c.own head m (λ e. a (f ∙ e)) (λ e. b (f ∙ e)) (λ e. d (f ∙ e)) (ap is_change_function (sym f) ∙ unchanged)
+      | Err e ↦ λ _. ap Settled (quiet-fault head e (no-reply-function head.function a b d unchanged))
+    ] in
+    record {
+      outcome = silence;
+      is = headed-answer o h c (Some head) (reading c.bytes) silence None is refl (subst (λ (s : Sense). IsAnswerTo o h c s silence None) (sym (sense (reading c.bytes) refl)) (refl, refl));
+      told = silence-tells (rules o.rules h) c.asker (heading_of c.bytes) reply line r l;
+    }
 
 -- ---- steps
 

@@ -29,7 +29,7 @@ action_is_short See = omega arith
 octet_is_short : (n : ℕ) → n < 256 → length (decimal n) ≤ 3
 octet_is_short n small = length-decimal-le 3 n (omega arith) (omega (arith, small)) (omega (arith, small))
 
-address_is_short : (asker : ℕ) → asker < 2 ^ 32 → length (address_text asker) ≤ 15
+pub address_is_short : (asker : ℕ) → asker < 2 ^ 32 → length (address_text asker) ≤ 15
 address_is_short asker small =
     let a = octet_is_short (asker / 16777216) (omega (arith, small)) in
     let b = octet_is_short (asker / 65536 % 256) (omega arith) in

@@ -12,7 +12,7 @@ use Rattle.directory_judge.specs.declared.reason.Because.{Because}
 use Rattle.directory_judge.specs.declared.change.Change.{Change}
 use Rattle.directory_answers.specs.Answers.{IsAnswer}
 use Rattle.directory_answers.specs.Calls.{Opening, Call}
-use Rattle.directory_answers.specs.Outcomes.{Outcome, code_outcome, code_sent, silence}
+use Rattle.directory_answers.specs.Outcomes.{Outcome, code_outcome, code_sent}
 use Rattle.directory_answers.specs.Verdicts.{IsLegal, history_with}
 use Rattle.directory_state.specs.Folds.{Fold, HandsOut}
 use Rattle.directory_state.specs.State.{State}
@@ -38,9 +38,9 @@ line_by rs asker h r = option_map_or (λ v. audit_text rs (audit_in asker h v)) 
 abbrev pub line_of : SiteRules → ℕ → Option Heading → Outcome → List ℕ
 line_of rs asker heading r = option_map_or (λ h. line_by rs asker h r) heading []
 
--- what is told of what was decided, where there is a verdict
-abbrev pub outcome_of_finding : Heading → Option (ℕ × Because) → Outcome
-outcome_of_finding h found = option_map_or (λ f. code_outcome h f.0 f.1) found silence
+-- what is told of what was decided
+abbrev pub outcome_of_finding : Heading → ℕ × Because → Outcome
+outcome_of_finding h found = code_outcome h found.0 found.1
 
 -- ---- what the code answers
 

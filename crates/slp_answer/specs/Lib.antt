@@ -1,3 +1,4 @@
 pub mod Answers
 pub mod Audits
 pub mod ServiceReplies
+pub mod TextLists

@@ -23,24 +23,6 @@ use slp_text::NoMemory;
 use slp_wire::{ChangeView, read_header};
 use std::alloc::Global;
 
-// Answers with what was found, and tells of it; with nothing where there is no verdict.
-fn answer_finding(
-    rules: &Rules,
-    headed: &Headed<'_>,
-    finding: Option<Finding<'_>>,
-    answer: &mut Answer,
-) -> Result<Sent, NoMemory>
-    requires no_reply { answer.old.bytes.items ≡ [] }
-    requires no_line { answer.old.audit.items ≡ [] }
-    ensures { let head = heading_in headed.now.header.now in
-        IfOk result (λ what. Tells rules.now headed.now.call.now.asker (Some head) (outcome_of_finding head (option_map finding_of finding.entry)) what answer.new.bytes.items answer.new.audit.items) }
-{
-    match finding {
-        Some(finding) => answer_code(rules, headed.call.asker, headed.header, finding, answer),
-        None => Ok(Sent::Silence),
-    }
-}
-
 // Judges a message that asks for a change, and acknowledges what comes of it.
 fn acknowledge_change<R: Registry>(
     alloc: Global,
@@ -59,7 +41,7 @@ fn acknowledge_change<R: Registry>(
 {
     let (rules, call) = (directory.rules(), headed.call);
     let decided = directory.judge_change(alloc, call.moment, call.asker, change)?;
-    let told = answer_finding(rules, headed, decided.finding(), answer);
+    let told = answer_code(rules, call.asker, headed.header, decided.finding(), answer);
     let change = decided.change();
     match told {
         Ok(sent) => Ok((sent, change)),

@@ -1,8 +1,10 @@
 ghost use Rattle.std.specs.Prelude.{◌≡◌, ◌==◌, ◌&&◌, ◌||◌, [], false, not, IfOk, Some, if◌then◌else◌};
 ghost use Rattle.slp_headers.specs.Headers.{heading_in, refusal_bytes};
-ghost use Rattle.directory_judge.specs.Judgements.{because_of};
+ghost use Rattle.directory_judge.specs.Judgements.{because_of, finding_of};
 ghost use Rattle.directory_answers.specs.Outcomes.{is_to_many, sent_of, code_outcome, fault_outcome};
-ghost use Rattle.slp_answer.specs.Answers.{Tells};
+ghost use Rattle.directory_answers.specs.Answers.{advert_code};
+ghost use Rattle.slp_answer.specs.Audits.{audit_text};
+ghost use Rattle.slp_answer.specs.Answers.{audit_in, Tells};
 ghost use Rattle.slp_answer.specs.declared.answer.Sent.TheVariants as sent;
 
 use crate::answer::{Answer, Sent};
@@ -55,7 +57,7 @@ fn put_code(
     Ok(Sent::Bytes(code))
 }
 
-/// Answers with a code alone, and tells of it.
+/// Answers with a code alone, in a reply of the function that answers the message, and tells of it.
 pub fn answer_code(
     rules: &Rules,
     asker: Addr,
@@ -67,19 +69,50 @@ pub fn answer_code(
     requires no_line { answer.old.audit.items ≡ [] }
     ensures { IfOk result (λ what. Tells rules.now asker (Some (heading_in header.now)) (code_outcome (heading_in header.now) finding.entry.code (because_of finding.entry.reason)) what answer.new.bytes.items answer.new.audit.items) }
 {
-    let Finding { code, reason } = finding;
     let Some(function) = reply_function(header.function) else {
         return Ok(Sent::Silence);
     };
-    let sent = put_code(header, function, code, answer)?;
+    let sent = put_code(header, function, finding.code, answer)?;
+    put_finding(rules, asker, header, finding, &mut answer.audit)?;
+    Ok(sent)
+}
+
+/// Answers who asks for directory agents with a code alone, and tells of it: an advert stands for it.
+pub fn answer_advert_code(
+    rules: &Rules,
+    asker: Addr,
+    header: &HeaderView<'_>,
+    finding: Finding<'_>,
+    answer: &mut Answer,
+) -> Result<Sent, NoMemory>
+    requires no_reply { answer.old.bytes.items ≡ [] }
+    requires no_line { answer.old.audit.items ≡ [] }
+    ensures { IfOk result (λ what. Tells rules.now asker (Some (heading_in header.now)) (advert_code (heading_in header.now) finding.entry.code (because_of finding.entry.reason)) what answer.new.bytes.items answer.new.audit.items) }
+{
+    let sent = put_code(header, function::DIRECTORY_ADVERT, finding.code, answer)?;
+    put_finding(rules, asker, header, finding, &mut answer.audit)?;
+    Ok(sent)
+}
+
+/// Tells of what was found.
+pub fn put_finding(
+    rules: &Rules,
+    asker: Addr,
+    header: &HeaderView<'_>,
+    finding: Finding<'_>,
+    line: &mut Vec<u8>,
+) -> Result<(), NoMemory>
+    requires { line.old.items ≡ [] }
+    ensures { IfOk result (λ _. line.new.items ≡ audit_text rules.now (audit_in asker (heading_in header.now) (finding_of finding.entry))) }
+{
+    let Finding { code, reason } = finding;
     let audit = AuditView {
         code,
         reason,
         action: action_in(header.function),
         asker,
     };
-    put_line(rules, &audit, &mut answer.audit)?;
-    Ok(sent)
+    put_line(rules, &audit, line)
 }
 
 /// Answers bytes that are not a message that is read: with the code of their fault, where their function

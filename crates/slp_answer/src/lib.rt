@@ -2,14 +2,18 @@
 #![tactic(auto)]
 
 mod acknowledgements;
+mod adverts;
 mod answer;
 mod audit;
 mod code_replies;
 mod listing;
 mod refusals;
 mod replies;
+mod sending;
 mod sink;
 mod steps;
+mod text_replies;
+mod texts;
 
 pub use acknowledgements::acknowledge;
 pub use answer::{Answer, Sent};

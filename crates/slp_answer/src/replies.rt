@@ -1,4 +1,4 @@
-ghost use Rattle.std.specs.Prelude.{◌≡◌, ◌≤◌, ◌==◌, ◌&&◌, ◌||◌, [], false, if◌then◌else◌, not, length, IfOk, OnErr, Some, None};
+ghost use Rattle.std.specs.Prelude.{◌≡◌, ◌≢◌, ◌⊎◌, true, ◌≤◌, ◌==◌, ◌&&◌, ◌||◌, [], false, if◌then◌else◌, not, length, IfOk, OnErr, Some, None};
 ghost use Rattle.slp_headers.specs.Headers.{heading_in, heading_of};
 ghost use Rattle.slp_wire.specs.Spelling.{plain_bytes};
 ghost use Rattle.directory_judge.specs.History.{History};
@@ -15,13 +15,13 @@ ghost use Rattle.slp_answer.specs.ServiceReplies.{service_reply};
 ghost use Rattle.slp_answer.specs.Answers.{Tells, Replies};
 ghost use Rattle.slp_answer.specs.declared.answer.Sent.TheVariants as sent;
 
+use crate::adverts::answer_agents;
 use crate::answer::{Answer, Sent};
-use crate::audit::{AuditView, put_line};
-use crate::code_replies::{Headed, answer_code, answer_fault, is_unsent};
+use crate::code_replies::{Headed, answer_code, answer_fault, is_unsent, put_finding};
 use crate::listing::{put_found, room_in};
-use crate::refusals::action_in;
+use crate::text_replies::{answer_attributes, answer_types};
 use access_rules::{Addr, Rules};
-use directory_answers::{Call, QueryFault, Question, ServiceQuery, asked, understood};
+use directory_answers::{Call, QueryFault, Question, ServiceQuery, asked};
 use directory_judge::{Decider, Finding};
 use directory_state::{Directory, FoundItems};
 use registry_core::Registry;
@@ -70,20 +70,14 @@ fn send_found(
 {
     let Headed { call, header } = *headed;
     let sent = write_found(header, found, answer)?;
-    let Finding { code, reason } = Finding::by(Decider::Nobody, Some(kind));
-    let audit = AuditView {
-        code,
-        reason,
-        action: action_in(header.function),
-        asker: call.asker,
-    };
-    put_line(rules, &audit, &mut answer.audit)?;
+    let finding = Finding::by(Decider::Nobody, Some(kind));
+    put_finding(rules, call.asker, header, finding, &mut answer.audit)?;
     Ok(sent)
 }
 
-// Answers a question: with as many of the services that are found as fit, or with the code that
+// Answers a question about services: with as many of those that are found as fit, or with the code that
 // stands instead.
-fn answer_query<R: Registry>(
+fn answer_services<R: Registry>(
     alloc: Global,
     directory: &Directory<R>,
     headed: &Headed<'_>,
@@ -95,7 +89,7 @@ fn answer_query<R: Registry>(
     requires no_reply { answer.old.bytes.items ≡ [] }
     requires no_line { answer.old.audit.items ≡ [] }
     ensures { (o : Opening) (h : History) → Fold o h directory.now → IsLegal o h
-        → IfOk result (λ what. (r : Outcome) × IsAnswerTo o h (call_in headed.now.call.now) (sense_of_question o.site (heading_in headed.now.header.now) (question.Asks query.now)) r None
+        → IfOk result (λ what. (r : Outcome) × IsAnswerTo o h (call_in headed.now.call.now) (sense_of_question o.site headed.now.call.now.own (heading_in headed.now.header.now) (question.Services query.now)) r None
         × Tells directory.now.rules headed.now.call.now.asker (Some (heading_in headed.now.header.now)) r what answer.new.bytes.items answer.new.audit.items) }
 {
     let Headed { call, header } = *headed;
@@ -115,7 +109,37 @@ fn answer_query<R: Registry>(
     }
 }
 
-// Answers a service request.
+// Answers a question, or with nothing what no directory answers.
+fn answer_question<R: Registry>(
+    alloc: Global,
+    directory: &Directory<R>,
+    headed: &Headed<'_>,
+    posed: Question,
+    answer: &mut Answer,
+) -> Result<Sent, NoMemory>
+    requires datagram { 1400 ≤ headed.now.call.now.limit }
+    requires stream { headed.now.call.now.limit ≤ 65535 }
+    requires no_reply { answer.old.bytes.items ≡ [] }
+    requires no_line { answer.old.audit.items ≡ [] }
+    ensures { (o : Opening) (h : History) → Fold o h directory.now → IsLegal o h
+        → IfOk result (λ what. (r : Outcome) × IsAnswerTo o h (call_in headed.now.call.now) (sense_of_question o.site headed.now.call.now.own (heading_in headed.now.header.now) posed) r None
+        × Tells directory.now.rules headed.now.call.now.asker (Some (heading_in headed.now.header.now)) r what answer.new.bytes.items answer.new.audit.items) }
+{
+    match posed {
+        Question::Silent => Ok(Sent::Silence),
+        Question::Unreadable => {
+            let finding = Finding::by(Decider::Parse, None);
+            let asker = headed.call.asker;
+            answer_code(directory.rules(), asker, headed.header, finding, answer)
+        }
+        Question::Services(query) => answer_services(alloc, directory, headed, &query, answer),
+        Question::Attributes(query) => answer_attributes(alloc, directory, headed, &query, answer),
+        Question::Types(query) => answer_types(alloc, directory, headed, &query, answer),
+        Question::Agents(query) => answer_agents(alloc, directory, headed, &query, answer),
+    }
+}
+
+// Answers a service, attribute or type request.
 fn answer_request<R: Registry>(
     alloc: Global,
     directory: &Directory<R>,
@@ -124,7 +148,7 @@ fn answer_request<R: Registry>(
     answer: &mut Answer,
 ) -> Result<Sent, NoMemory>
     requires header { heading_of call.now.bytes.now ≡ Some (heading_in header.now) }
-    requires function { header.now.function ≡ 1 }
+    requires function { (header.now.function ≡ 1) ⊎ ((header.now.function ≡ 6) ⊎ (header.now.function ≡ 9)) }
     requires datagram { 1400 ≤ call.now.limit }
     requires stream { call.now.limit ≤ 65535 }
     requires no_reply { answer.old.bytes.items ≡ [] }
@@ -132,15 +156,10 @@ fn answer_request<R: Registry>(
     ensures { (o : Opening) (h : History) → Fold o h directory.now → IsLegal o h
         → IfOk result (λ what. Replies o h (call_in call.now) what answer.new.bytes.items answer.new.audit.items) }
 {
-    match asked(alloc, header, call.bytes)? {
-        Ok(Question::Silent) => Ok(Sent::Silence),
-        Ok(Question::Unreadable) => {
-            let finding = Finding::by(Decider::Parse, None);
-            answer_code(directory.rules(), call.asker, header, finding, answer)
-        }
-        Ok(Question::Asks(query)) => {
+    match asked(alloc, call.own, header, call.bytes)? {
+        Ok(question) => {
             let headed = Headed { call, header };
-            answer_query(alloc, directory, &headed, &query, answer)
+            answer_question(alloc, directory, &headed, question, answer)
         }
         Err(fault) => answer_fault(directory.rules(), call.asker, header, fault, answer),
     }
@@ -163,16 +182,20 @@ fn answer_bytes<R: Registry>(
     let Some(header) = read_header(call.bytes) else {
         return Ok(Sent::Silence);
     };
-    if header.function == function::SERVICE_REQUEST {
-        return answer_request(alloc, directory, call, &header, answer);
+    if !is_question_function(header.function) {
+        return Ok(Sent::Silence);
     }
-    match understood(alloc, call.bytes)? {
-        Ok(message) => {
-            drop(message);
-            Ok(Sent::Silence)
-        }
-        Err(fault) => answer_fault(directory.rules(), call.asker, &header, fault, answer),
-    }
+    answer_request(alloc, directory, call, &header, answer)
+}
+
+// Whether messages of a function are questions.
+fn is_question_function(function: u8) -> bool
+    ensures yes { result ≡ true → (function ≡ 1) ⊎ ((function ≡ 6) ⊎ (function ≡ 9)) }
+    ensures no { result ≡ false → (function ≢ 1) × ((function ≢ 6) × (function ≢ 9)) }
+{
+    function == function::SERVICE_REQUEST
+        || function == function::ATTRIBUTE_REQUEST
+        || function == function::TYPE_REQUEST
 }
 
 /// Answers bytes that ask for no change, in at most `limit` bytes. `own` is the address of the loop

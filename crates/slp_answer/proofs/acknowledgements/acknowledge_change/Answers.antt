@@ -1,4 +1,3 @@
-use Rattle.std.specs.Option.{option_map}
 use Rattle.slp_messages.specs.Views.{message_in}
 use Rattle.slp_headers.specs.Headers.{heading_in}
 use Rattle.directory_judge.specs.Judgements.{finding_of, judgement_in}
@@ -8,6 +7,6 @@ use Rattle.slp_answer.proofs.acknowledgements.acknowledge_change.Goals as goal
 pub returns-in-Ok : goal.returns-in-Ok
 returns-in-Ok g c = λ o h fold legal.
     let call = c.args.headed.now.call.now in
-    judged-told o h call.moment call.asker (heading_in c.args.headed.now.header.now) (message_in c.args.change.now) c.args.directory.now.rules c.in-Ok.sent c.answer_finding-told.new.answer.bytes.items c.answer_finding-told.new.answer.audit.items
-    (judgement_in c.in_ok-decided.decided) (option_map finding_of c.finding.result) c.change-change.result c.requires.sound legal (c.in_ok-decided.ensures o h fold legal) c.finding.ensures c.change-change.ensures
+    judged-told o h call.moment call.asker (heading_in c.args.headed.now.header.now) (message_in c.args.change.now) c.args.directory.now.rules c.in-Ok.sent c.answer_code-told.new.answer.bytes.items c.answer_code-told.new.answer.audit.items
+    (judgement_in c.in_ok-decided.decided) (finding_of c.finding.result) c.change-change.result c.requires.sound legal (c.in_ok-decided.ensures o h fold legal) c.finding.ensures c.change-change.ensures
     (rw c.rules-rules.ensures at c.in-Ok.ensures)

@@ -7,7 +7,7 @@ use Rattle.directory_state.proofs.search.Search.spoken_in.Given as goal
 abbrev pub invariant-loop-entry : goal.invariant-loop-entry
 invariant-loop-entry g l =
     let rest = g.R.Registry.rest_at l.registry l.scope (Some l.self.query.now.kind) in
-    let seen = filter (is_seen l.self.rules.now l.self.moment l.self.asker l.scope) in record {
+    let seen = filter (is_seen l.self.viewer.rules.now l.self.viewer.moment l.self.viewer.asker l.scope) in record {
       unasked : IsUnasked l.spoken;
       seen : spoken_of l.self.query.now (seen (rest 0)) ≡ joined l.spoken (spoken_of l.self.query.now (seen (rest l.from)));
     }

@@ -8,7 +8,7 @@ use Rattle.directory_state.proofs.search.Shortlist.collect.Goals as goal
 pub loop-entry-preserved : goal.loop-entry-preserved
 loop-entry-preserved g c =
     let rest = g.R.Registry.rest_at c.args.registry.now c.args.scope.now (Some c.args.question.now.query.now.kind) in
-    let p = is_found c.args.question.now.query.now c.args.question.now.rules.now c.args.question.now.moment c.args.question.now.asker c.args.scope.now in
+    let p = is_found c.args.question.now.query.now c.args.question.now.viewer.rules.now c.args.question.now.viewer.moment c.args.question.now.viewer.asker c.args.scope.now in
     let e : Entry = c.in-Some.entry.now in
     let found = ap (λ room. cut_in room (deadlines_with (filter p (rest c.loop-entry.from)) c.loop-entry.self.latest)) (sym c.loop-entry.invariant.room) ∙ c.in-Some.ensures.next ∙ ap (λ room. cut_in room (deadlines_with (filter p (e ∷ rest c.in-Some.next)) c.loop-entry.self.latest)) c.loop-entry.invariant.room in
     let step = c.in_ok-look.ensures.found ∙ ap (λ room. cut_in room (deadlines_with (filter p (e ∷ [])) c.loop-entry.self.latest)) c.loop-entry.invariant.room in record {

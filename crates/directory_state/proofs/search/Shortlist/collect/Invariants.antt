@@ -8,8 +8,8 @@ invariant-loop-entry g l =
     let rest = g.R.Registry.rest_at l.registry l.scope (Some l.question.query.now.kind) in record {
       room : l.self.room ≡ l.initial.self.room;
       kept : IsKept l.self;
-      found : cut_in l.initial.self.room (deadlines_with (filter (is_found l.question.query.now l.question.rules.now l.question.moment l.question.asker l.scope) (rest l.from)) l.self.latest)
-          ≡ cut_in l.initial.self.room (deadlines_with (filter (is_found l.question.query.now l.question.rules.now l.question.moment l.question.asker l.scope) (rest 0)) l.initial.self.latest);
+      found : cut_in l.initial.self.room (deadlines_with (filter (is_found l.question.query.now l.question.viewer.rules.now l.question.viewer.moment l.question.viewer.asker l.scope) (rest l.from)) l.self.latest)
+          ≡ cut_in l.initial.self.room (deadlines_with (filter (is_found l.question.query.now l.question.viewer.rules.now l.question.viewer.moment l.question.viewer.asker l.scope) (rest 0)) l.initial.self.latest);
     }
 
 abbrev pub decreases-loop-entry : goal.decreases-loop-entry

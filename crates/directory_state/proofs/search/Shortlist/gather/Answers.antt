@@ -17,10 +17,10 @@ pub loop-place-preserved : goal.loop-place-preserved
 loop-place-preserved g c =
     let listing : List ℕ → List Entry = λ s. g.R.Registry.rest_at c.args.registry.now s (Some c.args.question.now.query.now.kind) 0 in
     let scopes : List (List ℕ) = c.args.question.now.query.now.scopes in
-    let site = c.args.question.now.site.now in
-    let rs = c.args.question.now.rules.now in
-    let moment = c.args.question.now.moment in
-    let asker = c.args.question.now.asker in
+    let site = c.args.question.now.viewer.site.now in
+    let rs = c.args.question.now.viewer.rules.now in
+    let moment = c.args.question.now.viewer.moment in
+    let asker = c.args.question.now.viewer.asker in
     let found = is_found c.args.question.now.query.now rs moment asker in
     let room = c.args.self.now.room in
     let before = c.loop-place.self.latest in
@@ -63,8 +63,8 @@ returns-in_err-collect-clause-err g c =
     let scopes : List (List ℕ) = c.args.question.now.query.now.scopes in
     let s : List ℕ = c.in-Some.scope.now in
     let at : slice_get scopes c.loop-place.place ≡ Some s = sym c.at.ensures ∙ ap option_copied c.in-Some.is in
-    let is : supports c.args.question.now.site.now s ≡ true = ap (list_any (λ k. bytes_eq k s)) (sym c.scopes.ensures.value) ∙ sym c.has.ensures ∙ c.if-has.true in
-    on_err c.from_residual.result _ (any_supported (supports c.args.question.now.site.now) scopes c.loop-place.place s c.loop-place.is_supported at is c.loop-place.invariant.supported)
+    let is : supports c.args.question.now.viewer.site.now s ≡ true = ap (list_any (λ k. bytes_eq k s)) (sym c.scopes.ensures.value) ∙ sym c.has.ensures ∙ c.if-has.true in
+    on_err c.from_residual.result _ (any_supported (supports c.args.question.now.viewer.site.now) scopes c.loop-place.place s c.loop-place.is_supported at is c.loop-place.invariant.supported)
 
 pub returns-clause-listings : goal.returns-clause-listings
 returns-clause-listings g c = λ k s is yes.

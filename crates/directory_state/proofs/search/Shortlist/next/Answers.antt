@@ -7,7 +7,7 @@ pub returns-in-Some-clause-next : goal.returns-in-Some-clause-next
 returns-in-Some-clause-next g c =
     let rest = g.R.Registry.rest_at c.args.registry.now c.args.scope.now (Some c.args.question.now.query.now.kind) in
     let kept = shortlist_with c.args.self.now c.args.question.now c.args.scope.now in
-    let found = is_found c.args.question.now.query.now c.args.question.now.rules.now c.args.question.now.moment c.args.question.now.asker c.args.scope.now in
+    let found = is_found c.args.question.now.query.now c.args.question.now.viewer.rules.now c.args.question.now.viewer.moment c.args.question.now.viewer.asker c.args.scope.now in
     let cost = cost_in c.args.self.now.room in
     let left = bytes_in c.args.self.now.room in
     each_case c.by_place_within.result

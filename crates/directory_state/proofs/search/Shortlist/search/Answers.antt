@@ -18,7 +18,7 @@ returns-clause-spoken g c = λ filtered others.
         | in_default x ↦ x.in_default.not-Others (w.spoken.ensures ∙ others)
       ]
       | else-is_some-via-then-is_some+else-is_empty w ↦
-          let nothing = nothing_found listing question.rules.now question.site.now question.moment question.asker query filtered others in
+          let nothing = nothing_found listing question.viewer.rules.now question.viewer.site.now question.viewer.moment question.viewer.asker query filtered others in
           let empty = w.is_empty.ensures.1 (c.in_ok-gather.ensures.found ∙ ap (λ es. cut_in c.args.room (deadlines_with es c.new.result)) nothing ∙ ap (cut_in c.args.room) c.new.ensures) in
           no_other w.is_empty.result empty w.if-is_empty.false
       | else-is_some-via-else-is_some w ↦ no_other (is_some query.filter) filtered (sym c.is_some.ensures ∙ w.if-is_some.false)

@@ -1,4 +1,4 @@
-use Rattle.std.proofs.Common.{Err, refl, sym, ap, ◌∙◌, arith}
+use Rattle.std.proofs.Common.{Some, Err, refl, sym, ap, ◌∙◌, arith}
 use Rattle.std.specs.List.{list_any}
 use Rattle.std.proofs.lemmas.Result.{IfOk-weaker}
 use Rattle.slp_headers.specs.Headers.{heading_in}
@@ -9,7 +9,7 @@ use Rattle.directory_answers.specs.Calls.{call_in}
 use Rattle.directory_state.specs.Fronts.{items_in}
 use Rattle.slp_answer.proofs.Sizes.{room-short}
 use Rattle.slp_answer.proofs.AnswersTold.{listed-answer, foreign-answer, found-supported, refused-supported}
-use Rattle.slp_answer.proofs.replies.answer_query.Goals as goal
+use Rattle.slp_answer.proofs.replies.answer_services.Goals as goal
 
 pub send_found-requires-clause-short : goal.send_found-requires-clause-short
 send_found-requires-clause-short g c =
@@ -32,5 +32,5 @@ returns-in-Err-Language g c = λ o h fold legal.
     let supported = ap (λ (p : Site). list_any (supports p) c.args.query.now.scopes) (sym fold.placed) ∙ refused-supported _ _ _ refl c.in-Err-Language.field-0-is c.in-Err-Language.ensures.scope in
     let foreign = (c.in-Err-Language.ensures.language o h fold legal).0 (ap Err c.in-Err-Language.field-0-is) in
     IfOk-weaker c.answer_code-in-Err-Language.result _ _
-    (λ what tells. (language_outcome head c.args.query.now, foreign-answer o h (call_in c.args.headed.now.call.now) head c.args.query.now supported foreign, tells))
+    (λ what tells. (language_outcome head (Some c.args.query.now.kind), foreign-answer o h (call_in c.args.headed.now.call.now) head c.args.query.now supported foreign, tells))
     (rw (c.rules-rules.ensures, c.by-finding-in-Err-Language.ensures.code, c.by-finding-in-Err-Language.ensures.reason) at c.answer_code-in-Err-Language.ensures)

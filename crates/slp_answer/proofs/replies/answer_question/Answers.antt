@@ -1,0 +1,27 @@
+use Rattle.std.proofs.Common.{Some, None, refl, sym, subst}
+use Rattle.std.specs.Prelude.{IfOk}
+use Rattle.slp_headers.specs.Headers.{heading_in}
+use Rattle.directory_answers.specs.Answers.{sense_of_question, IsAnswerTo}
+use Rattle.directory_answers.specs.Calls.{call_in}
+use Rattle.directory_answers.specs.Outcomes.{Outcome, silence}
+use Rattle.directory_answers.specs.declared.question.Question.{Question}
+use Rattle.slp_answer.specs.Answers.{Tells}
+use Rattle.slp_answer.proofs.AnswersTold.{silence-tells}
+use Rattle.slp_answer.proofs.replies.answer_question.Goals as goal
+
+pub returns-in-Silent : goal.returns-in-Silent
+returns-in-Silent g c = λ o h fold legal.
+    let call = call_in c.args.headed.now.call.now in
+    let head = heading_in c.args.headed.now.header.now in (
+      silence,
+      subst (λ (q : Question). IsAnswerTo o h call (sense_of_question o.site call.own head q) silence None) (sym c.in-Silent.is) (refl, refl),
+      silence-tells c.args.directory.now.rules call.asker (Some head) c.args.answer.now.bytes.items c.args.answer.now.audit.items c.requires.no_reply c.requires.no_line,
+    )
+
+pub returns-in-Attributes : goal.returns-in-Attributes
+returns-in-Attributes g c = λ o h fold legal.
+    let call = call_in c.args.headed.now.call.now in
+    let head = heading_in c.args.headed.now.header.now in
+    subst (λ (q : Question). IfOk c.answer_attributes.result (λ what. (x : Outcome) × IsAnswerTo o h call (sense_of_question o.site call.own head q) x None
+    × Tells c.args.directory.now.rules call.asker (Some head) x what c.answer_attributes.new.answer.bytes.items c.answer_attributes.new.answer.audit.items)) (sym c.in-Attributes.is)
+    (c.answer_attributes.ensures o h fold legal)

@@ -1,0 +1,112 @@
+//! Replies of code 0 that are encoded from messages.
+ghost use Rattle.std.specs.Prelude.{◌≡◌, ◌≤◌, ◌==◌, ◌&&◌, ◌||◌, [], not, length, IfOk, Some, if◌then◌else◌};
+ghost use Rattle.std.specs.Option.{option_copied};
+ghost use Rattle.slp_headers.specs.Headers.{heading_in};
+ghost use Rattle.slp_wire.specs.Spelling.{plain_bytes};
+ghost use Rattle.directory_judge.specs.Judgements.{by_step};
+ghost use Rattle.directory_judge.specs.declared.reason.Decider.TheVariants as decider;
+ghost use Rattle.directory_answers.specs.Cuts as spec;
+ghost use Rattle.directory_answers.specs.Outcomes.{is_to_many, outcome, sent_of};
+ghost use Rattle.slp_answer.specs.Answers.{Tells};
+ghost use Rattle.slp_answer.specs.declared.answer.Sent.TheVariants as sent;
+
+use crate::answer::{Answer, Sent};
+use crate::code_replies::{Headed, is_unsent, put_finding};
+use access_rules::Rules;
+use directory_judge::{Decider, Finding};
+use service_url::ServiceType;
+use slp_text::NoMemory;
+use slp_wire::{Flags, Header, HeaderView, Message, Tag, WireFault, code, encode};
+use std::alloc::Global;
+
+/// What is told of a question: by which rules, and about which type, if it is about one.
+#[derive(Clone, Copy)]
+pub struct Telling<'r, 'h, 'k> {
+    pub rules: &'r Rules,
+    pub headed: Headed<'h>,
+    pub kind: Option<&'k ServiceType>,
+}
+
+/// A reply, and whether there is nothing in it.
+#[derive(Clone, Copy)]
+pub struct Reply<'a> {
+    pub message: &'a Message,
+    pub is_empty: bool,
+}
+
+/// The header of a reply.
+pub fn reply_header(
+    alloc: Global,
+    header: &HeaderView<'_>,
+    is_cut: bool,
+) -> Result<Header, NoMemory>
+    ensures { IfOk result (λ h. h ≡ spec.reply_header (heading_in header.now) is_cut) }
+{
+    let language = Tag::new(alloc, header.language)?;
+    Ok(Header {
+        flags: Flags {
+            overflow: is_cut,
+            fresh: false,
+            multicast: false,
+        },
+        xid: header.xid,
+        language,
+    })
+}
+
+// Writes a message that is short enough.
+fn put_message(message: &Message, bytes: &mut Vec<u8>) -> Result<(), NoMemory>
+    requires short { length (plain_bytes message.now) ≤ 65535 }
+    requires empty { bytes.old.items ≡ [] }
+    ensures { IfOk result (λ _. bytes.new.items ≡ plain_bytes message.now) }
+{
+    match encode(message, bytes) {
+        Ok(()) => Ok(()),
+        Err(WireFault::NoMemory) => Err(NoMemory),
+        Err(_) => unreachable!(),
+    }
+}
+
+// Writes a reply, where one is sent.
+fn put_reply(
+    header: &HeaderView<'_>,
+    reply: &Reply<'_>,
+    answer: &mut Answer,
+) -> Result<Sent, NoMemory>
+    requires short { length (plain_bytes reply.now.message.now) ≤ 65535 }
+    requires no_reply { answer.old.bytes.items ≡ [] }
+    ensures bytes { IfOk result (λ _. answer.new.bytes.items ≡ sent_of (heading_in header.now) 0 reply.now.is_empty (plain_bytes reply.now.message.now)) }
+    ensures sent { IfOk result (λ what. what ≡ (if is_to_many (heading_in header.now) && (not (0 == 0) || reply.now.is_empty) then sent.Silence else sent.Bytes 0)) }
+    ensures audit { answer.new.audit ≡ answer.old.audit }
+{
+    if is_unsent(header, code::OK, reply.is_empty) {
+        return Ok(Sent::Silence);
+    }
+    put_message(reply.message, &mut answer.bytes)?;
+    Ok(Sent::Bytes(code::OK))
+}
+
+/// Sends a reply, and tells that nobody had to decide.
+pub fn send(
+    telling: &Telling<'_, '_, '_>,
+    reply: &Reply<'_>,
+    answer: &mut Answer,
+) -> Result<Sent, NoMemory>
+    requires short { length (plain_bytes reply.now.message.now) ≤ 65535 }
+    requires no_reply { answer.old.bytes.items ≡ [] }
+    requires no_line { answer.old.audit.items ≡ [] }
+    ensures { let head = heading_in telling.now.headed.header.now in
+        IfOk result (λ what. Tells telling.now.rules.now telling.now.headed.call.now.asker (Some head) (outcome (sent_of head 0 reply.now.is_empty (plain_bytes reply.now.message.now)) 0 (by_step decider.Nobody (option_copied telling.now.kind))) what answer.new.bytes.items answer.new.audit.items) }
+{
+    let Headed { call, header } = telling.headed;
+    let sent = put_reply(header, reply, answer)?;
+    let finding = Finding::by(Decider::Nobody, telling.kind);
+    put_finding(
+        telling.rules,
+        call.asker,
+        header,
+        finding,
+        &mut answer.audit,
+    )?;
+    Ok(sent)
+}
