@@ -1,12 +1,12 @@
 -- What each command makes of a session.
-use Rattle.std.proofs.Common.{◌≡◌, ℕ, ◌+◌, Bool, true, false, List, [], ◌∷◌, ◌++◌, codes, Option, Some, None, Result, Ok, Err, refl, sym, ap, ap₂, subst, ◌∙◌, inl, inr}
+use Rattle.std.proofs.Common.{◌≡◌, ℕ, ◌+◌, ◌-◌, Bool, true, false, List, [], ◌∷◌, ◌++◌, codes, Option, Some, None, Result, Ok, Err, refl, sym, ap, ap₂, subst, ◌∙◌, inl, inr}
 use Rattle.std.specs.Prelude.{MatchResult}
 use Rattle.directory_answers.specs.Verdicts.{history_with}
 use Rattle.slp_answer.specs.declared.answer.Sent.{Sent}
 use Rattle.slp_script.specs.Commands.{Single}
-use Rattle.slp_script.specs.declared.command.Order.TheVariants.{At, From, Udp, Open, Tcp, Sweep}
+use Rattle.slp_script.specs.declared.command.Order.TheVariants.{At, From, Loop, Udp, Open, Tcp, Sweep}
 use Rattle.slp_script.specs.declared.command.Block.TheVariants as block
-use Rattle.directory_program.specs.Sessions.{Holds, IsAgent, Takes, TakesPiece, Acts, Meets, AddsTo, ConfiguresTo, ReloadsTo, config_text, rules_text, template_text}
+use Rattle.directory_program.specs.Sessions.{Holds, IsAgent, Takes, TakesPiece, Acts, Meets, AddsTo, ConfiguresTo, MovesTo, ReloadsTo, config_text, rules_text, template_text}
 use Rattle.directory_program.specs.Worlds.{World, Adds, Answers, Configures, Reloads, late_text, reloaded_world, swept_world, templated_world, templates_with, no_memory_text, answer_text, new_stream, longest_reply, late_world, configured_world}
 use Rattle.directory_program.specs.Turns.{Closes, Turns, TurnsTo, TurnsOutside, TurnsInside}
 use Rattle.directory_program.specs.declared.progress.OpenBlock.{OpenBlock}
@@ -42,6 +42,11 @@ Acts-at s t m e = λ w h. (record w { moment = m }, (refl, refl), rw e (record {
 
 pub Acts-from : (s t : Session) (a : ℕ) → t ≡ record s { agent = record s.agent { asker = a } } → Acts s (Single (From a)) [] t
 Acts-from s t a e = λ w h. (record w { asker = a }, (refl, refl), rw e (record { agent = record { legal = h.agent.legal; fold = h.agent.fold; listen = h.agent.listen; loop = h.agent.loop; moment = h.agent.moment; asker = refl }; stream = h.stream; limit = h.limit; late = h.late }))
+
+pub Acts-loop : (s : Session) (n : ℕ) (b : Agent) → ((w : World) → IsAgent w s.agent → MovesTo w n true b) → Acts s (Single (Loop n)) [] (record s { agent = b })
+Acts-loop s n b moves = λ w h.
+    let t = moves w h.agent in
+    (record w { loop = n - 1 }, (t.0, refl, refl), record { agent = t.1; stream = h.stream; limit = h.limit; late = h.late })
 
 pub Acts-open : (s t : Session) → t ≡ record s { stream = new_stream } → Acts s (Single Open) [] t
 Acts-open s t e = λ w h. (record w { stream = new_stream }, (refl, refl), rw e (record { agent = IsAgent-beside w new_stream w.late s.agent h.agent; stream = refl; limit = refl; late = h.late }))

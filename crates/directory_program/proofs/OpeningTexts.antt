@@ -1,5 +1,5 @@
 -- The rule file with which a run begins.
-use Rattle.std.proofs.Common.{◌≡◌, ◌≢◌, Bool, true, false, Result, Ok, Err, refl, ap, sym, ◌∙◌}
+use Rattle.std.proofs.Common.{◌≡◌, ◌≢◌, Result, Ok, Err, refl, ap, sym, ◌∙◌}
 use Rattle.std.specs.Prelude.{unwrap_or}
 use Rattle.std.specs.Result.{is_ok, result_ok}
 use Rattle.std.proofs.lemmas.Bool.{false≢true}

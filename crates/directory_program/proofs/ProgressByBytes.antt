@@ -1,5 +1,5 @@
 -- What bytes more do to where a run stands.
-use Rattle.std.proofs.Common.{◌≡◌, ◌≢◌, ℕ, ◌+◌, ◌<◌, ◌≤◌, false, List, [], ◌∷◌, ◌++◌, length, Option, Some, None, refl, sym, ap, ◌∙◌, arith, append_assoc, length-append}
+use Rattle.std.proofs.Common.{◌≡◌, ◌≢◌, ℕ, ◌+◌, ◌<◌, ◌≤◌, false, List, [], ◌∷◌, ◌++◌, length, Option, Some, None, refl, sym, ap, ◌∙◌, inl, arith, append_assoc, length-append}
 use Rattle.std.specs.Prelude.{◌==◌}
 use Rattle.std.proofs.lemmas.List.{append-nil}
 use Rattle.std.proofs.lemmas.Bool.{ne_eqb}
@@ -14,6 +14,7 @@ use Rattle.directory_program.specs.Turns.{TurnsTo}
 use Rattle.directory_program.specs.Reads.{StandsAfter}
 use Rattle.directory_program.specs.declared.progress.OpenBlock.{OpenBlock}
 use Rattle.directory_program.specs.declared.progress.Progress.{Progress}
+use Rattle.directory_program.specs.declared.session.Session.{Session}
 use Rattle.directory_program.proofs.ProgressByLine.{IsAtFault, Stands-turn, Stands-fault, Stands-open, Stands-closed}
 use Rattle.slp_text.specs.Ascii.{line_feed}
 
@@ -54,11 +55,11 @@ StandsAfter-part read out line p more s = (
 )
 
 -- the line that ends here is at fault
-pub StandsAfter-fault : (read out line : List ℕ) (p : Progress) (more : List ℕ) → StandsAfter read out line p → IsAtFault p.block line → RunsUpTo (read ++ line_feed ∷ more) (p.number + 1) out
+pub StandsAfter-fault : (read out line : List ℕ) (p : Progress) (more : List ℕ) → StandsAfter read out line p → IsAtFault p.block p.session line → RunsUpTo (read ++ line_feed ∷ more) (p.number + 1) out
 StandsAfter-fault read out line p more s f =
     let r = Stands-fault s.lines out p line (lines_of more) s.stands f in
     let e : lines_of (read ++ line_feed ∷ more) ≡ s.lines ++ line ∷ lines_of more = lines_of-read read out line p (line_feed ∷ more) s ∙ ap (λ v. s.lines ++ v) (lines_of-line_bytes line more s.unended) in
-    (r.0, rw e r.1, r.2)
+    (r.0, r.1, r.2, rw e r.3)
 
 before_first_line-first : (x : ℕ) (ls : List Line) → (tail : List ℕ) × (rest : List Line) × (before_first_line x ls ≡ (x ∷ tail) ∷ rest)
 before_first_line-first x [] = ([], [], refl)
@@ -80,9 +81,9 @@ too_long-order : (l : List ℕ) → longest_line < length l → order_of l ≡ N
 unfolding order_of
 too_long-order l h = rw (lt-ltb _ _ h) refl
 
-too_long-fault : (block : Option OpenBlock) (l : List ℕ) → longest_line < length l → IsAtFault block l
-too_long-fault None l h = (too_long-order l h, too_long-block l h)
-too_long-fault (Some b) l h = λ k. absurd (omega (arith, k.0))
+too_long-fault : (block : Option OpenBlock) (s : Session) (l : List ℕ) → longest_line < length l → IsAtFault block s l
+too_long-fault None s l h = inl (too_long-order l h, too_long-block l h)
+too_long-fault (Some b) s l h = λ k. absurd (omega (arith, k.0))
 
 lines_of-within : (a more : List ℕ) → HasNoLf a → 0 < length a → (tail : List ℕ) × (rest : List Line) × (lines_of (a ++ more) ≡ (a ++ tail) ∷ rest)
 lines_of-within [] more h some = absurd (omega arith)
@@ -94,9 +95,9 @@ StandsAfter-long read out line p xs more s free long =
     let first = lines_of-within (line ++ xs) more (All-append (λ x. x ≢ 10) line xs s.unended free) (omega arith) in
     let whole = line ++ xs ++ first.0 in
     let size : longest_line < length whole = rw length-append (omega arith) in
-    let r = Stands-fault s.lines out p whole first.1 s.stands (too_long-fault p.block whole size) in
+    let r = Stands-fault s.lines out p whole first.1 s.stands (too_long-fault p.block p.session whole size) in
     let e : lines_of ((read ++ xs) ++ more) ≡ s.lines ++ whole ∷ first.1 = rw append_assoc (lines_of-read read out line p (xs ++ more) s ∙ ap (λ v. s.lines ++ v) (ap lines_of (sym (append_assoc line xs more)) ∙ first.2)) in
-    (r.0, rw e r.1, r.2)
+    (r.0, r.1, r.2, rw e r.3)
 
 ends-empty : (read out : List ℕ) (p : Progress) (s : StandsAfter read out [] p) → lines_of read ≡ s.lines
 ends-empty read out p s = ap lines_of (sym (append-nil read)) ∙ (lines_of-read read out [] p [] s ∙ append-nil s.lines)
@@ -116,7 +117,7 @@ StandsAfter-closed read out p s e =
 pub StandsAfter-open : (read out : List ℕ) (p : Progress) (b : OpenBlock) → StandsAfter read out [] p → p.block ≡ Some b → RunsUpTo read b.begun out
 StandsAfter-open read out p b s e =
     let r = Stands-open s.lines out p b s.stands e in
-    (r.0, rw (ends-empty read out p s) r.1, r.2)
+    (r.0, r.1, r.2, rw (ends-empty read out p s) r.3)
 
 -- all is read, and the last line was taken without its LF
 pub StandsAfter-closed_last : (read out line : List ℕ) (p : Progress) (now : List ℕ) (q : Progress) → StandsAfter read out line p → 0 < length line → TurnsTo p line now q → q.block ≡ None → Run read (out ++ now)
@@ -127,9 +128,9 @@ StandsAfter-closed_last read out line p now q s some t e =
 pub StandsAfter-open_last : (read out line : List ℕ) (p : Progress) (now : List ℕ) (q : Progress) (b : OpenBlock) → StandsAfter read out line p → 0 < length line → TurnsTo p line now q → q.block ≡ Some b → RunsUpTo read b.begun (out ++ now)
 StandsAfter-open_last read out line p now q b s some t e =
     let r = Stands-open (s.lines ++ line ∷ []) (out ++ now) q b (Stands-turn s.lines out p line now q s.stands t) e in
-    (r.0, rw (ends-last read out line p s some) r.1, r.2)
+    (r.0, r.1, r.2, rw (ends-last read out line p s some) r.3)
 
-pub StandsAfter-fault_last : (read out line : List ℕ) (p : Progress) → StandsAfter read out line p → 0 < length line → IsAtFault p.block line → RunsUpTo read (p.number + 1) out
+pub StandsAfter-fault_last : (read out line : List ℕ) (p : Progress) → StandsAfter read out line p → 0 < length line → IsAtFault p.block p.session line → RunsUpTo read (p.number + 1) out
 StandsAfter-fault_last read out line p s some f =
     let r = Stands-fault s.lines out p line [] s.stands f in
-    (r.0, rw (ends-last read out line p s some) r.1, r.2)
+    (r.0, r.1, r.2, rw (ends-last read out line p s some) r.3)

@@ -12,16 +12,17 @@ use Rattle.site_config.specs.Configurations.{config_of}
 use Rattle.site_config.specs.declared.config.Config.{Config}
 use Rattle.site_config.specs.declared.fault.ConfigFault.{ConfigFault}
 use Rattle.site_config.specs.declared.fault.ConfigFault.TheVariants.{Range}
-use Rattle.slp_script.specs.Commands.{Command, Single, Text, Reads, order_of, block_of, word_of, block_end, longest_line, block_start, IsBodyLine, AtLine, AtBody, AtEnd, StopsAt}
+use Rattle.slp_script.specs.Commands.{Command, Single, Text, Reads, word_of, block_end, longest_line, block_start, IsBodyLine, AtLine, AtBody, AtEnd, StopsAt}
 use Rattle.directory_program.specs.Sessions.{Holds}
 use Rattle.slp_script.specs.Lines.{Line}
-use Rattle.directory_program.specs.Worlds.{World, Adds, Does, Prints, IsOutput, Configures, Reloads, opening_world, templates_with}
-use Rattle.directory_program.specs.Turns.{IsOpen, Stands, Turns, TurnsTo, TurnFailsBy, Begins, Ends, Lengthens, block_text, block_text_with}
+use Rattle.directory_program.specs.Worlds.{World, Adds, Does, Prints, IsFirstFault, IsOutput, Configures, Reloads, opening_world, templates_with}
+use Rattle.directory_program.specs.Turns.{IsFaultOutside, IsOpen, Stands, Turns, TurnsTo, TurnFailsBy, Begins, Ends, Lengthens, block_text, block_text_with}
 use Rattle.directory_program.specs.declared.fault.RunFault.{RunFault}
 use Rattle.directory_program.specs.declared.fault.RunFault.TheVariants as fault
 use Rattle.directory_program.specs.declared.fault.RunFault.TheVariants.{Read, Write, NoMemory}
 use Rattle.directory_program.specs.declared.progress.OpenBlock.{OpenBlock}
 use Rattle.directory_program.specs.declared.progress.Progress.{Progress}
+use Rattle.directory_program.specs.declared.session.Session.{Session}
 use Rattle.directory_program.proofs.BlockTexts.{block_text_with-kept, kept-config, kept-rules, kept-template}
 use Rattle.slp_script.specs.declared.command.Block.{Block}
 use Rattle.slp_script.specs.declared.command.Block.TheVariants as block
@@ -122,19 +123,19 @@ Stands-turn ls out p l now q s t =
     Stands-by p.block ls out p l now q s.before s.unended s.commands s.world s.all s.reads s.prints s.holds s.is_open s.number t.number t.turns
 
 -- a line at fault, by the block that is open
-abbrev pub IsAtFault : Option OpenBlock → Line → Type 0
-IsAtFault None l = (order_of l ≡ None) × (block_of l ≡ None)
-IsAtFault (Some b) l = ¬ ((length l ≤ longest_line) × IsUtf8 l)
+abbrev pub IsAtFault : Option OpenBlock → Session → Line → Type 0
+IsAtFault None s l = IsFaultOutside s l
+IsAtFault (Some b) s l = ¬ ((length l ≤ longest_line) × IsUtf8 l)
 
 -- what a line that was not carried out leaves of what was written, by the fault
-abbrev pub FailsAs : Option OpenBlock → ℕ → Line → Option (List ℕ) → Option (List ℕ) → RunFault → Type 0
-FailsAs b number l old new (fault.Line n) = (n ≡ number) × IsAtFault b l × Keeps old new
-FailsAs b number l old new NoMemory = Keeps old new
-FailsAs b number l old new Write = ⊤
-FailsAs b number l old new Read = ⊥
+abbrev pub FailsAs : Option OpenBlock → Session → ℕ → Line → Option (List ℕ) → Option (List ℕ) → RunFault → Type 0
+FailsAs b s number l old new (fault.Line n) = (n ≡ number) × IsAtFault b s l × Keeps old new
+FailsAs b s number l old new NoMemory = Keeps old new
+FailsAs b s number l old new Write = ⊤
+FailsAs b s number l old new Read = ⊥
 
-pub fails_as : (b : Option OpenBlock) (p : Progress) (l : Line) (old new : Option (List ℕ)) (e : RunFault) → TurnFailsBy b p l old new e → FailsAs b (p.number + 1) l old new e
-fails_as None p l old new (fault.Line n) f = (f.0, (f.1, f.2), f.3)
+pub fails_as : (b : Option OpenBlock) (p : Progress) (l : Line) (old new : Option (List ℕ)) (e : RunFault) → TurnFailsBy b p l old new e → FailsAs b p.session (p.number + 1) l old new e
+fails_as None p l old new (fault.Line n) f = f
 fails_as None p l old new NoMemory f = f
 fails_as None p l old new Write f = tt
 fails_as None p l old new Read f = f
@@ -143,10 +144,10 @@ fails_as (Some b) p l old new NoMemory f = f
 fails_as (Some b) p l old new Write f = tt
 fails_as (Some b) p l old new Read f = f
 
-Stops-by : (b : Option OpenBlock) (ls : List Line) (p : Progress) (l : List ℕ) (before unended : List Line) (cs : List Command) (more : List Line) → ls ≡ before ++ unended → Reads before cs → IsOpen unended (length before) b → p.number ≡ length ls → IsAtFault b l → StopsAt (ls ++ l ∷ more) cs (p.number + 1)
-Stops-by None ls p l before unended cs more all reads is_open number fault =
+IsFirstFault-by : (b : Option OpenBlock) (ls : List Line) (p : Progress) (l : List ℕ) (before unended : List Line) (cs : List Command) (world : World) (more : List Line) → ls ≡ before ++ unended → Reads before cs → Holds world p.session → IsOpen unended (length before) b → p.number ≡ length ls → IsAtFault b p.session l → IsFirstFault (ls ++ l ∷ more) cs world (p.number + 1)
+IsFirstFault-by None ls p l before unended cs world more all reads holds is_open number (inl fault) =
     let same : length before ≡ length ls = rw (all, is_open, append-nil before) refl in
-    record {
+    inl (record {
       before = before;
       stuck = l ∷ more;
       all = rw (all, is_open, append-nil before) refl;
@@ -154,11 +155,25 @@ Stops-by None ls p l before unended cs more all reads is_open number fault =
       line = 1;
       is_stuck = AtLine l more refl fault.0 fault.1 refl;
       number = omega arith;
-    }
-Stops-by (Some b) ls p l before unended cs more all reads is_open number fault =
+    })
+IsFirstFault-by None ls p l before unended cs world more all reads holds is_open number (inr fault) =
+    let same : length before ≡ length ls = rw (all, is_open, append-nil before) refl in
+    let lacks = fault.2 in
+    inr (record {
+      before = before;
+      line = l;
+      rest = more;
+      all = rw (all, is_open, append-nil before) refl;
+      reads = reads;
+      loop = lacks.0;
+      names = fault.1 ∙ ap Some lacks.1;
+      outside = lacks.2 world holds;
+      number = omega arith;
+    })
+IsFirstFault-by (Some b) ls p l before unended cs world more all reads holds is_open number fault =
     let body = is_open.0 in
     let size : length ls ≡ length before + (length body + 1) = rw (all, length-append, is_open.1) (omega arith) in
-    record {
+    inl (record {
       before = before;
       stuck = block_start b.block body ++ l ∷ more;
       all = rw (all, is_open.1, append_assoc) refl;
@@ -166,12 +181,12 @@ Stops-by (Some b) ls p l before unended cs more all reads is_open number fault =
       line = length body + 2;
       is_stuck = AtBody b.block body l more refl is_open.2 fault refl;
       number = omega arith;
-    }
+    })
 
 -- a line at fault ends the run, whatever lines follow
-pub Stands-fault : (ls : List Line) (out : List ℕ) (p : Progress) (l : List ℕ) (more : List Line) → Stands ls out p → IsAtFault p.block l → (cs : List Command) × StopsAt (ls ++ l ∷ more) cs (p.number + 1) × IsOutput cs out
+pub Stands-fault : (ls : List Line) (out : List ℕ) (p : Progress) (l : List ℕ) (more : List Line) → Stands ls out p → IsAtFault p.block p.session l → (cs : List Command) × (final : World) × Prints opening_world cs out final × IsFirstFault (ls ++ l ∷ more) cs final (p.number + 1)
 Stands-fault ls out p l more s f =
-    (s.commands, Stops-by p.block ls p l s.before s.unended s.commands more s.all s.reads s.is_open s.number f, (s.world, s.prints))
+    (s.commands, s.world, s.prints, IsFirstFault-by p.block ls p l s.before s.unended s.commands s.world more s.all s.reads s.holds s.is_open s.number f)
 
 ends_within : (o : Option OpenBlock) (b : OpenBlock) (ls before unended : List Line) (cs : List Command) → o ≡ Some b → ls ≡ before ++ unended → Reads before cs → IsOpen unended (length before) o → StopsAt ls cs b.begun
 ends_within None b ls before unended cs e all reads is_open = absurd cc
@@ -188,9 +203,9 @@ ends_within (Some c) b ls before unended cs e all reads is_open =
     }
 
 -- the lines end within a block
-pub Stands-open : (ls : List Line) (out : List ℕ) (p : Progress) (b : OpenBlock) → Stands ls out p → p.block ≡ Some b → (cs : List Command) × StopsAt ls cs b.begun × IsOutput cs out
+pub Stands-open : (ls : List Line) (out : List ℕ) (p : Progress) (b : OpenBlock) → Stands ls out p → p.block ≡ Some b → (cs : List Command) × (final : World) × Prints opening_world cs out final × IsFirstFault ls cs final b.begun
 Stands-open ls out p b s e =
-    (s.commands, ends_within p.block b ls s.before s.unended s.commands e s.all s.reads s.is_open, (s.world, s.prints))
+    (s.commands, s.world, s.prints, inl (ends_within p.block b ls s.before s.unended s.commands e s.all s.reads s.is_open))
 
 ends_outside : (o : Option OpenBlock) (ls before unended : List Line) (cs : List Command) → o ≡ None → ls ≡ before ++ unended → Reads before cs → IsOpen unended (length before) o → Reads ls cs
 ends_outside None ls before unended cs e all reads is_open = rw (all, is_open, append-nil before) reads

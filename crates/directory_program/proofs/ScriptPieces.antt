@@ -33,7 +33,7 @@ pub FeedGoesOn-memory : (w v : Option (List ℕ)) (read out line : List ℕ) (p 
 FeedGoesOn-memory w v read out line p done tail piece t e =
     (t.0, t.1, subst (λ (s : List ℕ). RunsPart s (out ++ t.0)) (split_rest read done tail piece e) (StandsAfter-part (read ++ done) (out ++ t.0) line p tail t.2))
 
-pub FeedGoesOn-turn_fails : (w v u : Option (List ℕ)) (read out line : List ℕ) (p : Progress) (done xs tail piece : List ℕ) (e : RunFault) → FeedGoesOn w v (read ++ done) out line p → piece ≡ done ++ (xs ++ line_feed ∷ tail) → HasNoLf xs → length (line ++ xs) ≤ longest_line → FailsAs p.block (p.number + 1) (line ++ xs) v u e → FeedFails w u (read ++ piece) out e
+pub FeedGoesOn-turn_fails : (w v u : Option (List ℕ)) (read out line : List ℕ) (p : Progress) (done xs tail piece : List ℕ) (e : RunFault) → FeedGoesOn w v (read ++ done) out line p → piece ≡ done ++ (xs ++ line_feed ∷ tail) → HasNoLf xs → length (line ++ xs) ≤ longest_line → FailsAs p.block p.session (p.number + 1) (line ++ xs) v u e → FeedFails w u (read ++ piece) out e
 FeedGoesOn-turn_fails w v u read out line p done xs tail piece Read t is free short f = f
 FeedGoesOn-turn_fails w v u read out line p done xs tail piece Write t is free short f = tt
 FeedGoesOn-turn_fails w v u read out line p done xs tail piece NoMemory t is free short f =

@@ -1,5 +1,5 @@
 -- Which history an agent and a session stand for, and what a datagram does to it.
-use Rattle.std.specs.Prelude.{◌≡◌, ℕ, List, ◌++◌, length, Option, MatchOption, Result, Ok, Err}
+use Rattle.std.specs.Prelude.{◌≡◌, ℕ, ◌-◌, Bool, true, false, IsTrue, List, ◌++◌, length, Option, MatchOption, Result, Ok, Err}
 use Rattle.directory_program.specs.OpeningRules.{opening_rules}
 use Rattle.access_rules.specs.Deciding.{SiteRules}
 use Rattle.access_rules.specs.declared.fault.RuleFault.{RuleFault}
@@ -15,7 +15,7 @@ use Rattle.slp_answer.specs.declared.answer.Sent.{Sent}
 use Rattle.slp_stream.specs.Cutting.{front_of, IsCut}
 use Rattle.slp_stream.specs.Framing.{Frames}
 use Rattle.slp_script.specs.Commands.{Command}
-use Rattle.directory_program.specs.Worlds.{World, opening_of, call_of, Answers, AnswersAll, Pieces, Does, closed_text, added_text, configured_world, template_fault_text, templated_world, end_text, end_refused, longest_on_stream, config_fault_text, configured_text, reloaded_world, rule_fault_text, ruled_text}
+use Rattle.directory_program.specs.Worlds.{World, opening_of, call_of, Answers, AnswersAll, Pieces, Does, closed_text, added_text, configured_world, is_loop, template_fault_text, templated_world, end_text, end_refused, longest_on_stream, config_fault_text, configured_text, reloaded_world, rule_fault_text, ruled_text}
 use Rattle.srv_template.specs.Conformity.{SiteTemplates}
 use Rattle.srv_template.specs.declared.fault.ParseFault.{ParseFault}
 use Rattle.site_config.specs.declared.config.Config.{Config}
@@ -67,6 +67,11 @@ Drains a f now b g = (w : World) → IsAgent w a
     × (now ≡ said ++ end_text (front_of f.limit rest))
     × (g ≡ record { limit = f.limit; waiting = rest; refused = end_refused (front_of f.limit rest) })
     × IsAgent u b
+
+-- what came of the number of a loop, and the agent after it: at that loop, or the one that it was where no such loop is listened on
+abbrev pub MovesTo : World → ℕ → Bool → Agent → Type 0
+MovesTo w n true a = IsTrue (is_loop w n) × IsAgent (record w { loop = n - 1 }) a
+MovesTo w n false a = (is_loop w n ≡ false) × IsAgent w a
 
 -- what is written of a configuration
 abbrev pub config_text : Result (Unit {0}) ConfigFault → List ℕ

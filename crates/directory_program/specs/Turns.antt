@@ -1,5 +1,5 @@
 -- Where a run stands between two lines.
-use Rattle.std.specs.Prelude.{◌≡◌, ◌⊎◌, ℕ, ◌+◌, ◌≤◌, nat_le, List, [], ◌++◌, length, Option, Some, None, Err, IsUtf8, string_bytes, if◌then◌else◌, ⊤}
+use Rattle.std.specs.Prelude.{◌≡◌, ◌⊎◌, ℕ, ◌+◌, ◌≤◌, nat_le, false, List, [], ◌++◌, length, Option, Some, None, Err, IsUtf8, string_bytes, if◌then◌else◌, ⊤}
 use Rattle.std.specs.Option.{option_map, option_map_or}
 use Rattle.site_config.specs.Configurations.{config_of, longest_text}
 use Rattle.site_config.specs.declared.fault.ConfigFault.TheVariants.{Range}
@@ -10,11 +10,12 @@ use Rattle.slp_script.specs.Commands.{Command, Single, Reads, order_of, block_of
 use Rattle.slp_script.specs.declared.command.Block.{Block}
 use Rattle.slp_script.specs.declared.command.Block.TheVariants as block
 use Rattle.slp_script.specs.declared.command.Order.{Order}
+use Rattle.slp_script.specs.declared.command.Order.TheVariants as order
 use Rattle.directory_program.specs.Sessions.{Holds, Acts}
 use Rattle.slp_script.specs.Lines.{Line, line_bytes}
 use Rattle.srv_template.specs.Reading.{template_in}
 use Rattle.srv_template.specs.declared.fault.ParseFault.TheVariants as template
-use Rattle.directory_program.specs.Worlds.{World, Prints, Configures, Adds, Reloads, opening_world, templates_with, text_of}
+use Rattle.directory_program.specs.Worlds.{World, Prints, Configures, Adds, Reloads, is_loop, opening_world, templates_with, text_of}
 use Rattle.directory_program.specs.declared.progress.OpenBlock.{OpenBlock}
 use Rattle.directory_program.specs.declared.progress.Progress.{Progress}
 use Rattle.directory_program.specs.declared.session.Session.{Session}
@@ -92,12 +93,27 @@ pub record TurnsTo (p : Progress) (l : Line) (now : List ℕ) (q : Progress) : T
   pub number : q.number ≡ p.number + 1
   pub turns : Turns p.block p l now q
 
+-- the order names a loop that is not listened on, whatever happened to the session before
+abbrev pub LacksLoop : Session → Order → Type 0
+LacksLoop s o = (loop : ℕ) × (o ≡ order.Loop loop) × ((w : World) → Holds w s → is_loop w loop ≡ false)
+
+-- what an order of a line of this number that was not carried out leaves of what was written
+abbrev pub OrderFails : Session → Order → ℕ → Option (List ℕ) → Option (List ℕ) → RunFault → Type 0
+OrderFails s o number old new (fault.Line n) = (n ≡ number) × LacksLoop s o × Keeps old new
+OrderFails s o number old new NoMemory = Keeps old new
+OrderFails s o number old new Write = ⊤
+OrderFails s o number old new Read = ⊥
+
+-- the line is at fault outside a block: it is not an order and begins no block, or it names a loop that is not listened on
+abbrev pub IsFaultOutside : Session → Line → Type 0
+IsFaultOutside s l = ((order_of l ≡ None) × (block_of l ≡ None)) ⊎ ((o : Order) × (order_of l ≡ Some o) × LacksLoop s o)
+
 -- what a line outside a block that was not carried out leaves of what was written
-abbrev pub OutsideFails : Line → ℕ → Option (List ℕ) → Option (List ℕ) → RunFault → Type 0
-OutsideFails l number old new (fault.Line n) = (n ≡ number) × (order_of l ≡ None) × (block_of l ≡ None) × Keeps old new
-OutsideFails l number old new NoMemory = Keeps old new
-OutsideFails l number old new Write = ⊤
-OutsideFails l number old new Read = ⊥
+abbrev pub OutsideFails : Session → Line → ℕ → Option (List ℕ) → Option (List ℕ) → RunFault → Type 0
+OutsideFails s l number old new (fault.Line n) = (n ≡ number) × IsFaultOutside s l × Keeps old new
+OutsideFails s l number old new NoMemory = Keeps old new
+OutsideFails s l number old new Write = ⊤
+OutsideFails s l number old new Read = ⊥
 
 -- the same inside a block
 abbrev pub InsideFails : Line → ℕ → Option (List ℕ) → Option (List ℕ) → RunFault → Type 0
@@ -108,7 +124,7 @@ InsideFails l number old new Read = ⊥
 
 -- the same, by the block that is open
 abbrev pub TurnFailsBy : Option OpenBlock → Progress → Line → Option (List ℕ) → Option (List ℕ) → RunFault → Type 0
-TurnFailsBy None p l old new e = OutsideFails l (p.number + 1) old new e
+TurnFailsBy None p l old new e = OutsideFails p.session l (p.number + 1) old new e
 TurnFailsBy (Some b) p l old new e = InsideFails l (p.number + 1) old new e
 
 abbrev pub TurnFails : Progress → Line → Option (List ℕ) → Option (List ℕ) → RunFault → Type 0

@@ -1,5 +1,5 @@
 -- What a script may make the program write.
-use Rattle.std.specs.Prelude.{◌≡◌, ◌⊎◌, ℕ, Bool, true, false, ◌==◌, Result, Ok, Err, List, [], ◌∷◌, ◌++◌, length, codes, slice_get, Option, Some, None, MatchOption, if◌then◌else◌}
+use Rattle.std.specs.Prelude.{◌≡◌, ◌⊎◌, ℕ, ◌+◌, ◌-◌, nat_lt, nat_le, Bool, true, false, ◌&&◌, IsTrue, ◌==◌, Result, Ok, Err, List, [], ◌∷◌, ◌++◌, length, codes, slice_get, Option, Some, None, MatchOption, if◌then◌else◌}
 use Rattle.std.specs.List.{flat_map}
 use Rattle.std.specs.Option.{option_map_or}
 use Rattle.hex.specs.Hex.{encode_lower}
@@ -19,7 +19,7 @@ use Rattle.slp_stream.specs.Cutting.{Front, Wanting, Whole, Bad, front_of, IsCut
 use Rattle.slp_stream.specs.Framing.{Frames}
 use Rattle.slp_stream.specs.declared.fault.FrameFault.{FrameFault}
 use Rattle.slp_stream.specs.declared.fault.FrameFault.TheVariants.{TooLong, TooShort, NoMemory}
-use Rattle.slp_script.specs.Commands.{Command, Single, Text, Reads, StopsAt, block_start, IsBody}
+use Rattle.slp_script.specs.Commands.{Command, Single, Text, Reads, StopsAt, block_start, IsBody, order_of}
 use Rattle.slp_script.specs.declared.command.Block.{Block}
 use Rattle.slp_script.specs.declared.command.Block.TheVariants as block
 use Rattle.slp_script.specs.declared.command.Order.TheVariants as order
@@ -76,6 +76,10 @@ opening_world = record { site = first_site; history = []; listen = opening_liste
 -- the address at which messages arrive
 abbrev pub own_at : List (ℕ × ℕ) → ℕ → ℕ
 own_at listen loop = option_map_or (λ p. p.0) (slice_get listen loop) 0
+
+-- the loop of this number, counted from 1, is one of those that are listened on
+abbrev pub is_loop : World → ℕ → Bool
+is_loop w n = nat_lt 0 n && nat_le n (length w.listen)
 
 -- the rules and the site with which it began
 abbrev pub opening_of : World → Opening
@@ -238,6 +242,7 @@ abbrev pub Does : World → Command → List ℕ → World → Type 0
 Does w (Single order.Blank) out v = (out ≡ []) × (v ≡ w)
 Does w (Single (order.At m)) out v = (out ≡ []) × (v ≡ record w { moment = m })
 Does w (Single (order.From a)) out v = (out ≡ []) × (v ≡ record w { asker = a })
+Does w (Single (order.Loop n)) out v = IsTrue (is_loop w n) × (out ≡ []) × (v ≡ record w { loop = n - 1 })
 Does w (Single (order.Udp bytes)) out v = Answers longest_reply (late_world w) bytes out v
 Does w (Single order.Open) out v = (out ≡ []) × (v ≡ record w { stream = new_stream })
 Does w (Single (order.Tcp bytes)) out v = MatchOption w.stream.refused (Pieces (late_world w) bytes out v) (λ _. (out ≡ closed_text) × (v ≡ late_world w))
@@ -259,9 +264,25 @@ IsOutput cs out = (final : World) × Prints opening_world cs out final
 abbrev pub Run : List ℕ → List ℕ → Type 0
 Run script out = (cs : List Command) × Reads (lines_of script) cs × IsOutput cs out
 
+-- after these commands, which left this world, the n-th line of all, counted from 1, names a loop that is not listened on
+pub record NamesNoLoop (ls : List Line) (cs : List Command) (w : World) (n : ℕ) : Type 0 where
+  pub before : List Line
+  pub line : Line
+  pub rest : List Line
+  pub all : ls ≡ before ++ line ∷ rest
+  pub reads : Reads before cs
+  pub loop : ℕ
+  pub names : order_of line ≡ Some (order.Loop loop)
+  pub outside : is_loop w loop ≡ false
+  pub number : n ≡ length before + 1
+
+-- after these commands, which left this world, the n-th line of all is the first at fault
+abbrev pub IsFirstFault : List Line → List Command → World → ℕ → Type 0
+IsFirstFault ls cs w n = StopsAt ls cs n ⊎ NamesNoLoop ls cs w n
+
 -- line n of the script is the first at fault, and this is an output of the commands before it
 abbrev pub RunsUpTo : List ℕ → ℕ → List ℕ → Type 0
-RunsUpTo script n out = (cs : List Command) × StopsAt (lines_of script) cs n × IsOutput cs out
+RunsUpTo script n out = (cs : List Command) × (final : World) × Prints opening_world cs out final × IsFirstFault (lines_of script) cs final n
 
 -- this is an output of the commands with which what was read begins
 abbrev pub RunsPart : List ℕ → List ℕ → Type 0

@@ -139,7 +139,7 @@ fn begin(alloc: Global, site: &Site) -> Result<Directory<ListRegistry>, NoMemory
 
 impl Agent {
     ghost use Rattle.directory_program.specs.Opening.{opening_agent};
-    ghost use Rattle.directory_program.specs.Sessions.{IsAgent, Takes, AddsTo, ConfiguresTo, ReloadsTo};
+    ghost use Rattle.directory_program.specs.Sessions.{IsAgent, Takes, AddsTo, ConfiguresTo, MovesTo, ReloadsTo};
     ghost use Rattle.directory_program.specs.Worlds.{World, own_at, reloaded_world, swept_world, templates_with};
 
     /// The setup with which a run begins: the scope `DEFAULT`, room for 16 entries, and rules that
@@ -213,6 +213,19 @@ impl Agent {
             Some((address, _)) => *address,
             None => Addr(0),
         }
+    }
+
+    /// Messages come to the loop of this number, counted from 1, from now on. It answers whether such a
+    /// loop is listened on; where none is, nothing changes.
+    pub fn move_to_loop(&mut self, number: u32) -> bool
+        ensures { (w : World) → IsAgent w self.old → MovesTo w number result self.new }
+    {
+        let number = number as usize;
+        if number == 0 || number > self.listen.as_slice().len() {
+            return false;
+        }
+        self.loop_index = number - 1;
+        true
     }
 
     /// Sweeps at the moment that was set, or at the clock where that is greater.

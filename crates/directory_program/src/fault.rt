@@ -13,7 +13,8 @@ pub enum RunFault {
     Read,
     #[error("the writer failed")]
     Write,
-    /// The first line, counted from 1, that is not a line of a script.
+    /// The first line, counted from 1, that is not a line of a script or names a loop that is not
+    /// listened on.
     #[error("line {0}")]
     Line(u64),
     #[error("out of memory")]

@@ -1,4 +1,4 @@
-ghost use Rattle.std.specs.Prelude.{◌≡◌, ◌≤◌, ◌<◌, ◌+◌, ◌^◌, ◌⊎◌, ℕ, List, OnOk, IfOk, MatchResult, string_bytes, length};
+ghost use Rattle.std.specs.Prelude.{◌≡◌, ◌≤◌, ◌<◌, ◌+◌, ◌^◌, ◌⊎◌, ℕ, List, [], OnOk, IfOk, MatchResult, string_bytes, length};
 ghost use Rattle.std.specs.Io.KnownBytes.{Appends, Keeps};
 ghost use Rattle.std.specs.Option.{option_map, option_copied};
 ghost use Rattle.slp_script.specs.Commands.{longest_line, Single};
@@ -6,7 +6,7 @@ ghost use Rattle.slp_script.specs.declared.command.Block.TheVariants as block;
 ghost use Rattle.slp_script.specs.declared.command.Order.TheVariants as order;
 ghost use Rattle.directory_program.specs.Worlds.{config_fault_text, rule_fault_text, template_fault_text};
 ghost use Rattle.directory_program.specs.Sessions.{Acts, config_text, rules_text, template_text};
-ghost use Rattle.directory_program.specs.Turns.{Closes, block_text_with, TurnsOutside, TurnsInside, OutsideFails, InsideFails, TurnsTo, TurnFails};
+ghost use Rattle.directory_program.specs.Turns.{Closes, block_text_with, LacksLoop, TurnsOutside, TurnsInside, OrderFails, OutsideFails, InsideFails, TurnsTo, TurnFails};
 ghost use Rattle.directory_program.specs.declared.fault.RunFault.TheVariants as fault;
 
 use crate::exchange::meet;
@@ -259,22 +259,37 @@ fn sweep<W: Write>(session: &mut Session, writer: &mut W) -> Result<(), RunFault
     }
 }
 
-// Carries out a command of one line.
+// Lets messages come to the loop that a line of this number names.
+fn move_to_loop(session: &mut Session, named: u32, number: u64) -> Result<(), RunFault>
+    ensures { MatchResult result
+        (λ _. Acts session.old (Single (order.Loop named)) [] session.new)
+        (λ e. (e ≡ fault.Line number) × LacksLoop session.old (order.Loop named)) }
+{
+    if session.agent.move_to_loop(named) {
+        Ok(())
+    } else {
+        Err(RunFault::Line(number))
+    }
+}
+
+// Carries out a command of one line, which has this number.
 fn carry_out<W: Write>(
     session: &mut Session,
     alloc: Global,
     order: Order,
+    number: u64,
     answer: &mut Answer,
     writer: &mut W,
 ) -> Result<(), RunFault>
     ensures { MatchResult result
         (λ _. (now : List ℕ) × Appends (W.contents writer.old) (W.contents writer.new) now × Acts session.old (Single order) now session.new)
-        (λ e. (e ≡ fault.Write) ⊎ ((e ≡ fault.NoMemory) × Keeps (W.contents writer.old) (W.contents writer.new))) }
+        (OrderFails session.old order number (W.contents writer.old) (W.contents writer.new)) }
 {
     match order {
         Order::Blank => {}
         Order::At(moment) => session.agent.moment = moment,
         Order::From(asker) => session.agent.asker = Addr(asker),
+        Order::Loop(named) => move_to_loop(session, named, number)?,
         Order::Udp(bytes) => take_datagram(session, alloc, bytes, answer, writer)?,
         Order::Open => session.stream = Framer::new(alloc, LONGEST_ON_STREAM),
         Order::Tcp(bytes) => take_stream(session, alloc, bytes, answer, writer)?,
@@ -295,11 +310,11 @@ fn turn_outside<W: Write>(
     requires short { length line.now ≤ longest_line }
     ensures { MatchResult result
         (λ left. (now : List ℕ) × Appends (W.contents writer.old) (W.contents writer.new) now × TurnsOutside session.old line.now number now session.new left)
-        (OutsideFails line.now number (W.contents writer.old) (W.contents writer.new)) }
+        (OutsideFails session.old line.now number (W.contents writer.old) (W.contents writer.new)) }
 {
     match read_line(alloc, line)? {
         Reading::Order(order) => {
-            carry_out(session, alloc, order, answer, writer)?;
+            carry_out(session, alloc, order, number, answer, writer)?;
             Ok(None)
         }
         Reading::Begins(block) => {

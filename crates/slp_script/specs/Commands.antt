@@ -10,7 +10,7 @@ use Rattle.slp_script.specs.Lines.{Line}
 use Rattle.slp_script.specs.declared.command.Block.{Block}
 use Rattle.slp_script.specs.declared.command.Block.TheVariants.{Config, Template, Rules}
 use Rattle.slp_script.specs.declared.command.Order.{Order}
-use Rattle.slp_script.specs.declared.command.Order.TheVariants.{Blank, At, From, Udp, Open, Tcp, Sweep}
+use Rattle.slp_script.specs.declared.command.Order.TheVariants.{Blank, At, From, Loop, Udp, Open, Tcp, Sweep}
 
 -- the bytes of a line, without its LF
 abbrev pub longest_line : ℕ
@@ -53,6 +53,9 @@ at_word = codes "at "
 abbrev pub from_word : List ℕ
 from_word = codes "from "
 
+abbrev pub loop_word : List ℕ
+loop_word = codes "loop "
+
 abbrev pub udp_word : List ℕ
 udp_word = codes "udp "
 
@@ -85,12 +88,14 @@ order_of l =
     (option_or
     (option_and_then (λ text. option_map From (address_of text)) (rest_after from_word l))
     (option_or
+    (option_and_then (λ digits. option_map Loop (number_of digits)) (rest_after loop_word l))
+    (option_or
     (option_and_then (λ text. within_datagram (decode_of text)) (rest_after udp_word l))
     (option_or
     (if_alone open_line Open l)
     (option_or
     (if_alone sweep_line Sweep l)
-    (option_and_then (λ text. as_piece (decode_of text)) (rest_after tcp_word l))))))
+    (option_and_then (λ text. as_piece (decode_of text)) (rest_after tcp_word l)))))))
 
 -- a line that may stand in a block
 pub record IsBodyLine (l : Line) : Type 0 where

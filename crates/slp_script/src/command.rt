@@ -9,6 +9,8 @@ pub enum Order {
     At(u32),
     /// Messages come from this address.
     From(u32),
+    /// Messages come to this loop, counted from 1.
+    Loop(u32),
     /// This datagram came.
     Udp(Row<u8>),
     /// A stream begins.

@@ -1,5 +1,5 @@
 ghost use Rattle.std.specs.Prelude.{◌≡◌, ◌≤◌, ◌<◌, None, length, IfOk};
-ghost use Rattle.slp_script.specs.Commands.{at_word, from_word, longest_line, rest_after};
+ghost use Rattle.slp_script.specs.Commands.{at_word, from_word, longest_line, loop_word, rest_after};
 ghost use Rattle.slp_script.specs.Readings.{IsReading};
 
 use crate::command::{Block, Order};
@@ -24,13 +24,14 @@ pub enum Reading {
     Fault,
 }
 
-// What a line is that begins with neither `at` nor `from`.
+// What a line is that begins with none of `at`, `from` and `loop`.
 #[tactic(auto, unfolding(crate::specs::Readings::IsReading, crate::specs::Commands::order_of))]
 fn read_message(alloc: Global, line: &[u8]) -> Result<Reading, NoMemory>
     requires some { 0 < length line.now }
     requires short { length line.now ≤ longest_line }
     requires no_moment { rest_after at_word line.now ≡ None }
     requires no_address { rest_after from_word line.now ≡ None }
+    requires no_loop { rest_after loop_word line.now ≡ None }
     ensures { IfOk result (IsReading line.now) }
 {
     if let Some(text) = line.strip_prefix(b"udp ") {
@@ -87,6 +88,12 @@ pub fn read_line(alloc: Global, line: &[u8]) -> Result<Reading, NoMemory>
     if let Some(text) = line.strip_prefix(b"from ") {
         return Ok(match Addr::parse(text) {
             Some(from) => Reading::Order(Order::From(from.0)),
+            None => Reading::Fault,
+        });
+    }
+    if let Some(digits) = line.strip_prefix(b"loop ") {
+        return Ok(match number(digits) {
+            Some(number) => Reading::Order(Order::Loop(number)),
             None => Reading::Fault,
         });
     }

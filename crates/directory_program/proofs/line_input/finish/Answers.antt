@@ -27,7 +27,7 @@ is_none : (l : List ℕ) (b : Bool) → b ≡ (length l == 0) → b ≡ true →
 is_none [] b e t = refl
 is_none (x ∷ l) b e t = absurd (omega (arith, eqb-true (length (x ∷ l)) 0 (sym e ∙ t)))
 
-last_fails : (w v : Option (List ℕ)) (read out line : List ℕ) (p : Progress) (e : RunFault) → StandsAfter read out line p → 0 < length line → FailsAs p.block (p.number + 1) line w v e → EndFails w v read out e
+last_fails : (w v : Option (List ℕ)) (read out line : List ℕ) (p : Progress) (e : RunFault) → StandsAfter read out line p → 0 < length line → FailsAs p.block p.session (p.number + 1) line w v e → EndFails w v read out e
 last_fails w v read out line p Read s some f = f
 last_fails w v read out line p Write s some f = tt
 last_fails w v read out line p NoMemory s some f =

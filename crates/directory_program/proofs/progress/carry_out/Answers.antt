@@ -2,7 +2,7 @@ use Rattle.std.proofs.Common.{◌≡◌, ℕ, List, [], refl, sym, ap, subst}
 use Rattle.slp_stream.specs.Framing.{Frames}
 use Rattle.slp_script.specs.Commands.{Single}
 use Rattle.slp_script.specs.declared.command.Order.{Order}
-use Rattle.slp_script.specs.declared.command.Order.TheVariants.{Blank, At, From, Udp, Open, Tcp, Sweep}
+use Rattle.slp_script.specs.declared.command.Order.TheVariants.{Blank, At, From, Loop, Udp, Open, Tcp, Sweep}
 use Rattle.directory_program.specs.Sessions.{Acts}
 use Rattle.directory_program.specs.declared.session.Session.{Session}
 use Rattle.directory_program.proofs.Transfers.{Appends-none}
@@ -19,6 +19,10 @@ returns-in-At g c =
 pub returns-in-From : goal.returns-in-From
 returns-in-From g c =
     ([], Appends-none _, Acts-order c.args.session.now c.args.order (From c.in-From.asker) [] _ c.in-From.is (Acts-from _ _ c.in-From.asker refl))
+
+pub returns-in_ok-move_to_loop-in-Loop : goal.returns-in_ok-move_to_loop-in-Loop
+returns-in_ok-move_to_loop-in-Loop g c =
+    ([], Appends-none _, Acts-order c.args.session.now c.args.order (Loop c.in-Loop.named) [] _ c.in-Loop.is c.in_ok-move_to_loop-in-Loop.ensures)
 
 pub returns-in_ok-take_datagram-in-Udp : goal.returns-in_ok-take_datagram-in-Udp
 returns-in_ok-take_datagram-in-Udp g c =
