@@ -1,20 +1,20 @@
 -- What is selected before it is joined is what is selected after.
-use Rattle.std.proofs.Common.{◌≡◌, ℕ, Bool, true, false, cond, List, [], ◌∷◌, ◌++◌, map, take, Some, None, refl, sym, ap, ap₂, ◌∙◌}
-use Rattle.std.specs.Prelude.{◌||◌, not, filter, flat_map}
+use Rattle.std.proofs.Common.{◌≡◌, ℕ, Bool, true, false, cond, List, [], ◌∷◌, ◌++◌, map, Some, None, refl, sym, ap, ap₂, ◌∙◌}
+use Rattle.std.specs.Prelude.{◌||◌, filter, flat_map}
 use Rattle.std.specs.FinMap as fin
-use Rattle.std.specs.List.{AllByRecursion, list_any}
+use Rattle.std.specs.List.{list_any}
+use Rattle.std.proofs.lemmas.List.Elements.{filter-append}
+use Rattle.std.proofs.lemmas.Map.Lookups.{exact_bytes}
 use Rattle.slp_text.proofs.KeySets.{bytes_same}
 use Rattle.slp_text.specs.Tags.{Part, selects}
 use Rattle.slp_text.specs.Words.{bytes_eq}
 use Rattle.attr_list.specs.Elements.{Element}
 use Rattle.attr_list.specs.Lists.{Attributes, attributes_of, distinct_values, held_of, values_named}
 use Rattle.attr_list.specs.Maps.{elements_in, joined_attributes, selected_attributes}
-use Rattle.attr_list.specs.Pieces.{IsElement}
 use Rattle.attr_list.specs.Stored.{element_stored, pairs_in, selected_elements, selected_of_all}
 use Rattle.attr_list.specs.declared.attrs.Attribute.{Attribute}
 use Rattle.attr_list.proofs.Combined.{elements-stored, same_attributes}
 use Rattle.attr_list.proofs.Gathered.{get-attributes_of}
-use Rattle.std.proofs.lemmas.Map.Lookups.{exact_bytes}
 
 not_both : (b : Bool) → b ≡ true → b ≡ false → ⊥
 not_both b t f = let k : true ≡ false = sym t ∙ f in cc
@@ -70,17 +70,9 @@ selected-first tags es =
 
 -- ---- of many
 
-selected-append : (tags : List Part) (es fs : List Element) → selected_elements tags (es ++ fs) ≡ selected_elements tags es ++ selected_elements tags fs
-selected-append tags [] fs = refl
-selected-append tags (e ∷ es) fs =
-    elim (selects tags e.tag) as (λ b. cond b (e ∷ selected_elements tags (es ++ fs)) (selected_elements tags (es ++ fs)) ≡ cond b (e ∷ selected_elements tags es) (selected_elements tags es) ++ selected_elements tags fs) [
-      | true ↦ ap (λ xs. e ∷ xs) (selected-append tags es fs)
-      | false ↦ selected-append tags es fs
-    ]
-
 selected-all : (tags : List Part) (all : List Attributes) → selected_elements tags (flat_map elements_in all) ≡ selected_of_all tags all
 selected-all tags [] = refl
-selected-all tags (a ∷ all) = selected-append tags (elements_in a) (flat_map elements_in all) ∙ ap (λ xs. selected_elements tags (elements_in a) ++ xs) (selected-all tags all)
+selected-all tags (a ∷ all) = filter-append (λ e. selects tags e.tag) (elements_in a) (flat_map elements_in all) ∙ ap (λ xs. selected_elements tags (elements_in a) ++ xs) (selected-all tags all)
 
 pub joined-selected : (tags : List Part) (all : List Attributes) → attributes_of (selected_of_all tags all) ≡ selected_attributes (joined_attributes all) tags
 unfolding joined_attributes
@@ -98,11 +90,3 @@ selected-stored tags (a ∷ list) =
 
 pub stored-selected : (tags : List Part) (m : Attributes) (list : List Attribute) → fin.entries m ≡ pairs_in list → map element_stored (filter (λ a. selects tags a.tag) list) ≡ selected_elements tags (elements_in m)
 stored-selected tags m list was = selected-stored tags list ∙ ap (selected_elements tags) (elements-stored m list was)
-
-pub each-selected : (tags : List Part) (es : List Element) → AllByRecursion IsElement es → AllByRecursion IsElement (selected_elements tags es)
-each-selected tags [] h = tt
-each-selected tags (e ∷ es) h =
-    elim (selects tags e.tag) as (λ b. AllByRecursion IsElement (cond b (e ∷ selected_elements tags es) (selected_elements tags es))) [
-      | true ↦ (h.0, each-selected tags es h.1)
-      | false ↦ each-selected tags es h.1
-    ]

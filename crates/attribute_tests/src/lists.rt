@@ -167,6 +167,39 @@ fn lists_are_updated_joined_and_selected(rt: HostRuntime) -> Result<(), Fail> {
     Ok(())
 }
 
+// Three lists, what a list of tags selects of them joined, and how it is written.
+static JOINED: [([&str; 3], &str, &str); 4] = [
+    (
+        [
+            "(a=1,2),(bx=x),c",
+            "(d=1),(a=2,3),b",
+            "(b=TRUE),(A=4,1),(BX=Y,X)",
+        ],
+        "a,b*",
+        "(a=1,2,3,4),(b=true),(bx=x,Y)",
+    ),
+    (["(a=3,2),c", "", "(a=1,2),c"], "", "(a=3,2,1),c"),
+    (["c", "(d=1)", "(c=2)"], "a,b*", ""),
+    (["", "", ""], "a", ""),
+];
+
+fn is_joined(alloc: Global, texts: &[&str; 3], tags: &str, want: &str) -> Result<bool, Fail> {
+    let first = Attrs::parse(alloc, texts[0])?;
+    let second = Attrs::parse(alloc, texts[1])?;
+    let third = Attrs::parse(alloc, texts[2])?;
+    let tags = TagList::parse(alloc, tags)?;
+    let joined = Attrs::joined(alloc, &[&first, &second, &third], &tags)?;
+    are_written(alloc, &joined, want)
+}
+
+#[test]
+fn what_is_selected_of_many_lists_is_joined(rt: HostRuntime) -> Result<(), Fail> {
+    for (texts, tags, want) in &JOINED {
+        assert_holds(&rt, is_joined(rt.alloc(), texts, tags, want)?, want);
+    }
+    Ok(())
+}
+
 // How many values a tag holds: none of a keyword.
 fn values_of(alloc: Global, attrs: &Attrs, tag: &str) -> Result<Option<usize>, Fail> {
     let tag = key(alloc, tag)?;
