@@ -4,9 +4,13 @@
 #[cfg(test)]
 mod filters;
 #[cfg(test)]
+mod fronts;
+#[cfg(test)]
 mod lines;
 #[cfg(test)]
 mod messages;
+#[cfg(test)]
+mod questions;
 #[cfg(test)]
 mod rules;
 #[cfg(test)]

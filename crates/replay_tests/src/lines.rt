@@ -6,13 +6,17 @@ use std::test::Fail;
 // A line, and what it says: its word, its number and its bytes.
 type Row = (&'static str, &'static str, u32, &'static [u8]);
 
-static LINES: [Row; 15] = [
+static LINES: [Row; 19] = [
     ("", "", 0, b""),
     ("at 0", "at", 0, b""),
     ("at 007", "at", 7, b""),
     ("at 4294967295", "at", 4_294_967_295, b""),
     ("from 010.0.0.1", "from", 0x0a00_0001, b""),
     ("from 255.255.255.255", "from", 0xffff_ffff, b""),
+    ("loop 0", "loop", 0, b""),
+    ("loop 2", "loop", 2, b""),
+    ("loop 02", "loop", 2, b""),
+    ("loop 4294967295", "loop", 4_294_967_295, b""),
     ("udp ", "udp", 0, b""),
     ("udp aB00", "udp", 0, b"\xab\x00"),
     ("open", "open", 0, b""),
@@ -24,7 +28,7 @@ static LINES: [Row; 15] = [
     ("rules", "rules", 0, b""),
 ];
 
-static OTHER_LINES: [&str; 44] = [
+static OTHER_LINES: [&str; 54] = [
     "templates",
     "template ",
     "at",
@@ -43,6 +47,16 @@ static OTHER_LINES: [&str; 44] = [
     "from .1.2.3",
     "from 1.2.3.4.",
     "from 1.2.3.-4",
+    "loop",
+    "loop ",
+    "loop  1",
+    "loop x",
+    "loop 1 ",
+    "loop +1",
+    "loop -1",
+    "loop 4294967296",
+    "loops 1",
+    "Loop 1",
     "udp",
     "udp 0",
     "udp 0g",
@@ -77,6 +91,7 @@ fn order_parts(order: &Order) -> (&'static str, u32, &[u8]) {
         Order::Blank => ("", 0, b""),
         Order::At(moment) => ("at", *moment, b""),
         Order::From(address) => ("from", *address, b""),
+        Order::Loop(number) => ("loop", *number, b""),
         Order::Udp(bytes) => ("udp", 0, bytes.as_slice()),
         Order::Open => ("open", 0, b""),
         Order::Tcp(bytes) => ("tcp", 0, bytes.as_slice()),

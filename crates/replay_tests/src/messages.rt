@@ -1,8 +1,4 @@
-use crate::scripts::{
-    ACCEPTED, FOUND, NOTHING_FOUND, REGISTRATION, REQUEST, Row, assert_holds, assert_outputs,
-    has_output, joined,
-};
-use std::alloc::Global;
+use crate::scripts::{ACCEPTED, FOUND, NOTHING_FOUND, REGISTRATION, REQUEST, Row, assert_outputs};
 use std::test::Fail;
 
 const WITHDRAWAL: &str =
@@ -146,22 +142,25 @@ static ROWS: [Row; 27] = [
         &["> -\n", NOTHING_FOUND],
     ),
     (
-        "a withdrawal that is sent to many is silent",
+        "a withdrawal that is sent to many is acknowledged",
         &[
             "udp 0204000038200000000000030002656e000744454641554c540000000017736572766963653a7072696e7465723a6c70723a2f2f61000000\nudp ",
             REQUEST,
             "\n",
         ],
-        &["> -\n", NOTHING_FOUND],
+        &[NOTHING_WITHDRAWN, NOTHING_FOUND],
     ),
     (
-        "what is sent to many is silent",
+        "what is sent to many and finds nothing is told, and gets no reply",
         &[
             "udp 0201000030200000000000010002656e0000000f736572766963653a7072696e746572000744454641554c5400000000\nudp ",
             REQUEST,
             "\n",
         ],
-        &["> -\n", NOTHING_FOUND],
+        &[
+            "> -\n# allow code=0 by=none action=see asker=10.0.0.1 type=service:printer scope=-\n",
+            NOTHING_FOUND,
+        ],
     ),
     (
         "another version",
@@ -251,26 +250,4 @@ static ROWS: [Row; 27] = [
 #[test]
 fn each_message_is_answered_and_told(rt: HostRuntime) -> Result<(), Fail> {
     assert_outputs(&rt, rt.alloc(), &ROWS)
-}
-
-const REFUSED: &str =
-    "> 0205000012000000000000020002656e0002\n# deny code=2 by=parse action=register asker=10.0.0.1 type=- scope=-\n";
-
-// Whether each front of the registration is refused, or silent where it has no readable header.
-fn fronts_are_refused(alloc: Global) -> Result<bool, Fail> {
-    for cut in 0..REGISTRATION.len() / 2 {
-        let begun = str::from_utf8(&REGISTRATION.as_bytes()[..2 * cut])?;
-        let script = joined(alloc, &["udp ", begun, "\n"])?;
-        let want = if cut < 16 { "> -\n" } else { REFUSED };
-        if !has_output(alloc, script.as_str(), want)? {
-            return Ok(false);
-        }
-    }
-    Ok(true)
-}
-
-#[test]
-fn a_message_that_is_cut_anywhere_is_refused(rt: HostRuntime) -> Result<(), Fail> {
-    assert_holds(&rt, fronts_are_refused(rt.alloc())?, "the registration");
-    Ok(())
 }

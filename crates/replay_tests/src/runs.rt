@@ -184,7 +184,7 @@ fn a_line_of_a_block_is_a_text(rt: HostRuntime) {
 }
 
 // Scripts, the status of the program and its output.
-static STATUSES: [(&str, u8, &str); 8] = [
+static STATUSES: [(&str, u8, &str); 18] = [
     ("at 5\n", 0, ""),
     ("at 5\nat x\n", 3, "! line 2\n"),
     ("\n\r\n", 3, "! line 2\n"),
@@ -193,6 +193,20 @@ static STATUSES: [(&str, u8, &str); 8] = [
     ("at 5\nconfig\nat x\n", 3, "! line 2\n"),
     ("sweep\nconfig\nsweep", 3, "# sweep\n! line 2\n"),
     ("sweep\ntemplate\nconfig\n", 3, "# sweep\n! line 2\n"),
+    ("loop 1\nloop 2\nloop 02\nsweep\n", 0, "# sweep\n"),
+    ("sweep\nloop 0\nsweep\n", 3, "# sweep\n! line 2\n"),
+    ("sweep\nloop 3\nsweep\n", 3, "# sweep\n! line 2\n"),
+    ("sweep\nloop 3", 3, "# sweep\n! line 2\n"),
+    ("sweep\nloop\n", 3, "# sweep\n! line 2\n"),
+    ("sweep\nloop \n", 3, "# sweep\n! line 2\n"),
+    ("sweep\nloop x\n", 3, "# sweep\n! line 2\n"),
+    ("sweep\nloop 1 \n", 3, "# sweep\n! line 2\n"),
+    ("sweep\nloop +1\n", 3, "# sweep\n! line 2\n"),
+    (
+        "loop 2\nconfig\nscopes = \"DEFAULT\"\nlisten = [\"127.0.0.1:427\"]\ncapacity = 16\n.\nloop 1\nloop 2\n",
+        3,
+        "# config\n! line 8\n",
+    ),
 ];
 
 fn has_status(alloc: Global, words: &[String], script: &str, want: u8, output: &str) -> bool {

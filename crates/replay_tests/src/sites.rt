@@ -35,9 +35,16 @@ const FOUND_FRONT: &str = "> 0202000031000000000000010002656e0000000100";
 const FOUND_END: &str =
     "0017736572766963653a7072696e7465723a6c70723a2f2f6100\n# allow code=0 by=none action=see asker=10.0.0.1 type=service:printer scope=-\n";
 
+// Requests that name the address of a loop among those that have answered: 127.0.0.1 or 127.0.0.2.
+const NAMES_FIRST: &str =
+    "0201000039000000000000010002656e00093132372e302e302e31000f736572766963653a7072696e746572000744454641554c5400000000";
+
+const NAMES_SECOND: &str =
+    "0201000039000000000000010002656e00093132372e302e302e32000f736572766963653a7072696e746572000744454641554c5400000000";
+
 const LISTEN: &str = "listen = [\"127.0.0.1:427\", \"127.0.0.2:427\"]\n";
 
-static ROWS: [Row; 12] = [
+static ROWS: [Row; 14] = [
     (
         "the clock does not go back",
         &[
@@ -118,8 +125,30 @@ static ROWS: [Row; 12] = [
     ),
     (
         "other lines leave time for a site",
-        &["open\nat 1\nfrom 1.2.3.4\n\nconfig\n.\nconfig\n.\n"],
+        &["open\nat 1\nfrom 1.2.3.4\nloop 2\n\nconfig\n.\nconfig\n.\n"],
         &["! config 2\n! config 2\n"],
+    ),
+    (
+        "messages come to the loop that is named",
+        &[
+            "loop 2\nudp ",
+            NAMES_SECOND,
+            "\nloop 01\nudp ",
+            NAMES_FIRST,
+            "\n",
+        ],
+        &["> -\n> -\n"],
+    ),
+    (
+        "messages come to the first loop of a site",
+        &[
+            "loop 2\nconfig\nscopes = \"DEFAULT\"\n",
+            LISTEN,
+            "capacity = 16\n.\nudp ",
+            NAMES_FIRST,
+            "\n",
+        ],
+        &["# config\n> -\n"],
     ),
     (
         "an entry dies at its deadline",

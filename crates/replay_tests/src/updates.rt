@@ -201,16 +201,16 @@ static ROWS: [Row; 13] = [
         ],
     ),
     (
-        "an update of a directory agent, and one that is sent to many, are silent",
+        "an update that is sent to many is one like any other, and a directory agent is registered like any other",
         &[
             "udp 020300004e400000000000020002656e00012c0017736572766963653a7072696e7465723a6c70723a2f2f61000013736572766963653a7072696e7465723a6c7072000744454641554c54000000\n",
             "udp 020300004e200000000000020002656e00012c0017736572766963653a7072696e7465723a6c70723a2f2f61000013736572766963653a7072696e7465723a6c7072000744454641554c54000000\n",
-            "udp 0203000056400000000000020002656e00012c0017736572766963653a7072696e7465723a6c70723a2f2f61000017736572766963653a6469726563746f72792d6167656e74000744454641554c54000428613d3100\n",
+            "udp 0203000057400000000000020002656e00012c0017736572766963653a7072696e7465723a6c70723a2f2f61000017736572766963653a6469726563746f72792d6167656e74000744454641554c54000528613d312900\n",
         ],
         &[
             "> 0205000012000000000000020002656e0000\n# allow code=0 by=rule:all-register action=register asker=10.0.0.1 type=service:printer:lpr scope=default\n",
-            "> -\n",
-            "> -\n",
+            "> 0205000012000000000000020002656e0000\n# allow code=0 by=rule:all-register action=register asker=10.0.0.1 type=service:printer:lpr scope=default\n",
+            "> 0205000012000000000000020002656e0000\n# allow code=0 by=rule:all-register action=register asker=10.0.0.1 type=service:directory-agent scope=default\n",
         ],
     ),
 ];
