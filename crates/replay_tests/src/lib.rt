@@ -10,6 +10,8 @@ mod lines;
 #[cfg(test)]
 mod messages;
 #[cfg(test)]
+mod questions;
+#[cfg(test)]
 mod rules;
 #[cfg(test)]
 mod runs;
