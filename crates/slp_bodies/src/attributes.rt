@@ -17,6 +17,8 @@ use slp_text::Text;
 use std::alloc::Global;
 
 /// Reads a request without a copy.
+// A call in the machine's code as well: inlined, the pieces of its answer are moved again and again.
+#[inline(never)]
 #[tactic(auto, unfolding(crate::specs::Bodies::attribute_request_at))]
 pub fn attribute_request_view_of(
     bytes: &[u8],

@@ -14,6 +14,8 @@ use slp_messages::{Registration, RegistrationView, Withdrawal, WithdrawalView};
 use std::alloc::Global;
 
 /// Reads a registration without a copy.
+// A call in the machine's code as well: inlined, the pieces of its answer are moved again and again.
+#[inline(never)]
 #[tactic(auto, unfolding(crate::specs::Bodies::registration_at))]
 pub fn registration_view_of(bytes: &[u8]) -> Result<(RegistrationView<'_>, &[u8]), WireFault>
     ensures { Gives (λ x. (registration_in x.0, x.1.now)) result (registration_at bytes.now) }

@@ -17,6 +17,8 @@ use slp_text::Text;
 use std::alloc::Global;
 
 /// Reads a request without a copy.
+// A call in the machine's code as well: inlined, the pieces of its answer are moved again and again.
+#[inline(never)]
 #[tactic(auto, unfolding(crate::specs::Bodies::type_request_at))]
 pub fn type_request_view_of(bytes: &[u8]) -> Result<(TypeRequestView<'_>, &[u8]), WireFault>
     ensures { Gives (λ x. (type_request_in x.0, x.1.now)) result (type_request_at bytes.now) }

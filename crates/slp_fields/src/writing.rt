@@ -33,6 +33,7 @@ fn put_text(bytes: &mut Vec<u8>, text: &str)
 }
 
 /// Appends a URL entry, for which there is room, of a lifetime in seconds and a URL.
+#[inline(always)]
 pub fn put_entry(bytes: &mut Vec<u8>, lifetime: u16, url: &str)
     requires room { vec_len bytes.old + length (entry_bytes 0 (record { lifetime = lifetime; url = url.now })) ≤ vec_capacity bytes.old }
     ensures items { bytes.new.items ≡ bytes.old.items ++ entry_bytes 0 (record { lifetime = lifetime; url = url.now }) }
