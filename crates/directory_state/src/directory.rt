@@ -17,11 +17,12 @@ ghost use Rattle.directory_state.specs.State.{State, opening_state, state_made};
 ghost use Rattle.directory_answers.specs.Verdicts.{IsLegal, IsVerdict};
 ghost use Rattle.directory_state.specs.Folds.{IsJudgedAs};
 
-use crate::arranging::{describe, name_types};
+use crate::arranging::{describe, lend, name_types};
 use crate::search::{FoundItems, Room, Search, Shortlist};
 use crate::viewer::Viewer;
 use access_rules::{Addr, Rules};
 use attr_list::Attrs;
+use attr_union::AttrUnion;
 use directory_answers::{AttrQuery, QueryFault, ServiceQuery, Target, TypeQuery};
 use directory_judge::{Change, Decision, Grounds, Judged, Placed, Site, change_view};
 use registry_core::{Entry, Registry};
@@ -295,6 +296,25 @@ impl<R: Registry> Directory<R> {
             Target::Kind(kind) => Ok(viewer.gather(alloc, registry, scopes, Some(kind))?),
             Target::Place(url) => Ok(viewer.gather_url(alloc, registry, scopes, url)?),
         }
+    }
+
+    /// What `attributes` answers, lent where it lies.
+    pub fn find_attributes(
+        &self,
+        alloc: Global,
+        moment: u32,
+        asker: Addr,
+        query: &AttrQuery,
+    ) -> Result<AttrUnion<'_>, QueryFault>
+        ensures scope { IsErrOf result QueryFault.Scope ↔ (list_any (supports self.now.site) query.now.scopes ≡ false) }
+        ensures language { (o : Opening) (h : History) → Fold o h self.now → IsLegal o h
+            → (IsErrOf result QueryFault.Language → IsElsewhere (IsAskedAbout (IsOpenNow o h moment asker query.now.scopes) query.now) query.now.language)
+            × IfOk result (λ _. ¬ IsElsewhere (IsAskedAbout (IsOpenNow o h moment asker query.now.scopes) query.now) query.now.language) }
+        ensures joined { (o : Opening) (h : History) → Fold o h self.now → IsLegal o h
+            → IfOk result (λ a. AreAttributesOf o h moment asker query.now a) }
+    {
+        let found = self.find_about(alloc, moment, asker, query)?;
+        lend(alloc, found, query)
     }
 
     /// What the tags of a question select of the attributes of the live entries that are open to the asker,

@@ -18,8 +18,6 @@ use slp_messages::{
 use std::alloc::Global;
 
 /// Reads a request without a copy.
-// A call in the machine's code as well: inlined, the pieces of its answer are moved again and again.
-#[inline(never)]
 #[tactic(auto, unfolding(crate::specs::Bodies::service_request_at))]
 pub fn service_request_view_of(bytes: &[u8]) -> Result<(ServiceRequestView<'_>, &[u8]), WireFault>
     ensures { Gives (λ x. (request_in x.0, x.1.now)) result (service_request_at bytes.now) }

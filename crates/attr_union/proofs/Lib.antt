@@ -1,0 +1,3 @@
+pub mod LentUnions
+pub mod LentValues
+pub mod SelectedPieces
