@@ -5,3 +5,4 @@ pub mod MappedTexts
 pub mod RefusalLines
 pub mod Sizes
 pub mod TextFronts
+pub mod TextHeads

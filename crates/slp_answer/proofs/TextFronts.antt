@@ -1,6 +1,6 @@
 -- How long lists of texts are, and how long the replies that have them.
-use Rattle.std.proofs.Common.{◌≡◌, ℕ, zero, suc, ◌+◌, ◌-◌, ◌<◌, ◌≤◌, Bool, true, false, cond, List, [], ◌∷◌, ◌++◌, length, take, Some, None, refl, sym, ap, ap₂, ◌∙◌, arith, inl, inr, add-one, append_assoc}
-use Rattle.std.specs.Prelude.{nat_lt, slice_get}
+use Rattle.std.proofs.Common.{◌≡◌, ℕ, zero, suc, ◌+◌, ◌-◌, ◌<◌, ◌≤◌, Bool, true, false, cond, List, [], ◌∷◌, ◌++◌, length, take, Some, None, refl, sym, ap, ap₂, subst, ◌∙◌, arith, inl, inr, add-one, append_assoc}
+use Rattle.std.specs.Prelude.{◌≢◌, nat_lt, slice_get}
 use Rattle.std.proofs.lemmas.Bool.{cases_lt, le-ltb}
 use Rattle.std.proofs.lemmas.List.{length-append, take_all}
 use borrow.Author.Tests.{lt-ltb}
@@ -12,7 +12,9 @@ use Rattle.slp_text.specs.Ascii.{comma}
 use Rattle.slp_text.specs.Scopes.{comma_list}
 use Rattle.slp_wire.specs.Spelling.{body_of, plain_bytes}
 use Rattle.directory_answers.specs.Cuts.{attributes_with, IsCut, reply_header, types_with}
-use Rattle.slp_answer.specs.TextLists.{list_with, written_next, IsListedFront}
+use Rattle.slp_answer.specs.TextLists.{list_with, listed_with, written_next, IsListedFront, IsListedReply}
+use Rattle.slp_answer.specs.declared.text_listing.Form.{Form}
+use Rattle.slp_answer.specs.declared.text_listing.Form.TheVariants as form
 
 -- ---- one text more
 
@@ -106,7 +108,7 @@ types_size h is_cut list =
     omega (arith, length-append h.language (body_of (message.TypeReply (reply_header h is_cut) (type_reply.Found list))), length-append list [])
 
 module _ (h : Heading) (room limit : ℕ) (texts : List (List ℕ)) (list : List ℕ) (is_cut : Bool) (front : IsListedFront room texts list is_cut) where
-  pub attributes-cut : room + 19 + length h.language ≡ limit → IsCut (length texts) (attributes_with h texts) limit (plain_bytes (message.AttributeReply (reply_header h is_cut) (attribute_reply.Found list)))
+  attributes-cut : room + 19 + length h.language ≡ limit → IsCut (length texts) (attributes_with h texts) limit (plain_bytes (message.AttributeReply (reply_header h is_cut) (attribute_reply.Found list)))
   attributes-cut whole = record {
     count = front.count;
     within = front.within;
@@ -115,7 +117,7 @@ module _ (h : Heading) (room limit : ℕ) (texts : List (List ℕ)) (list : List
     spelled = ap₂ (λ (c : Bool) (l : List ℕ). plain_bytes (message.AttributeReply (reply_header h c) (attribute_reply.Found l))) front.more front.listed;
   }
 
-  pub types-cut : room + 18 + length h.language ≡ limit → IsCut (length texts) (types_with h texts) limit (plain_bytes (message.TypeReply (reply_header h is_cut) (type_reply.Found list)))
+  types-cut : room + 18 + length h.language ≡ limit → IsCut (length texts) (types_with h texts) limit (plain_bytes (message.TypeReply (reply_header h is_cut) (type_reply.Found list)))
   types-cut whole = record {
     count = front.count;
     within = front.within;
@@ -123,3 +125,13 @@ module _ (h : Heading) (room limit : ℕ) (texts : List (List ℕ)) (list : List
     longest = λ other within fits. front.longest other within (omega (arith, whole, fits, types_size h (nat_lt other (length texts)) (list_with texts other)));
     spelled = ap₂ (λ (c : Bool) (l : List ℕ). plain_bytes (message.TypeReply (reply_header h c) (type_reply.Found l))) front.more front.listed;
   }
+
+-- a reply that lists what fits is the one that is cut to the limit
+pub listed-cut : (f : Form) (h : Heading) (limit : ℕ) (texts : List (List ℕ)) (bytes : List ℕ) → IsListedReply f h limit texts bytes → IsCut (length texts) (listed_with f h texts) limit bytes
+listed-cut form.Attributes h limit texts bytes r = subst (IsCut (length texts) (attributes_with h texts) limit) (sym r.spelled) (attributes-cut h r.room limit texts r.list r.is_cut r.front (omega (arith, r.whole)))
+listed-cut form.Types h limit texts bytes r = subst (IsCut (length texts) (types_with h texts) limit) (sym r.spelled) (types-cut h r.room limit texts r.list r.is_cut r.front (omega (arith, r.whole)))
+
+-- it is never empty
+pub listed-some : (f : Form) (h : Heading) (limit : ℕ) (texts : List (List ℕ)) (bytes : List ℕ) → IsListedReply f h limit texts bytes → bytes ≢ []
+listed-some form.Attributes h limit texts bytes r = λ e. let k = sym r.spelled ∙ e in cc
+listed-some form.Types h limit texts bytes r = λ e. let k = sym r.spelled ∙ e in cc

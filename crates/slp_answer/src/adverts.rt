@@ -16,7 +16,7 @@ ghost use Rattle.slp_answer.specs.Answers.{Tells};
 
 use crate::answer::{Answer, Sent};
 use crate::code_replies::{Headed, answer_advert_code};
-use crate::sending::{Reply, Telling, reply_header, send};
+use crate::sending::{Telling, reply_header, send};
 use access_rules::Addr;
 use directory_answers::AgentQuery;
 use directory_judge::{Decider, Finding, Site};
@@ -64,11 +64,7 @@ fn send_advert(
 {
     let Headed { call, header } = telling.headed;
     let message = advert_in(alloc, site, call.own, header)?;
-    let reply = Reply {
-        message: &message,
-        is_empty: false,
-    };
-    let sent = send(telling, &reply, answer);
+    let sent = send(telling, &message, answer);
     drop(message);
     sent
 }

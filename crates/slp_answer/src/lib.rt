@@ -12,6 +12,7 @@ mod replies;
 mod sending;
 mod sink;
 mod steps;
+mod text_listing;
 mod text_replies;
 mod texts;
 

@@ -17,15 +17,6 @@ const EMPTY_REPLY: usize = offset::TAG + 2 + 2;
 // The bytes of a URL entry, but for its URL: a reserved byte, a lifetime, a length and a count.
 const EMPTY_ENTRY: usize = 6;
 
-/// The bytes that there are in a reply within a limit beside so many and the language tag.
-pub fn room_beside(header: &HeaderView<'_>, limit: usize, fixed: usize) -> usize
-    requires limit { 1400 ≤ limit }
-    requires fixed { fixed ≤ 1000 }
-    ensures { result + fixed + length header.now.language.now ≡ limit }
-{
-    limit - fixed - header.language.len()
-}
-
 /// The room for URL entries in a reply within a limit, in bytes.
 pub fn room_in(header: &HeaderView<'_>, limit: usize) -> Room
     requires { 1400 ≤ limit }
@@ -33,7 +24,7 @@ pub fn room_in(header: &HeaderView<'_>, limit: usize) -> Room
     ensures each { result.each ≡ 6 }
 {
     Room {
-        bytes: room_beside(header, limit, EMPTY_REPLY),
+        bytes: limit - EMPTY_REPLY - header.language.len(),
         each: EMPTY_ENTRY,
     }
 }

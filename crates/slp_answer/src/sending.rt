@@ -1,5 +1,5 @@
 //! Replies of code 0 that are encoded from messages.
-ghost use Rattle.std.specs.Prelude.{◌≡◌, ◌≤◌, ◌==◌, ◌&&◌, ◌||◌, [], not, length, IfOk, Some, if◌then◌else◌};
+ghost use Rattle.std.specs.Prelude.{◌≡◌, ◌≢◌, ◌≤◌, ◌==◌, ◌&&◌, ◌||◌, [], false, not, length, IfOk, Some, if◌then◌else◌};
 ghost use Rattle.std.specs.Option.{option_copied};
 ghost use Rattle.slp_headers.specs.Headers.{heading_in};
 ghost use Rattle.slp_wire.specs.Spelling.{plain_bytes};
@@ -25,13 +25,6 @@ pub struct Telling<'r, 'h, 'k> {
     pub rules: &'r Rules,
     pub headed: Headed<'h>,
     pub kind: Option<&'k ServiceType>,
-}
-
-/// A reply, and whether there is nothing in it.
-#[derive(Clone, Copy)]
-pub struct Reply<'a> {
-    pub message: &'a Message,
-    pub is_empty: bool,
 }
 
 /// The header of a reply.
@@ -67,39 +60,31 @@ fn put_message(message: &Message, bytes: &mut Vec<u8>) -> Result<(), NoMemory>
     }
 }
 
-// Writes a reply, where one is sent.
-fn put_reply(
-    header: &HeaderView<'_>,
-    reply: &Reply<'_>,
-    answer: &mut Answer,
-) -> Result<Sent, NoMemory>
-    requires short { length (plain_bytes reply.now.message.now) ≤ 65535 }
-    requires no_reply { answer.old.bytes.items ≡ [] }
-    ensures bytes { IfOk result (λ _. answer.new.bytes.items ≡ sent_of (heading_in header.now) 0 reply.now.is_empty (plain_bytes reply.now.message.now)) }
-    ensures sent { IfOk result (λ what. what ≡ (if is_to_many (heading_in header.now) && (not (0 == 0) || reply.now.is_empty) then sent.Silence else sent.Bytes 0)) }
-    ensures audit { answer.new.audit ≡ answer.old.audit }
+// What is sent of a reply that is written: nothing, where it has nothing in it and was asked of many.
+fn keep_sent(header: &HeaderView<'_>, is_empty: bool, bytes: &mut Vec<u8>) -> Sent
+    ensures bytes { bytes.new.items ≡ sent_of (heading_in header.now) 0 is_empty bytes.old.items }
+    ensures sent { result ≡ (if is_to_many (heading_in header.now) && (not (0 == 0) || is_empty) then sent.Silence else sent.Bytes 0) }
 {
-    if is_unsent(header, code::OK, reply.is_empty) {
-        return Ok(Sent::Silence);
+    if is_unsent(header, code::OK, is_empty) {
+        bytes.clear();
+        return Sent::Silence;
     }
-    put_message(reply.message, &mut answer.bytes)?;
-    Ok(Sent::Bytes(code::OK))
+    Sent::Bytes(code::OK)
 }
 
-/// Sends a reply, and tells that nobody had to decide.
-pub fn send(
+/// Sends the reply that is written, which may have nothing in it, and tells that nobody had to decide.
+pub fn send_written(
     telling: &Telling<'_, '_, '_>,
-    reply: &Reply<'_>,
+    is_empty: bool,
     answer: &mut Answer,
 ) -> Result<Sent, NoMemory>
-    requires short { length (plain_bytes reply.now.message.now) ≤ 65535 }
-    requires no_reply { answer.old.bytes.items ≡ [] }
+    requires written { answer.old.bytes.items ≢ [] }
     requires no_line { answer.old.audit.items ≡ [] }
     ensures { let head = heading_in telling.now.headed.header.now in
-        IfOk result (λ what. Tells telling.now.rules.now telling.now.headed.call.now.asker (Some head) (outcome (sent_of head 0 reply.now.is_empty (plain_bytes reply.now.message.now)) 0 (by_step decider.Nobody (option_copied telling.now.kind))) what answer.new.bytes.items answer.new.audit.items) }
+        IfOk result (λ what. Tells telling.now.rules.now telling.now.headed.call.now.asker (Some head) (outcome (sent_of head 0 is_empty answer.old.bytes.items) 0 (by_step decider.Nobody (option_copied telling.now.kind))) what answer.new.bytes.items answer.new.audit.items) }
 {
     let Headed { call, header } = telling.headed;
-    let sent = put_reply(header, reply, answer)?;
+    let sent = keep_sent(header, is_empty, &mut answer.bytes);
     let finding = Finding::by(Decider::Nobody, telling.kind);
     put_finding(
         telling.rules,
@@ -109,4 +94,20 @@ pub fn send(
         &mut answer.audit,
     )?;
     Ok(sent)
+}
+
+/// Sends a message, and tells that nobody had to decide.
+pub fn send(
+    telling: &Telling<'_, '_, '_>,
+    message: &Message,
+    answer: &mut Answer,
+) -> Result<Sent, NoMemory>
+    requires short { length (plain_bytes message.now) ≤ 65535 }
+    requires no_reply { answer.old.bytes.items ≡ [] }
+    requires no_line { answer.old.audit.items ≡ [] }
+    ensures { let head = heading_in telling.now.headed.header.now in
+        IfOk result (λ what. Tells telling.now.rules.now telling.now.headed.call.now.asker (Some head) (outcome (sent_of head 0 false (plain_bytes message.now)) 0 (by_step decider.Nobody (option_copied telling.now.kind))) what answer.new.bytes.items answer.new.audit.items) }
+{
+    put_message(message, &mut answer.bytes)?;
+    send_written(telling, false, answer)
 }

@@ -1,5 +1,5 @@
 //! Replies with a list of texts: to attribute requests and to type requests (RFC 2608, sections 10.2 and 10.4).
-ghost use Rattle.std.specs.Prelude.{◌≡◌, ◌≤◌, [], map, IfOk, Some, None};
+ghost use Rattle.std.specs.Prelude.{◌≡◌, ◌≤◌, [], IfOk, Some, None};
 ghost use Rattle.std.specs.Option.{option_copied};
 ghost use Rattle.slp_headers.specs.Headers.{heading_in};
 ghost use Rattle.directory_judge.specs.History.{History};
@@ -7,40 +7,31 @@ ghost use Rattle.directory_judge.specs.Judgements.{by_step};
 ghost use Rattle.directory_judge.specs.declared.reason.Decider.TheVariants as decider;
 ghost use Rattle.directory_answers.specs.Answers.{sense_of_question, IsAnswerTo, IsCutReply};
 ghost use Rattle.directory_answers.specs.Calls.{Opening, call_in};
-ghost use Rattle.directory_answers.specs.Cuts.{attributes_with, types_with};
-ghost use Rattle.directory_answers.specs.Items.{attribute_texts};
 ghost use Rattle.directory_answers.specs.Outcomes.{Outcome};
 ghost use Rattle.directory_answers.specs.Verdicts.{IsLegal};
 ghost use Rattle.directory_answers.specs.declared.question.Question.TheVariants as question;
 ghost use Rattle.directory_state.specs.Folds.{Fold};
-ghost use Rattle.directory_state.specs.Searches.{entries_lent};
 ghost use Rattle.slp_answer.specs.Answers.{Tells};
+ghost use Rattle.slp_answer.specs.TextLists.{listed_with};
 
 use crate::answer::{Answer, Sent};
 use crate::code_replies::{Headed, answer_code};
-use crate::listing::room_beside;
-use crate::sending::{Reply, Telling, reply_header, send};
-use crate::texts::{AttributeTexts, ListedTexts, TypeTexts, list};
-use attr_list::Attrs;
+use crate::sending::{Telling, send_written};
+use crate::text_listing::{Form, Listing, put_listed};
+use crate::texts::{AttributeTexts, Texts, TypeTexts};
 use directory_answers::{AttrQuery, QueryFault, TypeQuery};
 use directory_judge::{Decider, Finding};
 use directory_state::Directory;
-use registry_core::{Entry, Registry};
-use slp_text::{NoMemory, Text};
-use slp_wire::{AttributeReply, Message, TypeReply, offset};
+use registry_core::Registry;
+use slp_text::NoMemory;
 use std::alloc::Global;
 
-// The bytes of a reply with no attribute, but for the language tag: a header, a code, a length and a count.
-const EMPTY_ATTRIBUTES: usize = offset::TAG + 2 + 2 + 1;
-
-// The bytes of a reply with no type, but for the language tag: a header, a code and a length.
-const EMPTY_TYPES: usize = offset::TAG + 2 + 2;
-
-// Sends attributes, from the front as many as fit.
-fn send_attributes(
+// Sends texts, from the front as many as fit, and tells that nobody had to decide.
+fn send_texts<T: Texts>(
     alloc: Global,
     telling: &Telling<'_, '_, '_>,
-    attributes: &Attrs,
+    form: Form,
+    texts: &T,
     answer: &mut Answer,
 ) -> Result<Sent, NoMemory>
     requires datagram { 1400 ≤ telling.now.headed.call.now.limit }
@@ -48,50 +39,17 @@ fn send_attributes(
     requires no_reply { answer.old.bytes.items ≡ [] }
     requires no_line { answer.old.audit.items ≡ [] }
     ensures { let head = heading_in telling.now.headed.header.now in
-        IfOk result (λ what. (r : Outcome) × IsCutReply (attributes_with head) telling.now.headed.call.now.limit head (by_step decider.Nobody (option_copied telling.now.kind)) (attribute_texts attributes.now) r
+        IfOk result (λ what. (r : Outcome) × IsCutReply (listed_with form head) telling.now.headed.call.now.limit head (by_step decider.Nobody (option_copied telling.now.kind)) (T.texts texts.now) r
         × Tells telling.now.rules.now telling.now.headed.call.now.asker (Some head) r what answer.new.bytes.items answer.new.audit.items) }
 {
     let Headed { call, header } = telling.headed;
-    let room = room_beside(header, call.limit, EMPTY_ATTRIBUTES);
-    let ListedTexts { list: text, is_cut } = list(alloc, &AttributeTexts { attributes }, room)?;
-    let header = reply_header(alloc, header, is_cut)?;
-    let message = Message::AttributeReply(header, AttributeReply::Found(Text::wrap(text)));
-    let reply = Reply {
-        message: &message,
-        is_empty: attributes.len() == 0,
+    let listing = Listing {
+        header,
+        limit: call.limit,
+        form,
     };
-    let sent = send(telling, &reply, answer);
-    drop(message);
-    sent
-}
-
-// Sends the types of entries, from the front as many as fit.
-fn send_types(
-    alloc: Global,
-    telling: &Telling<'_, '_, '_>,
-    entries: &[&Entry],
-    answer: &mut Answer,
-) -> Result<Sent, NoMemory>
-    requires datagram { 1400 ≤ telling.now.headed.call.now.limit }
-    requires stream { telling.now.headed.call.now.limit ≤ 65535 }
-    requires no_reply { answer.old.bytes.items ≡ [] }
-    requires no_line { answer.old.audit.items ≡ [] }
-    ensures { let head = heading_in telling.now.headed.header.now in
-        IfOk result (λ what. (r : Outcome) × IsCutReply (types_with head) telling.now.headed.call.now.limit head (by_step decider.Nobody (option_copied telling.now.kind)) (map (λ e. e.kind) (entries_lent entries.now)) r
-        × Tells telling.now.rules.now telling.now.headed.call.now.asker (Some head) r what answer.new.bytes.items answer.new.audit.items) }
-{
-    let Headed { call, header } = telling.headed;
-    let room = room_beside(header, call.limit, EMPTY_TYPES);
-    let ListedTexts { list: text, is_cut } = list(alloc, &TypeTexts { entries }, room)?;
-    let header = reply_header(alloc, header, is_cut)?;
-    let message = Message::TypeReply(header, TypeReply::Found(Text::wrap(text)));
-    let reply = Reply {
-        message: &message,
-        is_empty: entries.is_empty(),
-    };
-    let sent = send(telling, &reply, answer);
-    drop(message);
-    sent
+    put_listed(alloc, &listing, texts, &mut answer.bytes)?;
+    send_written(telling, texts.number() == 0, answer)
 }
 
 /// Answers a question about attributes: with as many of those that are found as fit, or with the code that
@@ -113,14 +71,18 @@ pub fn answer_attributes<R: Registry>(
 {
     let Headed { call, header } = *headed;
     let (rules, asker, kind) = (directory.rules(), call.asker, query.target.kind());
-    match directory.attributes(alloc, call.moment, asker, query) {
+    match directory.find_attributes(alloc, call.moment, asker, query) {
         Ok(attributes) => {
             let telling = Telling {
                 rules,
                 headed: *headed,
                 kind,
             };
-            send_attributes(alloc, &telling, &attributes, answer)
+            let texts = AttributeTexts {
+                alloc,
+                attributes: &attributes,
+            };
+            send_texts(alloc, &telling, Form::Attributes, &texts, answer)
         }
         Err(QueryFault::Scope) => {
             let finding = Finding::by(Decider::Scope, kind);
@@ -159,7 +121,8 @@ pub fn answer_types<R: Registry>(
                 headed: *headed,
                 kind: None,
             };
-            send_types(alloc, &telling, &entries, answer)
+            let texts = TypeTexts { entries: &entries };
+            send_texts(alloc, &telling, Form::Types, &texts, answer)
         }
         Err(QueryFault::Scope) => {
             let finding = Finding::by(Decider::Scope, None);

@@ -1,9 +1,9 @@
 //! Texts that a reply lists with commas, from the front as many as there is room for (RFC 2608, sections 10.2
 //! and 10.4).
-ghost use Rattle.std.specs.Prelude.{◌≡◌, ◌<◌, ◌≤◌, ◌++◌, true, false, IfOk, IfSome, length, slice_get, string_bytes};
-ghost use Rattle.slp_answer.specs.TextLists.{written_next, IsListedFront};
+ghost use Rattle.std.specs.Prelude.{◌≡◌, ◌<◌, ◌≤◌, ◌+◌, ◌++◌, ℕ, true, false, IfOk, IfSome, length, slice_get, string_bytes};
+ghost use Rattle.slp_answer.specs.TextLists.{written_next, IsAppendedFront};
 
-use attr_list::Attrs;
+use attr_union::AttrUnion;
 use registry_core::Entry;
 use slp_text::NoMemory;
 use std::alloc::Global;
@@ -26,11 +26,12 @@ pub trait Texts {
 
 /// Attributes, each as it is written, in key order.
 #[derive(Clone, Copy)]
-pub struct AttributeTexts<'a> {
-    pub attributes: &'a Attrs,
+pub struct AttributeTexts<'u, 'a> {
+    pub alloc: Global,
+    pub attributes: &'u AttrUnion<'a>,
 }
 
-impl Texts for AttributeTexts<'_> {
+impl Texts for AttributeTexts<'_, '_> {
     ghost use Rattle.directory_answers.specs.Items.{attribute_texts};
 
     ghost texts = { λ a. attribute_texts a.attributes.now };
@@ -40,10 +41,7 @@ impl Texts for AttributeTexts<'_> {
     }
 
     fn print(&self, place: usize, out: &mut String) -> Result<(), NoMemory> {
-        match self.attributes.print_one(place, out) {
-            Ok(()) => Ok(()),
-            Err(_) => Err(NoMemory),
-        }
+        self.attributes.print_one(self.alloc, place, out)
     }
 }
 
@@ -70,64 +68,47 @@ impl Texts for TypeTexts<'_> {
     }
 }
 
-/// What is listed, and whether there is more.
-#[derive(Drop)]
-pub struct ListedTexts {
-    pub list: String,
-    pub is_cut: bool,
-}
-
-// A list that is begun, and room for one text more.
-#[derive(Drop)]
-struct Listing {
-    list: String,
-    next: String,
-}
-
-// Appends the text at a place, after a comma where it is not the first, if there is room. Whether there is; if not, the
-// list stays as it was.
-fn add<T: Texts>(
-    texts: &T,
-    place: usize,
-    room: usize,
-    listing: &mut Listing,
-) -> Result<bool, NoMemory>
-    requires place { place < length (T.texts texts.now) }
-    requires fits { length (string_bytes listing.old.list) ≤ room }
-    ensures fits { IfOk result (λ fits. fits ≡ true → length (string_bytes listing.new.list) ≤ room) }
-    ensures listed { IfOk result (λ fits. fits ≡ true → IfSome (slice_get (T.texts texts.now) place) (λ t. string_bytes listing.new.list ≡ string_bytes listing.old.list ++ written_next place t)) }
-    ensures stays { IfOk result (λ fits. fits ≡ false → string_bytes listing.new.list ≡ string_bytes listing.old.list) }
-    ensures over { IfOk result (λ fits. fits ≡ false → IfSome (slice_get (T.texts texts.now) place) (λ t. room < length (string_bytes listing.old.list ++ written_next place t))) }
+// Appends the text at a place, after a comma where it is not the first.
+fn append_next<T: Texts>(texts: &T, place: usize, out: &mut String) -> Result<(), NoMemory>
+    requires { place < length (T.texts texts.now) }
+    ensures { IfOk result (λ _. IfSome (slice_get (T.texts texts.now) place) (λ t. string_bytes out.new ≡ string_bytes out.old ++ written_next place t)) }
 {
-    listing.next.clear();
     if place > 0 {
-        listing.next.push(',')?;
+        out.push(',')?;
     }
-    texts.print(place, &mut listing.next)?;
-    if listing.next.len() > room - listing.list.len() {
+    texts.print(place, out)
+}
+
+// Appends the text at a place, after a comma where it is not the first, if the whole then has room. Whether it has; if
+// not, nothing is appended.
+fn add<T: Texts>(texts: &T, place: usize, room: usize, out: &mut String) -> Result<bool, NoMemory>
+    requires place { place < length (T.texts texts.now) }
+    requires fits { length (string_bytes out.old) ≤ room }
+    ensures fits { IfOk result (λ fits. fits ≡ true → length (string_bytes out.new) ≤ room) }
+    ensures listed { IfOk result (λ fits. fits ≡ true → IfSome (slice_get (T.texts texts.now) place) (λ t. string_bytes out.new ≡ string_bytes out.old ++ written_next place t)) }
+    ensures stays { IfOk result (λ fits. fits ≡ false → string_bytes out.new ≡ string_bytes out.old) }
+    ensures over { IfOk result (λ fits. fits ≡ false → IfSome (slice_get (T.texts texts.now) place) (λ t. room < length (string_bytes out.old ++ written_next place t))) }
+{
+    let before = out.len();
+    append_next(texts, place, out)?;
+    if out.len() > room {
+        out.truncate(before);
         return Ok(false);
     }
-    listing.list.push_str(listing.next.as_str())?;
     Ok(true)
 }
 
-/// As many of the texts from the front as a list of so many bytes has room for.
-pub fn list<T: Texts>(alloc: Global, texts: &T, room: usize) -> Result<ListedTexts, NoMemory>
-    ensures { IfOk result (λ l. IsListedFront room (T.texts texts.now) (string_bytes l.list) l.is_cut) }
+/// Appends as many of the texts from the front, with a comma between each two, as fit into so many bytes with what is
+/// there. Whether some are left out.
+pub fn list<T: Texts>(texts: &T, room: usize, out: &mut String) -> Result<bool, NoMemory>
+    requires { length (string_bytes out.old) ≤ room }
+    ensures fits { IfOk result (λ _. length (string_bytes out.new) ≤ room) }
+    ensures front { IfOk result (λ is_cut. (left : ℕ) → length (string_bytes out.old) + left ≡ room → IsAppendedFront left (T.texts texts.now) (string_bytes out.old) (string_bytes out.new) is_cut) }
 {
-    let mut listing = Listing {
-        list: String::new(alloc),
-        next: String::new(alloc),
-    };
     for place in 0..texts.number() {
-        if !add(texts, place, room, &mut listing)? {
-            let Listing { list, .. } = listing;
-            return Ok(ListedTexts { list, is_cut: true });
+        if !add(texts, place, room, out)? {
+            return Ok(true);
         }
     }
-    let Listing { list, .. } = listing;
-    Ok(ListedTexts {
-        list,
-        is_cut: false,
-    })
+    Ok(false)
 }

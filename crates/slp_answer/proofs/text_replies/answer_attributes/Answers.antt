@@ -19,14 +19,14 @@ returns-in-Ok g c = λ o h fold legal.
     let head = heading_in c.args.headed.now.header.now in
     let a = c.in-Ok.attributes in
     let supported = ap (λ (p : Site). list_any (supports p) q.scopes) (sym fold.placed) ∙ found-supported a _ _ c.in-Ok.ensures.scope in
-    IfOk-weaker c.send_attributes.result _ _
+    IfOk-weaker c.send_texts.result _ _
     (λ what k. (
       k.0,
       described-answer o h call head q a k.0 supported (c.in-Ok.ensures.language o h fold legal).1 (c.in-Ok.ensures.joined o h fold legal)
           (subst (λ (kind : Option (List ℕ)). IsCutReply (attributes_with head) call.limit head (by_step decider.Nobody kind) (attribute_texts a) k.0) c.kind-kind.ensures k.1),
       k.2,
     ))
-    (rw c.rules-rules.ensures at c.send_attributes.ensures)
+    (rw c.rules-rules.ensures at c.send_texts.ensures)
 
 pub returns-in-Err-Language : goal.returns-in-Err-Language
 returns-in-Err-Language g c = λ o h fold legal.

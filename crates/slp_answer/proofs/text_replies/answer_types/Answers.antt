@@ -16,11 +16,11 @@ returns-in-Ok g c = λ o h fold legal.
     let call = call_in c.args.headed.now.call.now in
     let head = heading_in c.args.headed.now.header.now in
     let supported = ap (λ (p : Site). list_any (supports p) q.scopes) (sym fold.placed) ∙ found-supported c.in-Ok.entries _ _ c.in-Ok.ensures.scope in
-    IfOk-weaker c.send_types.result _ _
+    IfOk-weaker c.send_texts.result _ _
     (λ what k. (
       k.0,
       named-answer o h call head q (map (λ e. e.kind) (entries_lent c.deref.result.now)) k.0 supported
           (subst (λ es. AreTypesOf o h call.moment call.asker q (map (λ e. e.kind) (entries_lent es))) (sym c.deref.ensures.value) (c.in-Ok.ensures.types o h fold legal)) k.1,
       k.2,
     ))
-    (rw c.rules-rules.ensures at c.send_types.ensures)
+    (rw c.rules-rules.ensures at c.send_texts.ensures)

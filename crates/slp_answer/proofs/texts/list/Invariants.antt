@@ -1,4 +1,4 @@
-use Rattle.std.proofs.Common.{◌≡◌, ◌≤◌, length}
+use Rattle.std.proofs.Common.{◌≡◌, ◌++◌, ◌≤◌, length}
 use Rattle.std.specs.Prelude.{string_bytes}
 use Rattle.slp_answer.specs.TextLists.{list_with}
 use Rattle.slp_answer.proofs.texts.list.Given as goal
@@ -6,6 +6,6 @@ use Rattle.slp_answer.proofs.texts.list.Given as goal
 -- those so far, which fit
 abbrev pub invariant-loop-place : goal.invariant-loop-place
 invariant-loop-place g l = record {
-  listed : string_bytes l.listing.list ≡ list_with (g.T.Texts.texts l.texts) l.place;
-  fits : length (string_bytes l.listing.list) ≤ l.room;
+  listed : string_bytes l.out ≡ string_bytes l.initial.out ++ list_with (g.T.Texts.texts l.texts) l.place;
+  fits : length (string_bytes l.out) ≤ l.room;
 }

@@ -7,4 +7,4 @@ use Rattle.slp_answer.proofs.texts.AttributeTextsTexts.number.Goals as goal
 pub returns : goal.returns
 returns c =
     let a = c.args.self.now.attributes.now in
-    c.len.ensures.value ∙ fin.len-entries a ∙ sym (length-map (fin.entries a) (λ p. attribute_text p.0 p.1))
+    c.len.ensures ∙ fin.len-entries a ∙ sym (length-map (fin.entries a) (λ p. attribute_text p.0 p.1))
