@@ -81,3 +81,7 @@ module _ {A : Type 0} (es : List declared.Element) (named : BTreeMap (List ℕ) 
         sorted = sorted;
         each = each-stored list (subst (AllByRecursion (λ p. IsAttribute p.0 p.1)) entries (attributes_of-kinds (map element_in es) (kinds es is)));
       }
+
+-- no elements are no attributes
+pub none-joined : attributes_stored [] ≡ attributes_of []
+none-joined = fin.same_map ordered exact_bytes _ _ (λ q. fin.get-from_sorted bytes_cmp [] q tt ∙ sym (get-attributes_of [] q))

@@ -1,5 +1,6 @@
 use crate::assertion::assert_holds;
 use attr_list::{AttrFault, Attrs, Held};
+use attr_union::AttrUnion;
 use slp_text::{TagList, key};
 use std::alloc::Global;
 use std::test::Fail;
@@ -168,7 +169,7 @@ fn lists_are_updated_joined_and_selected(rt: HostRuntime) -> Result<(), Fail> {
 }
 
 // Three lists, what a list of tags selects of them joined, and how it is written.
-static JOINED: [([&str; 3], &str, &str); 4] = [
+static JOINED: [([&str; 3], &str, &str); 5] = [
     (
         [
             "(a=1,2),(bx=x),c",
@@ -181,15 +182,39 @@ static JOINED: [([&str; 3], &str, &str); 4] = [
     (["(a=3,2),c", "", "(a=1,2),c"], "", "(a=3,2,1),c"),
     (["c", "(d=1)", "(c=2)"], "a,b*", ""),
     (["", "", ""], "a", ""),
+    (
+        [
+            "(o=\\FF\\00\\01),(a=1)",
+            "(O=\\ff\\00\\01,\\FF\\02),(a=TRUE,One)",
+            "(a=one,1),k",
+        ],
+        "",
+        "(a=1,true,One),k,(o=\\FF\\00\\01,\\FF\\02)",
+    ),
 ];
+
+// The same, joined where it lies and written one by one.
+fn lent_text(alloc: Global, all: &[&Attrs], tags: &TagList) -> Result<String, Fail> {
+    let union = AttrUnion::joined(alloc, all, tags)?;
+    let mut out = String::new(alloc);
+    for place in 0..union.len() {
+        if place > 0 {
+            out.push(',')?;
+        }
+        union.print_one(alloc, place, &mut out)?;
+    }
+    Ok(out)
+}
 
 fn is_joined(alloc: Global, texts: &[&str; 3], tags: &str, want: &str) -> Result<bool, Fail> {
     let first = Attrs::parse(alloc, texts[0])?;
     let second = Attrs::parse(alloc, texts[1])?;
     let third = Attrs::parse(alloc, texts[2])?;
     let tags = TagList::parse(alloc, tags)?;
-    let joined = Attrs::joined(alloc, &[&first, &second, &third], &tags)?;
-    are_written(alloc, &joined, want)
+    let lists = [&first, &second, &third];
+    let joined = Attrs::joined(alloc, &lists, &tags)?;
+    let lent = lent_text(alloc, &lists, &tags)?;
+    Ok(lent.as_str() == want && are_written(alloc, &joined, want)?)
 }
 
 #[test]
