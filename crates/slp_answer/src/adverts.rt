@@ -69,7 +69,9 @@ fn send_advert(
     sent
 }
 
+// A call in the machine's code as well: inlined, this and its like cost a question about services a hundred instructions.
 /// Answers who asks for directory agents, with the advert of the site or with the code that stands for it.
+#[inline(never)]
 pub fn answer_agents<R: Registry>(
     alloc: Global,
     directory: &Directory<R>,

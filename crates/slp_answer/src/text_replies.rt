@@ -52,8 +52,10 @@ fn send_texts<T: Texts>(
     send_written(telling, texts.number() == 0, answer)
 }
 
+// A call in the machine's code as well: inlined, this and its like cost a question about services a hundred instructions.
 /// Answers a question about attributes: with as many of those that are found as fit, or with the code that
 /// stands instead.
+#[inline(never)]
 pub fn answer_attributes<R: Registry>(
     alloc: Global,
     directory: &Directory<R>,
@@ -96,7 +98,9 @@ pub fn answer_attributes<R: Registry>(
     }
 }
 
+// A call in the machine's code as well: inlined, this and its like cost a question about services a hundred instructions.
 /// Answers a question about types, in the same way.
+#[inline(never)]
 pub fn answer_types<R: Registry>(
     alloc: Global,
     directory: &Directory<R>,
