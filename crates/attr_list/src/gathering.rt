@@ -68,7 +68,7 @@ fn settle(alloc: Global, named: BTreeMap<Key, Vec<Value>>) -> Result<Vec<Attribu
 }
 
 /// The attributes that elements give: each tag holds all its values, in their order, each once. It takes
-/// time for the number of elements and values and its logarithm; of none, no memory.
+/// time for the number of elements and values and its logarithm.
 pub fn join(alloc: Global, elements: Vec<Element>) -> Result<Attrs, NoMemory>
     requires { AllByRecursion (λ e. IsElement (element_in e)) elements.items }
     ensures { IfOk result (λ a. a ≡ attributes_of (map element_in elements.items)) }

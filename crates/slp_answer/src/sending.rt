@@ -1,4 +1,4 @@
-//! Replies of code 0 that are encoded from messages.
+//! Replies of code 0, that are written already or encoded from messages, and what is told of them.
 ghost use Rattle.std.specs.Prelude.{◌≡◌, ◌≢◌, ◌≤◌, ◌==◌, ◌&&◌, ◌||◌, [], false, not, length, IfOk, Some, if◌then◌else◌};
 ghost use Rattle.std.specs.Option.{option_copied};
 ghost use Rattle.slp_headers.specs.Headers.{heading_in};
