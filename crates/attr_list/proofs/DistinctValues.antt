@@ -21,14 +21,14 @@ abbrev pub identity_cmp : Identity → Identity → Ordering
 identity_cmp = (identity_ord.ghosts).cmp
 
 -- the same, texts by what they are
-abbrev is_equal : Value → Value → Bool
+abbrev pub is_equal : Value → Value → Bool
 is_equal (value.Bool a) (value.Bool b) = (a && b) || not (a || b)
 is_equal (value.Int a) (value.Int b) = int_eq a b
 is_equal (value.Opaque a) (value.Opaque b) = bytes_eq a b
 is_equal (value.Text a) (value.Text b) = bytes_eq a b
 is_equal _ _ = false
 
-same-common : (v w : Value) → is_same v w ≡ is_equal (common_value v) (common_value w)
+pub same-common : (v w : Value) → is_same v w ≡ is_equal (common_value v) (common_value w)
 same-common (value.Bool a) (value.Bool b) = refl
 same-common (value.Int a) (value.Int b) = refl
 same-common (value.Opaque a) (value.Opaque b) = refl
@@ -49,7 +49,7 @@ order_ties _ _ = refl
 identity_ties : (i j : Identity) (v w : Value) → IsIdentity i v → IsIdentity j w → is_eq (identity_cmp i j) ≡ is_same v w
 identity_ties i j v w p q = order_ties i j ∙ ap₂ is_equal p q ∙ sym (same-common v w)
 
-either : (a b : Bool) → cond b true a ≡ (a || (b || false))
+pub either : (a b : Bool) → cond b true a ≡ (a || (b || false))
 either true true = refl
 either true false = refl
 either false true = refl

@@ -27,7 +27,7 @@ use Rattle.attr_list.proofs.Gathered.{AreKinds, attributes_of-kinds, get-attribu
 use Rattle.attr_list.proofs.SortedByKey.{ordered}
 
 -- what values that were gathered are held as
-abbrev settled : List Value → Held
+abbrev pub settled : List Value → Held
 settled vs = held_of (distinct_values vs)
 
 both : (a b : Bool) → T a → T b → T (a && b)
@@ -39,12 +39,12 @@ module _ {A : Type 0} where
   below x [] h = tt
   below x (e ∷ es) h = both (is_lt (bytes_cmp x e.0)) _ (subst (λ o. T (is_lt o)) (sym h.0) tt) (below x es h.1)
 
-  sorted_entries : (es : List (List ℕ × Vec Value A)) → IsStrictlySortedBy bytes_cmp (keys_of es) → T (fin.is_sorted bytes_cmp (map (λ p. (p.0, settled (vec_items p.1))) es))
+  pub sorted_entries : (es : List (List ℕ × Vec Value A)) → IsStrictlySortedBy bytes_cmp (keys_of es) → T (fin.is_sorted bytes_cmp (map (λ p. (p.0, settled (vec_items p.1))) es))
   unfolding IsStrictlySortedBy
   sorted_entries [] h = tt
   sorted_entries (e ∷ es) h = both (below_all bytes_cmp e.0 (map (λ p. (p.0, settled (vec_items p.1))) es)) _ (below e.0 es h.0) (sorted_entries es h.1)
 
-  find_entries : (q : List ℕ) (es : List (List ℕ × Vec Value A)) → fin.find bytes_cmp q (map (λ p. (p.0, settled (vec_items p.1))) es) ≡ option_map settled (option_map vec_items (lookup (is_at (bytes_cmp q)) es))
+  pub find_entries : (q : List ℕ) (es : List (List ℕ × Vec Value A)) → fin.find bytes_cmp q (map (λ p. (p.0, settled (vec_items p.1))) es) ≡ option_map settled (option_map vec_items (lookup (is_at (bytes_cmp q)) es))
   find_entries q [] = refl
   find_entries q (e ∷ es) =
       elim (is_eq (bytes_cmp q e.0)) as (λ b. cond b (Some (settled (vec_items e.1))) (fin.find bytes_cmp q (map (λ p. (p.0, settled (vec_items p.1))) es)) ≡ option_map settled (option_map vec_items (cond b (Some e.1) (lookup (is_at (bytes_cmp q)) es)))) [
@@ -52,7 +52,7 @@ module _ {A : Type 0} where
         | false ↦ find_entries q es
       ]
 
-given_values : (named : Bool) (vs : List Value) → option_map settled (cond named (Some vs) None) ≡ cond named (Some (settled vs)) None
+pub given_values : (named : Bool) (vs : List Value) → option_map settled (cond named (Some vs) None) ≡ cond named (Some (settled vs)) None
 given_values true vs = refl
 given_values false vs = refl
 

@@ -1,16 +1,11 @@
 -- Gathered values, settled in key order, are attributes.
-use Rattle.std.proofs.Common.{◌≡◌, ℕ, Bool, true, false, cond, T, List, [], ◌∷◌, map, length, Some, None, refl, sym, ap, subst, ◌∙◌}
-use Rattle.std.specs.Prelude.{◌&&◌, ◌<◌, vec_items, slice_get, IfSome}
+use Rattle.std.proofs.Common.{◌≡◌, ℕ, T, List, [], ◌∷◌, map, length, Some, sym, ap, subst, ◌∙◌}
+use Rattle.std.specs.Prelude.{slice_get, IfSome}
 use Rattle.std.specs.BTreeMap as tree
-use Rattle.std.specs.BTreeMap.{BTreeMap, is_at}
+use Rattle.std.specs.BTreeMap.{BTreeMap}
 use Rattle.std.specs.FinMap as fin
-use Rattle.std.specs.FinMap.Entries.{below_all}
 use Rattle.std.specs.List.{AllByRecursion, list_any}
-use Rattle.std.specs.List.Sorted.{IsStrictlySortedBy}
-use Rattle.std.specs.Map.{keys_of, lookup}
 use Rattle.std.specs.Option.{option_map}
-use Rattle.std.specs.Ordering.{is_eq, is_lt}
-use Rattle.std.specs.declared.cmp.Ordering.TheVariants.{Less}
 use Rattle.std.specs.declared.vec.Vec.{Vec}
 use Rattle.std.proofs.lemmas.List.{length-map}
 use Rattle.std.proofs.lemmas.Map.Lookups.{exact_bytes}
@@ -19,44 +14,15 @@ use Rattle.slp_text.specs.Words.{bytes_cmp, bytes_eq}
 use Rattle.attr_values.specs.declared.value.Value.{Value}
 use Rattle.attr_list.specs.Elements.{Element}
 use Rattle.attr_list.specs.Gathering.{gathered_values, pairs_of, values_at}
-use Rattle.attr_list.specs.Lists.{Attributes, attributes_of, distinct_values, held_of, values_named}
+use Rattle.attr_list.specs.Lists.{Attributes, attributes_of, values_named}
 use Rattle.attr_list.specs.Pieces.{IsElement}
 use Rattle.attr_list.specs.Texts.{IsAttribute}
 use Rattle.attr_list.specs.declared.held.Held.{Held}
 use Rattle.attr_list.proofs.Gathered.{AreKinds, attributes_of-kinds, get-attributes_of}
+use Rattle.attr_list.proofs.JoinedMaps.{find_entries, given_values, settled, sorted_entries}
 use Rattle.attr_list.proofs.SortedByKey.{ordered}
 use Rattle.attr_union.specs.Unions.{joined_pair, union_of, IsUnion}
 use Rattle.attr_union.specs.declared.gathering.Joined.{Joined}
-
--- what values that were gathered are held as
-abbrev settled : List Value → Held
-settled vs = held_of (distinct_values vs)
-
-both : (a b : Bool) → T a → T b → T (a && b)
-both true b p q = q
-both false b p q = absurd p
-
-module _ {A : Type 0} where
-  below : (x : List ℕ) (es : List (List ℕ × Vec Value A)) → AllByRecursion (λ y. bytes_cmp x y ≡ Less) (keys_of es) → T (below_all bytes_cmp x (map (λ p. (p.0, settled (vec_items p.1))) es))
-  below x [] h = tt
-  below x (e ∷ es) h = both (is_lt (bytes_cmp x e.0)) _ (subst (λ o. T (is_lt o)) (sym h.0) tt) (below x es h.1)
-
-  sorted_entries : (es : List (List ℕ × Vec Value A)) → IsStrictlySortedBy bytes_cmp (keys_of es) → T (fin.is_sorted bytes_cmp (map (λ p. (p.0, settled (vec_items p.1))) es))
-  unfolding IsStrictlySortedBy
-  sorted_entries [] h = tt
-  sorted_entries (e ∷ es) h = both (below_all bytes_cmp e.0 (map (λ p. (p.0, settled (vec_items p.1))) es)) _ (below e.0 es h.0) (sorted_entries es h.1)
-
-  find_entries : (q : List ℕ) (es : List (List ℕ × Vec Value A)) → fin.find bytes_cmp q (map (λ p. (p.0, settled (vec_items p.1))) es) ≡ option_map settled (option_map vec_items (lookup (is_at (bytes_cmp q)) es))
-  find_entries q [] = refl
-  find_entries q (e ∷ es) =
-      elim (is_eq (bytes_cmp q e.0)) as (λ b. cond b (Some (settled (vec_items e.1))) (fin.find bytes_cmp q (map (λ p. (p.0, settled (vec_items p.1))) es)) ≡ option_map settled (option_map vec_items (cond b (Some e.1) (lookup (is_at (bytes_cmp q)) es)))) [
-        | true ↦ refl
-        | false ↦ find_entries q es
-      ]
-
-given_values : (named : Bool) (vs : List Value) → option_map settled (cond named (Some vs) None) ≡ cond named (Some (settled vs)) None
-given_values true vs = refl
-given_values false vs = refl
 
 kinds : (es : List Element) → AllByRecursion IsElement es → AreKinds es
 kinds [] h = tt

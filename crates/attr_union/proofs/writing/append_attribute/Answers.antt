@@ -1,8 +1,7 @@
-use Rattle.std.proofs.Common.{◌≡◌, [], length, refl, sym, ap, ap₂, ◌++◌, ◌∙◌, rules}
+use Rattle.std.proofs.Common.{◌≡◌, [], length, refl, sym, ap, ap₂, ◌++◌, ◌∙◌}
 use Rattle.std.specs.Prelude.{◌==◌, string_bytes}
 use mathlib.Core.Bool.{true≢false}
 use Rattle.std.proofs.lemmas.Result.{IfOk-weaker}
-use Rattle.attr_list.specs.Lists.{distinct_values}
 use Rattle.attr_list.specs.Texts.{attribute_text}
 use Rattle.attr_list.proofs.GatheredMaps.{held_some}
 use Rattle.attr_union.proofs.writing.append_attribute.Goals as goal

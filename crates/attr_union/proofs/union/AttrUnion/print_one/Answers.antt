@@ -1,5 +1,5 @@
-use Rattle.std.proofs.Common.{◌≡◌, ◌++◌, refl, sym, subst, ap, ◌∙◌, length, arith}
-use Rattle.std.specs.Prelude.{string_bytes, slice_get, ◌<◌}
+use Rattle.std.proofs.Common.{◌≡◌, ◌++◌, refl, sym, ap, ◌∙◌, length, arith}
+use Rattle.std.specs.Prelude.{string_bytes, slice_get}
 use Rattle.std.proofs.lemmas.Option.{slice_get_read}
 use Rattle.std.proofs.lemmas.Result.{IfOk-weaker}
 use Rattle.attr_list.specs.Lists.{distinct_values, held_of}
