@@ -1,7 +1,7 @@
 -- Texts that are listed with commas, from the front as many as there is room for.
 use Rattle.std.specs.Prelude.{◌≡◌, ℕ, ◌≤◌, ◌+◌, Bool, nat_lt, if◌then◌else◌, List, [], ◌∷◌, ◌++◌, length, take}
 use Rattle.byteorder.specs.Endian.{big_bytes}
-use Rattle.slp_headers.specs.Headers.{Heading}
+use Rattle.slp_headers.specs.Headers.{Heading, heading_bytes}
 use Rattle.slp_headers.specs.declared.flag.TheConstants as flag
 use Rattle.slp_messages.specs.declared.function.TheConstants as function
 use Rattle.slp_messages.specs.declared.message.AttributeReply.TheVariants as attribute_reply
@@ -61,8 +61,8 @@ form_function form.Types = function.TYPE_REPLY
 -- what stands before a list of this length, in a reply of so many bytes
 abbrev pub head_bytes : ℕ → Heading → Bool → ℕ → ℕ → List ℕ
 head_bytes function h is_cut total length_of_list =
-    (2 ∷ function ∷ big_bytes 3 total ++ big_bytes 2 (if is_cut then flag.OVERFLOW else 0) ++ big_bytes 3 0 ++ big_bytes 2 h.xid ++ big_bytes 2 (length h.language))
-    ++ h.language ++ big_bytes 2 0 ++ big_bytes 2 length_of_list
+    heading_bytes (record { version = 2; function = function; length = total; flags = if is_cut then flag.OVERFLOW else 0; extension = 0; xid = h.xid; language = h.language })
+    ++ big_bytes 2 0 ++ big_bytes 2 length_of_list
 
 -- the reply of a form with as many of the texts from the front as fit the limit
 pub record IsListedReply (f : Form) (h : Heading) (limit : ℕ) (texts : List (List ℕ)) (bytes : List ℕ) : Type 0 where
