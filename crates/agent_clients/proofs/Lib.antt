@@ -1,0 +1,3 @@
+pub mod Registrations
+pub mod Sendings
+pub mod Stages

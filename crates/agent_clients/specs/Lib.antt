@@ -1,0 +1,4 @@
+pub mod Asking
+pub mod Keeping
+pub mod Replies
+pub mod Requests

@@ -1,0 +1,22 @@
+//! The two clients: what a user agent asks, and what a service agent keeps registered.
+#![tactic(auto)]
+
+mod asking;
+mod fault;
+mod items;
+mod keeping;
+mod leases;
+mod replies;
+mod requests;
+mod service_agent;
+mod user_agent;
+
+pub use asking::ask;
+pub use fault::ClientFault;
+pub use items::Items;
+pub use keeping::keep_alive;
+pub use requests::{
+    RequestHeader, attribute_request, registration, service_request, type_request, withdrawal,
+};
+pub use service_agent::ServiceAgent;
+pub use user_agent::{Event, Step, UserAgent};
