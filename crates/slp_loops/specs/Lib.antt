@@ -1,0 +1,6 @@
+pub mod Desks
+pub mod Holding
+pub mod Linking
+pub mod Reading
+pub mod Serving
+pub mod Writing

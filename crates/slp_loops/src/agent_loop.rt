@@ -1,0 +1,150 @@
+ghost use Rattle.std.specs.Prelude.{◌≡◌, ◌≤◌, ◌<◌, length, IfOk};
+
+use crate::datagrams::{DATAGRAMS, Datagrams};
+use crate::fault::LoopFault;
+use crate::serve::Serve;
+use crate::streams::{LISTENER, Streams};
+use mio::net::{TcpListener, UdpSocket};
+use mio::{Events, Interest, Poll, Registry};
+use site_config::Config;
+use std::alloc::Global;
+use std::io;
+use std::marker::Model;
+use std::net::{Ipv4Addr, Net, SocketAddr};
+use std::sync::Wait;
+use std::sync::atomic::{AtomicBool, Ordering};
+use std::time::Duration;
+
+/// The longest wait of a turn, in milliseconds.
+const LONGEST_WAIT: u64 = 500;
+
+/// How many events one wait gives.
+const EVENTS: usize = 256;
+
+// Serves each socket that is ready. Want of memory is answered once all are served: an event that is
+// left out is not reported again.
+fn serve_events<S: Serve>(
+    registry: &Registry,
+    events: &Events,
+    datagrams: &mut Datagrams,
+    streams: &mut Streams,
+    server: &mut S,
+) -> Result<(), LoopFault>
+    ensures { streams.new.limit ≡ streams.old.limit }
+{
+    let mut outcome = Ok(());
+    for event in events.iter() {
+        let token = event.token();
+        let served = if token == DATAGRAMS {
+            datagrams.serve(registry, server)
+        } else if token == LISTENER {
+            streams.accept(registry)
+        } else {
+            streams.advance(registry, token.0, server)
+        };
+        match served {
+            Ok(()) => {}
+            Err(LoopFault::Io) => return Err(LoopFault::Io),
+            Err(fault) => outcome = Err(fault),
+        }
+    }
+    outcome
+}
+
+/// Serves the datagrams and the streams of one address.
+#[derive(Drop)]
+pub struct AgentLoop<S: Serve + Drop> {
+    poll: Poll,
+    events: Events,
+    datagrams: Datagrams,
+    streams: Streams,
+    server: S,
+}
+
+impl<S: Serve + Drop> Model for AgentLoop<S> {
+    ghost use Rattle.slp_loops.specs.Holding.{Held};
+
+    ghost Value = { Held };
+
+    ghost view = { λ l. l.streams };
+}
+
+impl<S: Serve + Drop> AgentLoop<S> {
+    /// A loop that listens at one of the addresses of a configuration, for datagrams and for streams. All its
+    /// memory is taken here, but that of the streams and the answers.
+    pub fn new<N: Net>(
+        net: &N,
+        alloc: Global,
+        config: &Config,
+        place: usize,
+        server: S,
+    ) -> Result<AgentLoop<S>, LoopFault>
+        requires { place < length config.now.listen }
+        ensures { IfOk result (λ l. l ≡ record { limit = config.now.connections; held = 0 }) }
+    {
+        let listen = config.listen.as_slice();
+        let (own, port) = listen[place];
+        let ip = Ipv4Addr::from_bits(own.0);
+        let poll = Poll::new(net)?;
+        let mut listener = TcpListener::bind(net, SocketAddr::from((ip, port)))?;
+        let mut datagrams = UdpSocket::bind(net, listener.local_addr()?)?;
+        poll.registry()
+            .register(&mut listener, LISTENER, Interest::READABLE)?;
+        poll.registry()
+            .register(&mut datagrams, DATAGRAMS, Interest::READABLE)?;
+        Ok(AgentLoop {
+            poll,
+            events: Events::with_capacity(alloc, EVENTS)?,
+            datagrams: Datagrams::new(alloc, datagrams)?,
+            streams: Streams::new(alloc, listener, config.connections)?,
+            server,
+        })
+    }
+
+    /// The address that it listens at.
+    pub fn address(&self) -> io::Result<SocketAddr> {
+        self.streams.address()
+    }
+
+    /// The number of connections.
+    pub fn connections(&self) -> usize
+        ensures held { result ≡ self.now.held }
+        ensures within { result ≤ self.now.limit }
+    {
+        self.streams.len()
+    }
+
+    /// Waits until a socket is ready, for 500 ms at most, and serves what is. `Io` is answered only
+    /// where the wait or a listening socket failed. `NoMemory` is answered once all is served that
+    /// was ready: a connection that found none is closed.
+    pub fn turn(&mut self) -> Result<(), LoopFault>
+        ensures { self.new.limit ≡ self.old.limit }
+    {
+        self.server.settle();
+        let wait = Duration::from_millis(LONGEST_WAIT);
+        self.poll.poll(&mut self.events, Some(wait))?;
+        self.streams.accept_again(self.poll.registry())?;
+        serve_events(
+            self.poll.registry(),
+            &self.events,
+            &mut self.datagrams,
+            &mut self.streams,
+            &mut self.server,
+        )
+    }
+
+    /// Takes turns until the flag is set, or a turn answers `Io`.
+    pub fn run<R: Wait>(&mut self, rt: &R, stop: &AtomicBool) -> Result<(), LoopFault>
+        ensures { self.new.limit ≡ self.old.limit }
+    {
+        for _ in rt.forever() {
+            if stop.load(Ordering::SeqCst) {
+                return Ok(());
+            }
+            if self.turn() == Err(LoopFault::Io) {
+                return Err(LoopFault::Io);
+            }
+        }
+        unreachable!()
+    }
+}

@@ -1,0 +1,120 @@
+use crate::clock::Moments;
+use crate::serve::Serve;
+use access_rules::Addr;
+use directory_state::Directory;
+use registry_core::ListRegistry;
+use slp_answer::{Answer, Call, Sent, refusal, step};
+use slp_text::NoMemory;
+use std::alloc::Global;
+use std::io::Write;
+use std::sync::{Mutex, Wait};
+
+/// What threads share: the directory, and the output to which lines are written.
+#[derive(Drop)]
+pub struct Shared<'s, W: Write> {
+    pub directory: &'s Mutex<Directory<ListRegistry>>,
+    pub output: &'s Mutex<W>,
+}
+
+/// Serves messages from a directory that threads share, and writes the line of each that is judged, whole and
+/// once, to an output that they share.
+#[derive(Drop)]
+pub struct Desk<'r, 's, R: Wait, M: Moments + Drop, W: Write> {
+    rt: &'r R,
+    alloc: Global,
+    shared: Shared<'s, W>,
+    /// The address of the directory to which the messages come.
+    pub own: Addr,
+    pub moments: M,
+    // Whether a line was written since the last time that the output was flushed.
+    is_unsettled: bool,
+}
+
+impl<'r, 's, R: Wait, M: Moments + Drop, W: Write> Desk<'r, 's, R, M, W> {
+    ghost use Rattle.std.specs.Prelude.{◌≡◌};
+
+    /// A desk for messages that come to an address of the directory. Takes no memory.
+    pub fn new(
+        rt: &'r R,
+        alloc: Global,
+        shared: Shared<'s, W>,
+        own: Addr,
+        moments: M,
+    ) -> Desk<'r, 's, R, M, W>
+        ensures own { result.own ≡ own }
+        ensures moments { result.moments ≡ moments }
+    {
+        Desk {
+            rt,
+            alloc,
+            shared,
+            own,
+            moments,
+            is_unsettled: false,
+        }
+    }
+
+    // Writes a line. A failing write is ignored: what is answered does not depend on who reads the lines.
+    fn tell(&mut self, line: &[u8])
+        ensures own { self.new.own ≡ self.old.own }
+        ensures moments { self.new.moments ≡ self.old.moments }
+    {
+        if line.is_empty() {
+            return;
+        }
+        let mut output = self.shared.output.lock(self.rt);
+        let _ = output.write_all(line);
+        self.is_unsettled = true;
+    }
+}
+
+impl<'r, 's, R: Wait, M: Moments + Drop, W: Write> Serve for Desk<'r, 's, R, M, W> {
+    ghost use Rattle.std.specs.Prelude.{◌≡◌, false};
+    ghost use Rattle.slp_loops.specs.Desks.{DeskSteps};
+
+    ghost steps = { λ before asker message limit outcome answer after. DeskSteps M.may before.own asker message limit before.moments outcome answer after.moments };
+
+    ghost settles = { λ before after. after ≡ record before { is_unsettled = false } };
+
+    fn serve(
+        &mut self,
+        asker: Addr,
+        message: &[u8],
+        limit: usize,
+        answer: &mut Answer,
+    ) -> Result<Sent, NoMemory> {
+        let call = Call {
+            own: self.own,
+            moment: self.moments.now(),
+            asker,
+            bytes: message,
+            limit,
+        };
+        let mut directory = self.shared.directory.lock(self.rt);
+        let told = step(self.alloc, &mut *directory, &call, answer);
+        drop(directory);
+        match told {
+            Ok(sent) => {
+                self.tell(answer.audit.as_slice());
+                Ok(sent)
+            }
+            Err(_) => {
+                let mut reply = [0; 80];
+                let mut line = [0; 128];
+                let (_, length) = refusal(message, asker, &mut reply, &mut line);
+                self.tell(&line[..length]);
+                Err(NoMemory)
+            }
+        }
+    }
+
+    fn settle(&mut self) {
+        if !self.is_unsettled {
+            return;
+        }
+        let mut output = self.shared.output.lock(self.rt);
+        let _ = output.flush();
+        drop(output);
+        self.is_unsettled = false;
+    }
+}
