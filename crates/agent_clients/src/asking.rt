@@ -1,5 +1,5 @@
 //! A request and its reply on real sockets.
-ghost use Rattle.std.specs.Prelude.{◌≡◌, ◌≤◌, length, IfOk, OnOk, IfSome};
+ghost use Rattle.std.specs.Prelude.{◌≡◌, ◌≤◌, length, vec_len, IfOk, OnOk, IfSome};
 ghost use Rattle.agent_clients.specs.Asking.{IsStarted};
 ghost use Rattle.agent_clients.specs.declared.user_agent.Stage.TheVariants.{Unstarted};
 
@@ -70,36 +70,56 @@ fn is_nothing(error: &io::Error) -> bool {
     )
 }
 
-// Sends the request. That nobody listens there is no failure: it is sent again when it is due.
-fn send(socket: &UdpSocket, agent: &UserAgent, peer: SocketAddr) -> Result<(), ClientFault> {
-    match socket.send_to(agent.request(), peer) {
-        Ok(_) => Ok(()),
-        Err(e) if is_nothing(&e) => Ok(()),
-        Err(_) => Err(ClientFault::Io),
-    }
+// The datagrams of one request: their socket, the peer, and the bytes of the one that came last.
+#[derive(Drop)]
+struct Datagrams {
+    socket: UdpSocket,
+    peer: SocketAddr,
+    buffer: Vec<u8>,
 }
 
-// Waits for a datagram until a moment, and answers how many bytes came from the peer.
-fn receive<R: Clock>(
-    timer: &Timer<'_, R>,
-    socket: &UdpSocket,
-    peer: SocketAddr,
-    moment: u32,
-    buffer: &mut [u8],
-) -> Result<Option<usize>, ClientFault>
-    ensures { IfOk result (λ told. IfSome told (λ count. count ≤ length buffer.new)) }
-{
-    let Some(left) = timer.until(moment)? else {
-        return Ok(None);
-    };
-    if socket.set_read_timeout(Some(left)).is_err() {
-        return Err(ClientFault::Io);
+impl Datagrams {
+    fn open<R: Net>(rt: &R, alloc: Global, peer: SocketAddr) -> Result<Datagrams, ClientFault> {
+        let any = SocketAddr::from((Ipv4Addr::UNSPECIFIED, 0));
+        let Ok(socket) = UdpSocket::bind(rt, any) else {
+            return Err(ClientFault::Io);
+        };
+        Ok(Datagrams {
+            socket,
+            peer,
+            buffer: vec![in alloc; 0; LONGEST]?,
+        })
     }
-    match socket.recv_from(buffer) {
-        Ok((count, from)) if from == peer => Ok(Some(count)),
-        Ok(_) => Ok(None),
-        Err(e) if is_nothing(&e) => Ok(None),
-        Err(_) => Err(ClientFault::Io),
+
+    // Sends a request. That nobody listens there is no failure: it is sent again when it is due.
+    fn send(&self, request: &[u8]) -> Result<(), ClientFault> {
+        match self.socket.send_to(request, self.peer) {
+            Ok(_) => Ok(()),
+            Err(e) if is_nothing(&e) => Ok(()),
+            Err(_) => Err(ClientFault::Io),
+        }
+    }
+
+    // Waits for a datagram until a moment, and answers how many bytes came from the peer.
+    fn receive<R: Clock>(
+        &mut self,
+        timer: &Timer<'_, R>,
+        moment: u32,
+    ) -> Result<Option<usize>, ClientFault>
+        ensures { IfOk result (λ told. IfSome told (λ count. count ≤ vec_len self.new.buffer)) }
+    {
+        let Some(left) = timer.until(moment)? else {
+            return Ok(None);
+        };
+        if self.socket.set_read_timeout(Some(left)).is_err() {
+            return Err(ClientFault::Io);
+        }
+        match self.socket.recv_from(self.buffer.as_mut_slice()) {
+            Ok((count, from)) if from == self.peer => Ok(Some(count)),
+            Ok(_) => Ok(None),
+            Err(e) if is_nothing(&e) => Ok(None),
+            Err(_) => Err(ClientFault::Io),
+        }
     }
 }
 
@@ -255,13 +275,12 @@ fn send_request<R: Clock>(
     timer: &Timer<'_, R>,
     alloc: Global,
     agent: &mut UserAgent,
-    socket: &UdpSocket,
-    peer: SocketAddr,
+    datagrams: &Datagrams,
 ) -> Result<Step, ClientFault>
     requires { IsStarted agent.old.stage }
     ensures { IsStarted agent.new.stage }
 {
-    send(socket, agent, peer)?;
+    datagrams.send(agent.request())?;
     tell(alloc, agent, timer.now()?, Event::Tick)
 }
 
@@ -270,19 +289,17 @@ fn take_datagram<R: Clock>(
     timer: &Timer<'_, R>,
     alloc: Global,
     agent: &mut UserAgent,
-    socket: &UdpSocket,
-    peer: SocketAddr,
+    datagrams: &mut Datagrams,
     moment: u32,
-    buffer: &mut [u8],
 ) -> Result<Step, ClientFault>
     requires { IsStarted agent.old.stage }
     ensures { IsStarted agent.new.stage }
 {
-    let Some(count) = receive(timer, socket, peer, moment, buffer)? else {
+    let Some(count) = datagrams.receive(timer, moment)? else {
         return tell(alloc, agent, timer.now()?, Event::Tick);
     };
     let now = timer.now()?;
-    tell(alloc, agent, now, Event::Datagram(&buffer[..count]))
+    tell(alloc, agent, now, Event::Datagram(&datagrams.buffer[..count]))
 }
 
 // Asks by datagrams, until the reply is there or a stream is wanted, and answers whether one is.
@@ -290,9 +307,7 @@ fn ask_by_datagrams<R: Clock + Wait>(
     timer: &Timer<'_, R>,
     alloc: Global,
     agent: &mut UserAgent,
-    socket: &UdpSocket,
-    peer: SocketAddr,
-    buffer: &mut [u8],
+    datagrams: &mut Datagrams,
 ) -> Result<bool, ClientFault>
     requires { agent.old.stage ≡ Unstarted }
     ensures { OnOk result (IsStarted agent.new.stage) }
@@ -302,10 +317,8 @@ fn ask_by_datagrams<R: Clock + Wait>(
         step = match step {
             Step::Done => return Ok(false),
             Step::OpenStream => return Ok(true),
-            Step::Send => send_request(timer, alloc, agent, socket, peer)?,
-            Step::Wait(moment) => {
-                take_datagram(timer, alloc, agent, socket, peer, moment, buffer)?
-            }
+            Step::Send => send_request(timer, alloc, agent, datagrams)?,
+            Step::Wait(moment) => take_datagram(timer, alloc, agent, datagrams, moment)?,
         };
     }
     unreachable!()
@@ -322,11 +335,8 @@ where
     R: Net<Stream = TcpStream> + Clock + Wait,
     requires { agent.old.stage ≡ Unstarted }
 {
-    let Ok(socket) = UdpSocket::bind(timer.rt, SocketAddr::from((Ipv4Addr::UNSPECIFIED, 0))) else {
-        return Err(ClientFault::Io);
-    };
-    let mut buffer = vec![in alloc; 0; LONGEST]?;
-    match ask_by_datagrams(timer, alloc, agent, &socket, peer, buffer.as_mut_slice()) {
+    let mut datagrams = Datagrams::open(timer.rt, alloc, peer)?;
+    match ask_by_datagrams(timer, alloc, agent, &mut datagrams) {
         Ok(true) => ask_on_stream(timer, alloc, peer, agent),
         Ok(false) => Ok(()),
         Err(fault) => Err(fault),
