@@ -299,7 +299,12 @@ fn take_datagram<R: Clock>(
         return tell(alloc, agent, timer.now()?, Event::Tick);
     };
     let now = timer.now()?;
-    tell(alloc, agent, now, Event::Datagram(&datagrams.buffer[..count]))
+    tell(
+        alloc,
+        agent,
+        now,
+        Event::Datagram(&datagrams.buffer[..count]),
+    )
 }
 
 // Asks by datagrams, until the reply is there or a stream is wanted, and answers whether one is.

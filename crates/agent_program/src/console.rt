@@ -1,0 +1,188 @@
+//! The words on standard input.
+use crate::fault::{StartFault, rules_number};
+use crate::opening;
+use access_rules::Rules;
+use directory_judge::Change;
+use slp_loops::{Moments, Shared, WallClock};
+use slp_text::Text;
+use std::alloc::Global;
+use std::io::{self, ErrorKind, Read, Write};
+use std::rt::Files;
+use std::sync::{Arc, Wait};
+use std::time::Clock;
+
+/// The bytes of a line that are kept: more than any word has.
+const LONGEST_WORD: usize = 16;
+
+/// The bytes that one read asks for.
+const CHUNK: usize = 256;
+
+/// What a line asks for.
+#[derive(Clone, Copy, Debug, PartialEq, Eq)]
+enum Word {
+    Reload,
+    Sweep,
+    Stop,
+    Unknown,
+}
+
+/// What acts on the words: the directory and the output, the rule file and the clock.
+#[derive(Drop)]
+pub(crate) struct Console<'r, 's, R: Wait + Clock, W: Write> {
+    pub rt: &'r R,
+    pub alloc: Global,
+    pub shared: Shared<'s, W>,
+    pub rules: Option<&'s Text>,
+    pub clock: WallClock<'r, R>,
+}
+
+/// A line that is begun. Of a long one only the beginning is kept, and its length.
+#[derive(Drop)]
+struct Line {
+    bytes: [u8; LONGEST_WORD],
+    length: usize,
+}
+
+impl Line {
+    fn new() -> Line {
+        Line {
+            bytes: [0; LONGEST_WORD],
+            length: 0,
+        }
+    }
+
+    fn push(&mut self, byte: u8) {
+        if self.length < LONGEST_WORD {
+            self.bytes[self.length] = byte;
+        }
+        self.length = self.length.saturating_add(1);
+    }
+
+    fn clear(&mut self) {
+        self.length = 0;
+    }
+
+    fn is_empty(&self) -> bool {
+        self.length == 0
+    }
+
+    // What the line asks for.
+    fn word(&self) -> Word {
+        let Some(line) = self.bytes.get(..self.length) else {
+            return Word::Unknown;
+        };
+        if line == b"reload".as_slice() {
+            Word::Reload
+        } else if line == b"sweep".as_slice() {
+            Word::Sweep
+        } else if line == b"stop".as_slice() {
+            Word::Stop
+        } else {
+            Word::Unknown
+        }
+    }
+}
+
+// Prints what came of a reload: how many rules decide from now on, or why the old ones stay.
+fn print_reload<W: Write>(writer: &mut W, told: Result<usize, StartFault>) -> io::Result<()> {
+    match told {
+        Ok(number) => writeln!(writer, "# rules {number}"),
+        Err(StartFault::Rules(fault)) => writeln!(writer, "! rules {}", rules_number(fault)),
+        Err(StartFault::NoMemory) => writeln!(writer, "! rules 3"),
+        Err(_) => writeln!(writer, "! file"),
+    }
+}
+
+impl<'r, 's, R, W> Console<'r, 's, R, W>
+where
+    R: Files + Wait + Clock,
+    W: Write,
+{
+    // Prints a line, which is out at once. A failing write is ignored, as for every line of an agent.
+    pub(crate) fn print(&self, line: &str) {
+        let mut output = self.shared.output.lock(self.rt);
+        let _ = output.write_all(line.as_bytes());
+        let _ = output.flush();
+    }
+
+    // Lets these rules decide from now on, and answers how many there are.
+    fn put(&mut self, rules: Rules) -> Result<usize, StartFault> {
+        let number = rules.len();
+        let rules = Arc::new(self.alloc, rules)?;
+        let moment = self.clock.now();
+        let mut directory = self.shared.directory.lock(self.rt);
+        let now = directory.now(moment);
+        directory.apply(Change::Reload(now, rules));
+        Ok(number)
+    }
+
+    // Reads the rule file again. Its rules decide from now on, unless they are refused.
+    fn reload(&mut self) {
+        let told = match opening::rules(self.rt, self.alloc, self.rules) {
+            Ok(rules) => self.put(rules),
+            Err(fault) => Err(fault),
+        };
+        let mut output = self.shared.output.lock(self.rt);
+        let _ = print_reload(&mut *output, told);
+        let _ = output.flush();
+    }
+
+    // Drops what is dead.
+    fn sweep(&mut self) {
+        let moment = self.clock.now();
+        let mut directory = self.shared.directory.lock(self.rt);
+        let now = directory.now(moment);
+        directory.apply(Change::Sweep(now));
+        drop(directory);
+        self.print("# sweep\n");
+    }
+
+    // Does what a line asks for, and answers whether it is not `stop`.
+    fn act(&mut self, word: Word) -> bool {
+        match word {
+            Word::Reload => self.reload(),
+            Word::Sweep => self.sweep(),
+            Word::Unknown => self.print("! command\n"),
+            Word::Stop => return false,
+        }
+        true
+    }
+
+    // Takes bytes that were read, and answers whether no line of them is `stop`.
+    fn take(&mut self, line: &mut Line, piece: &[u8]) -> bool {
+        for byte in piece {
+            if *byte != b'\n' {
+                line.push(*byte);
+                continue;
+            }
+            let word = line.word();
+            line.clear();
+            if !self.act(word) {
+                return false;
+            }
+        }
+        true
+    }
+
+    /// Acts on each line until `stop` or the end of input, which stops too, as does a read that fails. A line
+    /// without its end is one.
+    pub(crate) fn run<I: Read>(&mut self, input: &mut I) {
+        let mut line = Line::new();
+        let mut chunk = [0; CHUNK];
+        for _ in 0..u64::MAX {
+            match input.read(&mut chunk) {
+                Ok(0) => break,
+                Ok(count) => {
+                    if !self.take(&mut line, &chunk[..count]) {
+                        return;
+                    }
+                }
+                Err(e) if e.kind() == ErrorKind::Interrupted => {}
+                Err(_) => break,
+            }
+        }
+        if !line.is_empty() {
+            self.act(line.word());
+        }
+    }
+}
