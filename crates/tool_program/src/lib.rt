@@ -1,0 +1,8 @@
+//! The program `slptool`: finds, registers and withdraws services at a directory agent.
+#![tactic(auto)]
+
+mod command;
+mod printing;
+mod program;
+
+pub use program::tool_run;
