@@ -1,29 +1,35 @@
 # make run     replays a small script with the proved program
 # make day     replays a day of a small site; examples/day.md explains it
 # make try     replays it with the program as it stands, unproved, in about a minute
-# make build   proves what the program needs, crates side by side, and leaves it in bin/
+# make demo    starts the proved server on an example site, and asks it with the proved client
+# make build   proves what the programs need, crates side by side, and leaves them in bin/
 # make test    the gate
 # make bench   counts instructions per message, with the built program; it is no part of the gate, and needs valgrind
-.PHONY: run day try build programs test bench
+.PHONY: run day try demo build test bench
 
 script := examples/printer.script
 jobs := $(shell nproc)
+parallel := --no-print-directory -j$(jobs)
 
-run: build
+run:
+	@$(MAKE) $(parallel) bin/slpreplay
 	@bin/slpreplay < $(script)
 
 # Its last line is not a command, so the status is 3.
-day: build
+day:
+	@$(MAKE) $(parallel) bin/slpreplay
 	@bin/slpreplay < crates/slpreplay/stdin || test $$? = 3
 
 try:
 	@echo "Compiling without any proof: what follows shows how the program works, and proves nothing."
 	@cd crates/slpreplay && rt try < ../../$(script) 2> /dev/null | grep -E '^[>#!]'
 
-build:
-	@$(MAKE) --no-print-directory -j$(jobs) programs
+demo:
+	@$(MAKE) $(parallel) bin/slpda bin/slptool
+	@examples/site/demo
 
-programs: bin/slpreplay
+build:
+	@$(MAKE) $(parallel) bin/slpreplay bin/slpda bin/slptool
 
 test:
 	rt ci
@@ -43,10 +49,15 @@ proved-$(1): $(addprefix proved-,$(call below,$(1)))
 endef
 $(foreach crate,$(crates),$(eval $(call rules,$(crate))))
 
-# A program is linked, too, and run once on nothing.
-bin/slpreplay: $(addprefix proved-,$(call below,slpreplay))
-	@echo "slpreplay: proving and linking (it waited for $(call below,slpreplay))"
-	@mkdir -p bin crates/slpreplay/out && cd crates/slpreplay && { rt run < /dev/null > out/build.log 2>&1 || { cat out/build.log; exit 1; }; }
-	@cp crates/slpreplay/out/slpreplay bin/
-
-.PHONY: bin/slpreplay
+# A program is linked, too, and run once on nothing: a replay then ends well, and a program that wants words prints its usage.
+# program NAME STATUS
+define program
+.PHONY: bin/$(1)
+bin/$(1): $(addprefix proved-,$(call below,$(1)))
+	@echo "$(1): proving and linking (it waited for $(call below,$(1)))"
+	@mkdir -p bin crates/$(1)/out && cd crates/$(1) && { rt run < /dev/null > out/build.log 2>&1; test $$$$? = $(2) || { cat out/build.log; exit 1; }; }
+	@cp crates/$(1)/out/$(1) bin/
+endef
+$(eval $(call program,slpreplay,0))
+$(eval $(call program,slpda,64))
+$(eval $(call program,slptool,64))
