@@ -4,7 +4,8 @@
 # make demo    starts the proved server on an example site, and asks it with the proved client
 # make build   proves what the programs need, crates side by side, and leaves them in bin/
 # make test    the gate
-# make bench   counts instructions per message, with the built program; it is no part of the gate, and needs valgrind
+# make bench   counts instructions per message and measures the server, with the built programs; it is no part of the gate,
+#              and needs valgrind, python3 and a C compiler
 .PHONY: run day try demo build test bench
 
 script := examples/printer.script
@@ -36,6 +37,7 @@ test:
 
 bench:
 	@bench/instructions bin/slpreplay
+	@bench/server bin/slpda
 
 # A crate is proved once those that crates.txt names in its line are: it says so, and what it waited for.
 crates := $(shell sed -n 's/^\([a-z_]*\):.*/\1/p' crates.txt)
