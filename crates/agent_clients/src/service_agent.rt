@@ -12,6 +12,7 @@ use crate::leases::{Lease, language_key};
 use slp_text::{Key, NoMemory};
 use std::alloc::Global;
 use std::marker::Model;
+use std::mem;
 
 /// The registrations that a service keeps alive, without a socket or a clock (RFC 2608, sections 8.3 and
 /// 10.6): its caller sends what it answers.
@@ -117,7 +118,7 @@ impl ServiceAgent {
     {
         let lease = Lease::of(alloc, registration)?;
         match find(self.kept.as_slice(), lease.url(), lease.key()) {
-            Some(place) => self.kept[place] = lease,
+            Some(place) => drop(mem::replace(&mut self.kept[place], lease)),
             None => self.kept.push(lease)?,
         }
         Ok(())
@@ -141,7 +142,7 @@ impl ServiceAgent {
         };
         let xid = next_after(self.xid);
         let bytes = self.kept[place].withdrawal(alloc, xid)?;
-        self.kept.remove(place);
+        drop(self.kept.remove(place));
         self.xid = xid;
         Ok(Some(bytes))
     }

@@ -10,6 +10,7 @@ use crate::items::Items;
 use crate::replies::{Brought, brought_by_datagram, brought_by_stream};
 use std::alloc::Global;
 use std::marker::Model;
+use std::mem;
 
 /// A request with more bytes is asked on a stream.
 const LONGEST_DATAGRAM: usize = 1_400;
@@ -123,21 +124,28 @@ impl UserAgent {
         ensures state { self.new ≡ record self.old { stage = started now self.old.request } }
     {
         if self.request.len() > LONGEST_DATAGRAM {
-            self.stage = Stage::ByStream { since: now };
+            self.enter(Stage::ByStream { since: now });
             return Step::OpenStream;
         }
-        self.stage = Stage::ByDatagram {
+        self.enter(Stage::ByDatagram {
             start: now,
             last: now,
-        };
+        });
         Step::Send
+    }
+
+    // Goes to another stage.
+    fn enter(&mut self, stage: Stage)
+        ensures { self.new ≡ record self.old { stage = stage } }
+    {
+        drop(mem::replace(&mut self.stage, stage));
     }
 
     // Fails for good.
     fn fail(&mut self, fault: ClientFault) -> Result<Step, ClientFault>
         ensures { (result ≡ Err fault) × (self.new ≡ record self.old { stage = stage.Failed fault }) }
     {
-        self.stage = Stage::Failed(fault);
+        self.enter(Stage::Failed(fault));
         Err(fault)
     }
 
@@ -153,7 +161,7 @@ impl UserAgent {
                 }
                 let due = next_after(start, last);
                 if due <= u64::from(now) {
-                    self.stage = Stage::ByDatagram { start, last: now };
+                    self.enter(Stage::ByDatagram { start, last: now });
                     return Ok(Step::Send);
                 }
                 Ok(wait(due))
@@ -178,11 +186,11 @@ impl UserAgent {
         match brought {
             Brought::Nothing => self.tick(now),
             Brought::Cut => {
-                self.stage = Stage::ByStream { since: now };
+                self.enter(Stage::ByStream { since: now });
                 Ok(Step::OpenStream)
             }
             Brought::Replied(Ok(items)) => {
-                self.stage = Stage::Finished(items);
+                self.enter(Stage::Finished(items));
                 Ok(Step::Done)
             }
             Brought::Replied(Err(fault)) => self.fail(fault),

@@ -1,5 +1,7 @@
 //! What an agent starts with: its configuration, its rules and its templates, read in this order.
-ghost use Rattle.std.specs.Prelude.{IfOk, ◌≡◌, length, ◌<◌};
+ghost use Rattle.std.specs.Prelude.{◌≡◌, ◌<◌, ◌≤◌, length, IfOk};
+ghost use Rattle.std.specs.FinMap as fin;
+ghost use Rattle.registry_core.specs.Entries.{entries_of_list};
 ghost use Rattle.site_config.specs.Configurations.{IsWithin};
 
 use crate::fault::StartFault;
@@ -52,6 +54,35 @@ fn templates<R: Files>(rt: &R, alloc: Global, paths: &[Text]) -> Result<Template
     Ok(templates)
 }
 
+// The site of a configuration, with its templates.
+fn site<R: Files>(rt: &R, alloc: Global, config: &Config, boot: u32) -> Result<Site, StartFault>
+    requires { IsWithin config.now }
+{
+    let templates = Arc::new(alloc, templates(rt, alloc, config.templates.as_slice())?)?;
+    let scopes = config.scopes.copy(alloc)?;
+    Ok(Site::new(scopes, config.capacity, templates, boot))
+}
+
+// A registry with so much room.
+fn registry(alloc: Global, capacity: usize) -> Result<ListRegistry, StartFault>
+    requires some { 0 < capacity }
+    requires few { capacity ≤ 65536 }
+    ensures empty { IfOk result (λ r. entries_of_list r.entries ≡ fin.empty) }
+    ensures limit { IfOk result (λ r. r.limit ≡ capacity) }
+{
+    match ListRegistry::new(alloc, capacity) {
+        Ok(registry) => Ok(registry),
+        Err(RegistryFault::NoMemory) => Err(StartFault::NoMemory),
+        Err(RegistryFault::Full) => unreachable!(),
+    }
+}
+// The directory of a site with these rules, to which nothing happened.
+fn opened(alloc: Global, site: &Site, rules: Rules) -> Result<Directory<ListRegistry>, StartFault> {
+    let rules = Arc::new(alloc, rules)?;
+    let registry = registry(alloc, site.capacity())?;
+    Ok(Directory::open(alloc, registry, site, rules)?)
+}
+
 /// The directory of a configuration, with its rules and templates, to which nothing happened; `boot` is its
 /// stamp.
 pub(crate) fn directory<R: Files>(
@@ -62,13 +93,7 @@ pub(crate) fn directory<R: Files>(
 ) -> Result<Directory<ListRegistry>, StartFault>
     requires { IsWithin config.now }
 {
-    let rules = Arc::new(alloc, rules(rt, alloc, config.rules.as_ref())?)?;
-    let templates = Arc::new(alloc, templates(rt, alloc, config.templates.as_slice())?)?;
-    let scopes = config.scopes.copy(alloc)?;
-    let site = Site::new(scopes, config.capacity, templates, boot);
-    match ListRegistry::new(alloc, config.capacity) {
-        Ok(registry) => Ok(Directory::open(alloc, registry, &site, rules)?),
-        Err(RegistryFault::NoMemory) => Err(StartFault::NoMemory),
-        Err(RegistryFault::Full) => unreachable!(),
-    }
+    let rules = rules(rt, alloc, config.rules.as_ref())?;
+    let site = site(rt, alloc, config, boot)?;
+    opened(alloc, &site, rules)
 }

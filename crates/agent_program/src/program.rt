@@ -3,6 +3,8 @@ ghost use Rattle.std.specs.Prelude.{◌≡◌, ◌≢◌, length};
 use crate::console::Console;
 use crate::fault::{StartFault, config_number, rules_number, template_number};
 use crate::opening;
+use directory_state::Directory;
+use registry_core::ListRegistry;
 use site_config::Config;
 use slp_loops::{AgentLoop, Desk, LoopFault, Moments, Serve, Shared, WallClock};
 use std::alloc::Global;
@@ -60,6 +62,41 @@ where
     }
 }
 
+// Serves a directory at the address of its configuration, between the two ends of a terminal.
+fn serve_at<R, I, W>(
+    rt: &R,
+    alloc: Global,
+    config: &Config,
+    directory: &Mutex<Directory<ListRegistry>>,
+    ends: (&mut I, &Mutex<W>),
+) -> Result<u8, StartFault>
+where
+    R: Threads + Wait + Net + Clock + Files + Sync,
+    I: Read + Send,
+    W: Write + Send,
+    requires { length config.now.listen ≡ 1 }
+{
+    let (input, output) = ends;
+    let (own, _) = config.listen.as_slice()[0];
+    let desk = Desk::new(
+        rt,
+        alloc,
+        Shared { directory, output },
+        own,
+        WallClock::new(rt),
+    );
+    let mut agent = AgentLoop::new(rt, alloc, config, 0, desk)?;
+    let mut console = Console {
+        rt,
+        alloc,
+        shared: Shared { directory, output },
+        rules: config.rules.as_ref(),
+        clock: WallClock::new(rt),
+    };
+    console.print("ready\n");
+    Ok(serve(rt, &mut agent, &mut console, input))
+}
+
 // Opens what the configuration names, and serves.
 fn run<R, I, W>(
     rt: &R,
@@ -74,27 +111,9 @@ where
     W: Write + Send,
 {
     let config = opening::config(rt, alloc, path)?;
-    let mut clock = WallClock::new(rt);
-    let directory = Mutex::new(opening::directory(rt, alloc, &config, clock.now())?);
-    let (own, _) = config.listen.as_slice()[0];
-    let shared = Shared {
-        directory: &directory,
-        output,
-    };
-    let desk = Desk::new(rt, alloc, shared, own, WallClock::new(rt));
-    let mut agent = AgentLoop::new(rt, alloc, &config, 0, desk)?;
-    let mut console = Console {
-        rt,
-        alloc,
-        shared: Shared {
-            directory: &directory,
-            output,
-        },
-        rules: config.rules.as_ref(),
-        clock,
-    };
-    console.print("ready\n");
-    Ok(serve(rt, &mut agent, &mut console, input))
+    let boot = WallClock::new(rt).now();
+    let directory = Mutex::new(opening::directory(rt, alloc, &config, boot)?);
+    serve_at(rt, alloc, &config, &directory, (input, output))
 }
 
 /// The program `slpda`: its words without its own name, its input and its output. It serves until the input

@@ -69,6 +69,50 @@ impl<S: Serve + Drop> Model for AgentLoop<S> {
     ghost view = { λ l. l.streams };
 }
 
+// What a loop has beside its server.
+#[derive(Drop)]
+struct Parts {
+    poll: Poll,
+    events: Events,
+    datagrams: Datagrams,
+    streams: Streams,
+}
+
+// A listener at an address, which is waited for.
+fn listen<N: Net>(net: &N, registry: &Registry, address: SocketAddr) -> io::Result<TcpListener> {
+    let mut listener = TcpListener::bind(net, address)?;
+    registry.register(&mut listener, LISTENER, Interest::READABLE)?;
+    Ok(listener)
+}
+
+// A socket for datagrams at an address, which is waited for.
+fn receive<N: Net>(net: &N, registry: &Registry, address: SocketAddr) -> io::Result<UdpSocket> {
+    let mut socket = UdpSocket::bind(net, address)?;
+    registry.register(&mut socket, DATAGRAMS, Interest::READABLE)?;
+    Ok(socket)
+}
+
+// The parts of a loop at an address, with places for so many streams.
+fn parts_at<N: Net>(
+    net: &N,
+    alloc: Global,
+    address: SocketAddr,
+    connections: usize,
+) -> Result<Parts, LoopFault>
+    ensures { IfOk result (λ p. p.streams ≡ record { limit = connections; held = 0 }) }
+{
+    let poll = Poll::new(net)?;
+    let listener = listen(net, poll.registry(), address)?;
+    let streams = Streams::new(alloc, listener, connections)?;
+    let socket = receive(net, poll.registry(), streams.address()?)?;
+    Ok(Parts {
+        poll,
+        datagrams: Datagrams::new(alloc, socket)?,
+        events: Events::with_capacity(alloc, EVENTS)?,
+        streams,
+    })
+}
+
 impl<S: Serve + Drop> AgentLoop<S> {
     /// A loop that listens at one of the addresses of a configuration, for datagrams and for streams. All its
     /// memory is taken here, but that of the streams and the answers.
@@ -84,21 +128,27 @@ impl<S: Serve + Drop> AgentLoop<S> {
     {
         let listen = config.listen.as_slice();
         let (own, port) = listen[place];
-        let ip = Ipv4Addr::from_bits(own.0);
-        let poll = Poll::new(net)?;
-        let mut listener = TcpListener::bind(net, SocketAddr::from((ip, port)))?;
-        let mut datagrams = UdpSocket::bind(net, listener.local_addr()?)?;
-        poll.registry()
-            .register(&mut listener, LISTENER, Interest::READABLE)?;
-        poll.registry()
-            .register(&mut datagrams, DATAGRAMS, Interest::READABLE)?;
-        Ok(AgentLoop {
-            poll,
-            events: Events::with_capacity(alloc, EVENTS)?,
-            datagrams: Datagrams::new(alloc, datagrams)?,
-            streams: Streams::new(alloc, listener, config.connections)?,
-            server,
-        })
+        let address = SocketAddr::from((Ipv4Addr::from_bits(own.0), port));
+        match parts_at(net, alloc, address, config.connections) {
+            Ok(
+                Parts {
+                    poll,
+                    events,
+                    datagrams,
+                    streams,
+                },
+            ) => Ok(AgentLoop {
+                poll,
+                events,
+                datagrams,
+                streams,
+                server,
+            }),
+            Err(fault) => {
+                drop(server);
+                Err(fault)
+            }
+        }
     }
 
     /// The address that it listens at.
