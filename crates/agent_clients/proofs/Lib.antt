@@ -1,3 +1,3 @@
 pub mod Registrations
 pub mod Sendings
-pub mod Stages
+pub mod Spellings

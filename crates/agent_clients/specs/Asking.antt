@@ -49,13 +49,13 @@ waits_for due = Ok (Wait (min due last_moment))
 abbrev pub fails : ClientFault → Stepped
 fails e = record { answer = Err e; stage = Failed e }
 
--- where the agent stays as it is
+-- where the agent stays as it is; before its start nothing is due
 abbrev pub stays : Stage → Stepped
 stays (Finished items) = record { answer = Ok Done; stage = Finished items }
 stays (Failed e) = record { answer = Err e; stage = Failed e }
 stays (ByDatagram start last) = record { answer = waits_for (next_due start last); stage = ByDatagram start last }
 stays (ByStream since) = record { answer = waits_for (since + patience); stage = ByStream since }
-stays Unstarted = record { answer = Ok Done; stage = Unstarted }
+stays Unstarted = record { answer = waits_for last_moment; stage = Unstarted }
 
 -- What is due at a moment: giving up, then one sending for all that are due, and else waiting.
 abbrev pub due_at : ℕ → Stage → Stepped
@@ -106,14 +106,6 @@ started now request = if nat_lt longest_datagram (length request) then ByStream 
 
 abbrev pub first_step : List ℕ → Step
 first_step request = if nat_lt longest_datagram (length request) then OpenStream else Send
-
--- it was started
-abbrev pub IsStarted : Stage → Type 0
-IsStarted Unstarted = ⊥
-IsStarted (ByDatagram start last) = Unit {0}
-IsStarted (ByStream since) = Unit {0}
-IsStarted (Finished items) = Unit {0}
-IsStarted (Failed e) = Unit {0}
 
 -- what was found
 abbrev pub items_of : Stage → Option Items

@@ -1,6 +1,5 @@
 //! A request and its reply on real sockets.
-ghost use Rattle.std.specs.Prelude.{◌≡◌, ◌≤◌, length, vec_len, IfOk, OnOk, IfSome};
-ghost use Rattle.agent_clients.specs.Asking.{IsStarted};
+ghost use Rattle.std.specs.Prelude.{◌≡◌, ◌≤◌, length, vec_len, IfOk, IfSome};
 ghost use Rattle.agent_clients.specs.declared.user_agent.Stage.TheVariants.{Unstarted};
 
 use crate::fault::ClientFault;
@@ -158,39 +157,23 @@ fn read_some<R: Clock>(
     }
 }
 
-// Takes an event. An agent that was started stays so.
-fn tell(
-    alloc: Global,
-    agent: &mut UserAgent,
-    now: u32,
-    event: Event<'_>,
-) -> Result<Step, ClientFault>
-    requires { IsStarted agent.old.stage }
-    ensures { IsStarted agent.new.stage }
-{
-    agent.step(alloc, now, event)
-}
-
 // Takes the whole messages that wait, and answers the last step.
 fn take_whole(
     alloc: Global,
     agent: &mut UserAgent,
     framer: &mut Framer,
     now: u32,
-) -> Result<Step, ClientFault>
-    requires { IsStarted agent.old.stage }
-    ensures { IsStarted agent.new.stage }
-{
+) -> Result<Step, ClientFault> {
     while let Some(next) = framer.next() {
         let step = match next {
-            Ok(message) => tell(alloc, agent, now, Event::Stream(message))?,
-            Err(_) => return tell(alloc, agent, now, Event::StreamFailed),
+            Ok(message) => agent.step(alloc, now, Event::Stream(message))?,
+            Err(_) => return agent.step(alloc, now, Event::StreamFailed),
         };
         if step == Step::Done {
             return Ok(Step::Done);
         }
     }
-    tell(alloc, agent, now, Event::Tick)
+    agent.step(alloc, now, Event::Tick)
 }
 
 // Takes bytes of the stream, and answers the last step.
@@ -200,14 +183,11 @@ fn take(
     framer: &mut Framer,
     now: u32,
     piece: &[u8],
-) -> Result<Step, ClientFault>
-    requires { IsStarted agent.old.stage }
-    ensures { IsStarted agent.new.stage }
-{
+) -> Result<Step, ClientFault> {
     match framer.feed(piece) {
         Ok(()) => take_whole(alloc, agent, framer, now),
         Err(FrameFault::NoMemory) => Err(ClientFault::NoMemory),
-        Err(_) => tell(alloc, agent, now, Event::StreamFailed),
+        Err(_) => agent.step(alloc, now, Event::StreamFailed),
     }
 }
 
@@ -216,10 +196,8 @@ fn fail<R: Clock>(
     alloc: Global,
     timer: &Timer<'_, R>,
     agent: &mut UserAgent,
-) -> Result<(), ClientFault>
-    requires { IsStarted agent.old.stage }
-{
-    tell(alloc, agent, timer.now()?, Event::StreamFailed)?;
+) -> Result<(), ClientFault> {
+    agent.step(alloc, timer.now()?, Event::StreamFailed)?;
     Ok(())
 }
 
@@ -230,12 +208,10 @@ fn read_reply<R: Clock + Wait>(
     agent: &mut UserAgent,
     stream: &mut TcpStream,
     framer: &mut Framer,
-) -> Result<(), ClientFault>
-    requires { IsStarted agent.old.stage }
-{
+) -> Result<(), ClientFault> {
     let mut chunk = [0; CHUNK];
     for _ in timer.rt.forever() {
-        let Step::Wait(moment) = tell(alloc, agent, timer.now()?, Event::Tick)? else {
+        let Step::Wait(moment) = agent.step(alloc, timer.now()?, Event::Tick)? else {
             return Ok(());
         };
         match read_some(timer, stream, moment, &mut chunk) {
@@ -261,7 +237,6 @@ fn ask_on_stream<R>(
 ) -> Result<(), ClientFault>
 where
     R: Net<Stream = TcpStream> + Clock + Wait,
-    requires { IsStarted agent.old.stage }
 {
     let Ok(mut stream) = open(timer.rt, peer, agent.request()) else {
         return fail(alloc, timer, agent);
@@ -276,12 +251,9 @@ fn send_request<R: Clock>(
     alloc: Global,
     agent: &mut UserAgent,
     datagrams: &Datagrams,
-) -> Result<Step, ClientFault>
-    requires { IsStarted agent.old.stage }
-    ensures { IsStarted agent.new.stage }
-{
+) -> Result<Step, ClientFault> {
     datagrams.send(agent.request())?;
-    tell(alloc, agent, timer.now()?, Event::Tick)
+    agent.step(alloc, timer.now()?, Event::Tick)
 }
 
 // Waits for a datagram until a moment, and answers the next step.
@@ -291,20 +263,12 @@ fn take_datagram<R: Clock>(
     agent: &mut UserAgent,
     datagrams: &mut Datagrams,
     moment: u32,
-) -> Result<Step, ClientFault>
-    requires { IsStarted agent.old.stage }
-    ensures { IsStarted agent.new.stage }
-{
+) -> Result<Step, ClientFault> {
     let Some(count) = datagrams.receive(timer, moment)? else {
-        return tell(alloc, agent, timer.now()?, Event::Tick);
+        return agent.step(alloc, timer.now()?, Event::Tick);
     };
     let now = timer.now()?;
-    tell(
-        alloc,
-        agent,
-        now,
-        Event::Datagram(&datagrams.buffer[..count]),
-    )
+    agent.step(alloc, now, Event::Datagram(&datagrams.buffer[..count]))
 }
 
 // Asks by datagrams, until the reply is there or a stream is wanted, and answers whether one is.
@@ -315,7 +279,6 @@ fn ask_by_datagrams<R: Clock + Wait>(
     datagrams: &mut Datagrams,
 ) -> Result<bool, ClientFault>
     requires { agent.old.stage ≡ Unstarted }
-    ensures { OnOk result (IsStarted agent.new.stage) }
 {
     let mut step = agent.start(timer.now()?);
     for _ in timer.rt.forever() {

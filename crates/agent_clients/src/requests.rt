@@ -1,10 +1,11 @@
 //! Requests by their parts (RFC 2608, sections 8.1, 8.3, 10.1, 10.3 and 10.6).
-ghost use Rattle.std.specs.Prelude.{◌≡◌, ◌⊎◌, false, true, [], MatchResult};
+ghost use Rattle.std.specs.Prelude.{◌≡◌, ◌⊎◌, ◌≤◌, false, true, [], length, IfOk, MatchResult};
 ghost use Rattle.std.specs.List.{list_all};
 ghost use Rattle.std.specs.Option.{option_copied};
 ghost use Rattle.slp_messages.specs.Tags.{is_tag_byte};
 ghost use Rattle.slp_messages.specs.Views.{registration_in};
 ghost use Rattle.slp_messages.specs.declared.message.Message.TheVariants as message;
+ghost use Rattle.agent_clients.specs.Keeping.{IsRegistration};
 ghost use Rattle.agent_clients.specs.Requests.{is_tag, request_header, authority_of, IsSpelled, IsUnbuilt};
 ghost use Rattle.agent_clients.specs.declared.fault.ClientFault.TheVariants as fault;
 
@@ -149,17 +150,23 @@ pub fn type_request(
     encoded(alloc, Message::TypeRequest(header, request))
 }
 
-/// A new registration of a service.
+/// A new registration of a service. A service agent may keep it.
+#[tactic(auto, using(crate::proofs::Spellings::registration_is_read))]
 pub fn registration(
     alloc: Global,
     header: &RequestHeader<'_>,
     service: &RegistrationView<'_>,
 ) -> Result<Vec<u8>, ClientFault>
-    ensures { let m = message.Registration (request_header true header.now) (registration_in service.now) in MatchResult result (λ v. IsSpelled m v.items) (IsUnbuilt m) }
+    ensures spelled { let m = message.Registration (request_header true header.now) (registration_in service.now) in MatchResult result (λ v. IsSpelled m v.items) (IsUnbuilt m) }
+    ensures read { IfOk result (λ v. IsRegistration v.items) }
+    ensures short { IfOk result (λ v. length v.items ≤ 65535) }
 {
     let header = header_with(alloc, header, true)?;
     let service = service.copy(alloc)?;
-    encoded(alloc, Message::Registration(header, service))
+    match encoded(alloc, Message::Registration(header, service)) {
+        Ok(bytes) => Ok(bytes),
+        Err(fault) => Err(fault),
+    }
 }
 
 /// A withdrawal of a URL, or of those of its attributes that the tags select, where there are any.

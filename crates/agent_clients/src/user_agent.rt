@@ -1,6 +1,6 @@
 ghost use Rattle.std.specs.Prelude.{◌≡◌, ◌⊎◌, ◌+◌, min, OnErr, IfOk, IfErr, Ok, Err};
 ghost use Rattle.std.specs.Option.{option_copied};
-ghost use Rattle.agent_clients.specs.Asking.{Asking, next_due, waits_for, due_at, taken, stepped, started, first_step, items_of, IsStarted};
+ghost use Rattle.agent_clients.specs.Asking.{Asking, next_due, waits_for, due_at, taken, stepped, started, first_step, items_of};
 ghost use Rattle.agent_clients.specs.declared.fault.ClientFault.TheVariants as fault;
 ghost use Rattle.agent_clients.specs.declared.user_agent.Stage.TheVariants.{Unstarted};
 ghost use Rattle.agent_clients.specs.declared.user_agent.Stage.TheVariants as stage;
@@ -174,7 +174,8 @@ impl UserAgent {
                 Ok(wait(due))
             }
             Stage::Failed(fault) => Err(fault),
-            Stage::Finished(_) | Stage::Unstarted => Ok(Step::Done),
+            Stage::Finished(_) => Ok(Step::Done),
+            Stage::Unstarted => Ok(Step::Wait(u32::MAX)),
         }
     }
 
@@ -200,9 +201,8 @@ impl UserAgent {
     /// Takes an event at a moment, in seconds. A reply counts where its function is that of a reply to the
     /// request, or it is a directory's advert and services are asked for, and its XID is the request's; all else is
     /// skipped. A reply of code 0 that is whole is `Done`, and so is each later step. `Code`, `Partial`, `Io`
-    /// and `GaveUp` stay: each later step answers the same. `NoMemory` changes nothing.
+    /// and `GaveUp` stay: each later step answers the same. `NoMemory` changes nothing. Before the start nothing is due.
     pub fn step(&mut self, alloc: Global, now: u32, event: Event<'_>) -> Result<Step, ClientFault>
-        requires started { IsStarted self.old.stage }
         ensures { ((result ≡ Err fault.NoMemory) × (self.new ≡ self.old)) ⊎ ((result ≡ (stepped self.old now event.entry).answer) × (self.new ≡ record self.old { stage = (stepped self.old now event.entry).stage })) }
     {
         let is_by_datagram = match &self.stage {
@@ -210,7 +210,7 @@ impl UserAgent {
             Stage::Failed(fault) => return Err(*fault),
             Stage::ByDatagram { .. } => true,
             Stage::ByStream { .. } => false,
-            Stage::Unstarted => unreachable!(),
+            Stage::Unstarted => return Ok(Step::Wait(u32::MAX)),
         };
         let brought = match event {
             Event::Tick => return self.tick(now),

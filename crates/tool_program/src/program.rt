@@ -1,11 +1,10 @@
-ghost use Rattle.std.specs.Prelude.{◌≤◌, length, IfOk};
+ghost use Rattle.std.specs.Prelude.{◌≤◌, length};
 ghost use Rattle.agent_clients.specs.Keeping.{IsRegistration};
 
 use crate::command::Command;
 use crate::printing::{print_fault, print_items};
 use access_rules::Addr;
 use agent_clients::{ClientFault, RequestHeader, ServiceAgent, ask, keep_alive, registration};
-use slp_messages::RegistrationView;
 use std::alloc::Global;
 use std::io::{self, ErrorKind, Read, Write};
 use std::net::{Ipv4Addr, Net, SocketAddr, TcpStream};
@@ -93,21 +92,6 @@ where
     }
 }
 
-// The registration that is kept.
-fn kept_request(
-    alloc: Global,
-    header: &RequestHeader<'_>,
-    service: &RegistrationView<'_>,
-) -> Result<Vec<u8>, ClientFault>
-    ensures read { IfOk result (λ v. IsRegistration v.items) }
-    ensures short { IfOk result (λ v. length v.items ≤ 65535) }
-{
-    match registration(alloc, header, service) {
-        Ok(bytes) => Ok(bytes),
-        Err(fault) => Err(fault),
-    }
-}
-
 // Does what a command asks for, and prints what comes of it.
 fn act<R, I, W>(
     rt: &R,
@@ -126,7 +110,7 @@ where
         language: "en",
     };
     if let Command::Keep(service) = command {
-        let request = kept_request(alloc, &header, &service)?;
+        let request = registration(alloc, &header, &service)?;
         keep(rt, alloc, peer, request, reader)?;
         return Ok(writer.write_all(b"ok\n"));
     }

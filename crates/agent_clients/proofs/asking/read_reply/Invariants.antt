@@ -1,5 +1,0 @@
-use Rattle.agent_clients.specs.Asking.{IsStarted}
-use Rattle.agent_clients.proofs.asking.read_reply.Given as goal
-
-abbrev pub invariant-loop : goal.invariant-loop
-invariant-loop g l = IsStarted l.agent.stage
