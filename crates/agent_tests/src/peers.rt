@@ -1,0 +1,135 @@
+//! A loop and many peers, over loopback.
+use crate::assertion::assert_holds;
+use crate::messages::{EMPTY_REPLY, LINE, REQUEST};
+use crate::site::{LOOPBACK, Still, config, directory};
+use slp_loops::{AgentLoop, Desk, LoopFault, Serve, Shared};
+use slp_text::Row;
+use std::io;
+use std::io::{ErrorKind, Read, Write};
+use std::net::{Ipv4Addr, Net, SocketAddr, TcpStream, UdpSocket};
+use std::sync::atomic::{AtomicBool, Ordering};
+use std::sync::{Mutex, Wait};
+use std::test::Fail;
+use std::thread::{Threads, join};
+use std::time::Duration;
+
+// Within so many seconds each reply comes, or the test fails.
+const PATIENCE: u64 = 30;
+
+fn open<R: Net<Stream = TcpStream>>(rt: &R, address: SocketAddr) -> io::Result<TcpStream> {
+    let stream = TcpStream::connect(rt, address)?;
+    stream.set_read_timeout(Some(Duration::from_secs(PATIENCE)))?;
+    Ok(stream)
+}
+
+// Whether a stream ends with nothing sent.
+fn is_closed_unread(mut stream: TcpStream) -> io::Result<bool> {
+    let mut byte = [0; 1];
+    match stream.read(&mut byte) {
+        Ok(count) => Ok(count == 0),
+        Err(e) if e.kind() == ErrorKind::ConnectionReset => Ok(true),
+        Err(e) => Err(e),
+    }
+}
+
+fn is_answered_by_datagram<R: Net>(rt: &R, address: SocketAddr) -> io::Result<bool> {
+    let socket = UdpSocket::bind(rt, SocketAddr::from((Ipv4Addr::LOCALHOST, 0)))?;
+    socket.set_read_timeout(Some(Duration::from_secs(PATIENCE)))?;
+    socket.send_to(&REQUEST, address)?;
+    let mut reply = [0; 64];
+    let (count, _) = socket.recv_from(&mut reply)?;
+    Ok(&reply[..count] == EMPTY_REPLY.as_slice())
+}
+
+// Eight streams at once, the second pieces in reverse order, a ninth, and a datagram: the replies that came, and
+// whether the ninth was closed unread.
+fn ask_all<R>(rt: &R, address: SocketAddr) -> io::Result<(usize, bool)>
+where
+    R: Net<Stream = TcpStream> + AllocGlobal,
+{
+    let mut streams = Vec::new(rt.alloc());
+    for _ in 0..8 {
+        let mut stream = open(rt, address)?;
+        stream.write_all(&REQUEST[..7])?;
+        streams.push(stream)?;
+    }
+    let ninth = is_closed_unread(open(rt, address)?)?;
+    let mut replies = 0usize;
+    for stream in streams.iter_mut().rev() {
+        stream.write_all(&REQUEST[7..])?;
+        let mut reply = [0; 20];
+        stream.read_exact(&mut reply)?;
+        if reply == EMPTY_REPLY {
+            replies = replies.saturating_add(1);
+        }
+    }
+    if is_answered_by_datagram(rt, address)? {
+        replies = replies.saturating_add(1);
+    }
+    Ok((replies, ninth))
+}
+
+// Runs the loop on a thread while the peers ask.
+fn serve_and_ask<R, S>(
+    rt: &R,
+    agent: &mut AgentLoop<S>,
+    address: SocketAddr,
+) -> (Result<(), LoopFault>, io::Result<(usize, bool)>)
+where
+    R: Threads + Wait + Net<Stream = TcpStream> + AllocGlobal + Sync,
+    S: Serve + Drop + Send,
+{
+    let stop = AtomicBool::new(false);
+    join(
+        rt,
+        || agent.run(rt, &stop),
+        || {
+            let asked = ask_all(rt, address);
+            stop.store(true, Ordering::SeqCst);
+            asked
+        },
+    )
+}
+
+// Whether these are so many lines of the request.
+fn are_lines(lines: &[u8], count: usize) -> bool {
+    let mut rest = lines;
+    for _ in 0..count {
+        match rest.strip_prefix(LINE.as_bytes()) {
+            Some(after) => rest = after,
+            None => return false,
+        }
+    }
+    rest.is_empty()
+}
+
+#[test]
+fn many_peers(rt: HostRuntime) -> Result<(), Fail> {
+    let alloc = rt.alloc();
+    let mut config = config(alloc)?;
+    config.listen = Row::wrap(vec![in alloc; (LOOPBACK, 0)]?);
+    let directory = directory(alloc)?;
+    let output = Mutex::new(Vec::new(alloc));
+    let shared = Shared {
+        directory: &directory,
+        output: &output,
+    };
+    let desk = Desk::new(&rt, alloc, shared, LOOPBACK, Still(0));
+    assert_holds(&rt, config.listen.as_slice().len() == 1, "one address");
+    let Ok(mut agent) = AgentLoop::new(&rt, alloc, &config, 0, desk) else {
+        panic!(rt; "no loop");
+    };
+    let address = agent.address()?;
+    let (served, asked) = serve_and_ask(&rt, &mut agent, address);
+    let (replies, is_ninth_closed) = asked?;
+    drop(agent);
+    assert_holds(&rt, replies == 9, "nine replies");
+    assert_holds(&rt, is_ninth_closed, "the ninth stream is closed unread");
+    assert_holds(&rt, served == Ok(()), "the loop ends when it is told");
+    assert_holds(
+        &rt,
+        are_lines(output.lock(&rt).as_slice(), 9),
+        "nine whole lines",
+    );
+    Ok(())
+}

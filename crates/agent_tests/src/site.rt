@@ -1,0 +1,66 @@
+//! A site at which everyone may do everything.
+ghost use Rattle.std.specs.Prelude.{◌≡◌, length, IfOk};
+ghost use Rattle.site_config.specs.Configurations.{IsWithin};
+
+use access_rules::{Addr, Rules};
+use directory_judge::Site;
+use directory_state::Directory;
+use registry_core::ListRegistry;
+use site_config::Config;
+use slp_loops::Moments;
+use srv_template::Templates;
+use std::alloc::Global;
+use std::sync::{Arc, Mutex};
+use std::test::Fail;
+
+/// The configuration of the site.
+const CONFIG: &str = "\
+scopes = \"DEFAULT\"
+listen = [\"127.0.0.1:4270\"]
+capacity = 16
+connections = 8
+";
+
+/// Its rule file.
+pub const RULES: &str = "\
+version = 1
+rule = [
+    { name = \"all-register\", from = [\"0.0.0.0/0\"], action = \"register\", type = \"*\", scopes = [\"*\"], verdict = \"allow\" },
+    { name = \"all-withdraw\", from = [\"0.0.0.0/0\"], action = \"withdraw\", type = \"*\", scopes = [\"*\"], verdict = \"allow\" },
+    { name = \"all-see\", from = [\"0.0.0.0/0\"], action = \"see\", type = \"*\", scopes = [\"*\"], verdict = \"allow\" },
+]
+";
+
+/// 127.0.0.1.
+pub const LOOPBACK: Addr = Addr(0x7f00_0001);
+
+/// The configuration of the site.
+pub fn config(alloc: Global) -> Result<Config, Fail>
+    ensures limits { IfOk result IsWithin }
+{
+    Ok(Config::from_text(alloc, CONFIG)?)
+}
+
+/// A directory of the site, without entries. It is boxed, since the proof of a function that lets go of one is long.
+pub fn directory(alloc: Global) -> Result<Box<Mutex<Directory<ListRegistry>>>, Fail> {
+    let config = config(alloc)?;
+    let templates = Arc::new(alloc, Templates::new(alloc))?;
+    let scopes = config.scopes.copy(alloc)?;
+    let site = Site::new(scopes, config.capacity, templates, 1);
+    let registry = ListRegistry::new(alloc, config.capacity)?;
+    let rules = Arc::new(alloc, Rules::from_text(alloc, RULES)?)?;
+    let directory = Mutex::new(Directory::open(alloc, registry, &site, rules)?);
+    Ok(Box::new(alloc, directory)?)
+}
+
+/// A clock that stands still.
+#[derive(Clone, Copy)]
+pub struct Still(pub u32);
+
+impl Moments for Still {
+    ghost may = { λ before moment after. (moment ≡ before.0) × (after ≡ before) };
+
+    fn now(&mut self) -> u32 {
+        self.0
+    }
+}
