@@ -4,7 +4,7 @@ use crate::site::RULES;
 use agent_program::agent_run;
 use std::alloc::{AllocError, Global};
 use std::io::{Read, Write};
-use std::net::{Ipv4Addr, Net, SocketAddr, TcpListener, TcpStream};
+use std::net::{Ipv4Addr, Net, SocketAddr, TcpListener, TcpStream, UdpSocket};
 use std::rt::Files;
 use std::sync::Wait;
 use std::test::Fail;
@@ -216,6 +216,21 @@ fn wrong_words_are_usage(rt: HostRuntime) -> Result<(), Fail> {
             "usage",
         );
     }
+    Ok(())
+}
+
+#[test]
+fn a_silent_agent_is_given_up(rt: HostRuntime) -> Result<(), Fail> {
+    let silent = UdpSocket::bind(&rt, SocketAddr::from((Ipv4Addr::LOCALHOST, 0)))?;
+    let port = silent.local_addr()?.port();
+    let peer = format!(in rt.alloc(); "127.0.0.1:{port}")?;
+    let (status, printed) = called(&rt, rt.alloc(), &[peer.as_str(), "types", "DEFAULT"])?;
+    assert_holds(&rt, status == 2, "the status of no answer");
+    assert_holds(
+        &rt,
+        printed.as_slice() == b"! no answer\n".as_slice(),
+        "it is told",
+    );
     Ok(())
 }
 
