@@ -2,8 +2,10 @@
 use crate::assertion::assert_holds;
 use crate::messages::{EMPTY_REPLY, LINE, REQUEST};
 use crate::site::{LOOPBACK, Still, config, directory};
+use site_config::Config;
 use slp_loops::{AgentLoop, Desk, LoopFault, Serve, Shared};
 use slp_text::Row;
+use std::alloc::Global;
 use std::io;
 use std::io::{ErrorKind, Read, Write};
 use std::net::{Ipv4Addr, Net, SocketAddr, TcpStream, UdpSocket};
@@ -103,11 +105,17 @@ fn are_lines(lines: &[u8], count: usize) -> bool {
     rest.is_empty()
 }
 
+// A configuration of one address, with any port that is free.
+fn config_at_loopback(alloc: Global) -> Result<Config, Fail> {
+    let mut config = config(alloc)?;
+    config.listen = Row::wrap(vec![in alloc; (LOOPBACK, 0)]?);
+    Ok(config)
+}
+
 #[test]
 fn many_peers(rt: HostRuntime) -> Result<(), Fail> {
     let alloc = rt.alloc();
-    let mut config = config(alloc)?;
-    config.listen = Row::wrap(vec![in alloc; (LOOPBACK, 0)]?);
+    let config = config_at_loopback(alloc)?;
     let directory = directory(alloc)?;
     let output = Mutex::new(Vec::new(alloc));
     let shared = Shared {
@@ -130,6 +138,67 @@ fn many_peers(rt: HostRuntime) -> Result<(), Fail> {
         &rt,
         are_lines(output.lock(&rt).as_slice(), 9),
         "nine whole lines",
+    );
+    Ok(())
+}
+
+// How many datagrams wait when the loop takes a turn: more than are received before the first is served.
+const WAITING: u8 = 40;
+
+// Has so many datagrams wait, each with an XID of its own, before the loop takes one turn. How many of the replies
+// are the next one; none where more come than were asked for.
+fn answered_in_order<R: Net, S: Serve + Drop>(
+    rt: &R,
+    agent: &mut AgentLoop<S>,
+    address: SocketAddr,
+) -> io::Result<u8> {
+    let socket = UdpSocket::bind(rt, SocketAddr::from((Ipv4Addr::LOCALHOST, 0)))?;
+    socket.set_read_timeout(Some(Duration::from_secs(PATIENCE)))?;
+    let (mut request, mut wanted) = (REQUEST, EMPTY_REPLY);
+    for number in 0..WAITING {
+        request[11] = number;
+        socket.send_to(&request, address)?;
+    }
+    if agent.turn().is_err() {
+        return Ok(0);
+    }
+    let mut next = 0;
+    for _ in 0..WAITING {
+        let mut reply = [0; 64];
+        let (count, _) = socket.recv_from(&mut reply)?;
+        wanted[11] = next;
+        if &reply[..count] == wanted.as_slice() {
+            next = next.saturating_add(1);
+        }
+    }
+    socket.set_nonblocking(true)?;
+    let is_more = socket.recv_from(&mut [0; 64]).is_ok();
+    Ok(if is_more { 0 } else { next })
+}
+
+#[test]
+fn datagrams_that_wait_are_answered_in_order(rt: HostRuntime) -> Result<(), Fail> {
+    let alloc = rt.alloc();
+    let config = config_at_loopback(alloc)?;
+    let directory = directory(alloc)?;
+    let output = Mutex::new(Vec::new(alloc));
+    let shared = Shared {
+        directory: &directory,
+        output: &output,
+    };
+    let desk = Desk::new(&rt, alloc, shared, LOOPBACK, Still(0));
+    assert_holds(&rt, config.listen.as_slice().len() == 1, "one address");
+    let Ok(mut agent) = AgentLoop::new(&rt, alloc, &config, 0, desk) else {
+        panic!(rt; "no loop");
+    };
+    let address = agent.address()?;
+    let answered = answered_in_order(&rt, &mut agent, address)?;
+    drop(agent);
+    assert_holds(&rt, answered == WAITING, "each reply, in order");
+    assert_holds(
+        &rt,
+        are_lines(output.lock(&rt).as_slice(), usize::from(WAITING)),
+        "a whole line for each",
     );
     Ok(())
 }

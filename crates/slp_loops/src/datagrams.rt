@@ -1,3 +1,5 @@
+ghost use Rattle.std.specs.Prelude.{◌≤◌, vec_len};
+
 use crate::fault::LoopFault;
 use crate::serve::Serve;
 use access_rules::Addr;
@@ -5,8 +7,8 @@ use mio::net::UdpSocket;
 use mio::{Interest, Registry, Token};
 use slp_answer::{Answer, Sent, refusal};
 use std::alloc::{AllocError, Global};
-use std::io::ErrorKind;
-use std::net::SocketAddr;
+use std::io::{self, ErrorKind};
+use std::net::{Ipv4Addr, SocketAddr};
 
 /// The token of the socket.
 pub const DATAGRAMS: Token = Token(0xffff_ffff_ffff_fffe);
@@ -16,54 +18,115 @@ const LONGEST_DATAGRAM: usize = 65_535;
 
 const LONGEST_REPLY: usize = 1_400;
 
-/// How many datagrams one event may bring. What is left is reported again, so that the streams get
-/// their turn.
-const AT_ONCE: usize = 256;
+/// How many datagrams are received before the first is served, and served before the first answer is
+/// sent: what does one thing many times finds its code in the processor's caches.
+const TOGETHER: usize = 16;
+
+/// How many times as many one event may bring. What is left is reported again, so that the streams
+/// get their turn.
+const ROUNDS: usize = 16;
+
+/// A datagram, and what is answered.
+#[derive(Drop)]
+struct Exchange {
+    buffer: Vec<u8>,
+    // How many bytes of the buffer have come.
+    length: usize,
+    from: SocketAddr,
+    answer: Answer,
+    is_answered: bool,
+    ghost within: { length ≤ vec_len buffer },
+}
 
 /// A socket of datagrams, with what serving takes.
 #[derive(Drop)]
 pub struct Datagrams {
     socket: UdpSocket,
-    buffer: Vec<u8>,
-    answer: Answer,
+    exchanges: Vec<Exchange>,
 }
 
-// Serves one datagram, and sends what is answered. A reply that the system does not take now is
-// dropped: datagrams may be lost, and their senders ask again.
-fn serve_datagram<S: Serve>(
-    socket: &UdpSocket,
-    server: &mut S,
-    answer: &mut Answer,
-    message: &[u8],
-    from: SocketAddr,
-) {
-    let SocketAddr::V4(v4) = from else {
-        return;
-    };
-    let asker = Addr(v4.ip().to_bits());
-    match server.serve(asker, message, LONGEST_REPLY, answer) {
-        Ok(Sent::Bytes(_)) => {
-            let _ = socket.send_to(answer.bytes.as_slice(), from);
-        }
-        Ok(Sent::Silence) => {}
-        Err(_) => {
-            let mut reply = [0; 80];
-            let mut line = [0; 128];
-            let (length, _) = refusal(message, asker, &mut reply, &mut line);
-            if length > 0 {
-                let _ = socket.send_to(&reply[..length], from);
+impl Exchange {
+    fn new(alloc: Global) -> Result<Exchange, AllocError> {
+        Ok(Exchange {
+            buffer: vec![in alloc; 0; LONGEST_DATAGRAM]?,
+            length: 0,
+            from: SocketAddr::from((Ipv4Addr::UNSPECIFIED, 0)),
+            answer: Answer::new(alloc),
+            is_answered: false,
+        })
+    }
+
+    // Takes the next datagram.
+    fn receive(&mut self, socket: &UdpSocket) -> io::Result<()> {
+        let (length, from) = socket.recv_from(self.buffer.as_mut_slice())?;
+        self.length = length;
+        self.from = from;
+        Ok(())
+    }
+
+    // Makes the answer. One for which there is no memory is sent at once.
+    fn serve<S: Serve>(&mut self, socket: &UdpSocket, server: &mut S) {
+        self.is_answered = false;
+        let SocketAddr::V4(v4) = self.from else {
+            return;
+        };
+        let asker = Addr(v4.ip().to_bits());
+        let message = &self.buffer[..self.length];
+        match server.serve(asker, message, LONGEST_REPLY, &mut self.answer) {
+            Ok(Sent::Bytes(_)) => self.is_answered = true,
+            Ok(Sent::Silence) => {}
+            Err(_) => {
+                let mut reply = [0; 80];
+                let mut line = [0; 128];
+                let (length, _) = refusal(message, asker, &mut reply, &mut line);
+                if length > 0 {
+                    let _ = socket.send_to(&reply[..length], self.from);
+                }
             }
+        }
+    }
+
+    // Sends the answer. One that the system does not take now is dropped: datagrams may be lost, and
+    // their senders ask again.
+    fn send(&self, socket: &UdpSocket) {
+        if self.is_answered {
+            let _ = socket.send_to(self.answer.bytes.as_slice(), self.from);
         }
     }
 }
 
 impl Datagrams {
     pub fn new(alloc: Global, socket: UdpSocket) -> Result<Datagrams, AllocError> {
-        Ok(Datagrams {
-            socket,
-            buffer: vec![in alloc; 0; LONGEST_DATAGRAM]?,
-            answer: Answer::new(alloc),
-        })
+        let mut exchanges = Vec::with_capacity(alloc, TOGETHER)?;
+        for _ in 0..TOGETHER {
+            exchanges.push(Exchange::new(alloc)?)?;
+        }
+        Ok(Datagrams { socket, exchanges })
+    }
+
+    // Takes datagrams, one for each exchange: how many, and whether there may be more.
+    fn receive(&mut self) -> (usize, Result<bool, LoopFault>) {
+        for (count, exchange) in self.exchanges.iter_mut().enumerate() {
+            if let Err(e) = exchange.receive(&self.socket) {
+                let rest = match e.kind() {
+                    ErrorKind::WouldBlock => Ok(false),
+                    ErrorKind::Interrupted => Ok(true),
+                    _ => Err(LoopFault::Io),
+                };
+                return (count, rest);
+            }
+        }
+        (self.exchanges.len(), Ok(true))
+    }
+
+    // Answers those that were received, in their order.
+    fn answer<S: Serve>(&mut self, count: usize, server: &mut S) {
+        for exchange in self.exchanges.iter_mut().take(count) {
+            exchange.serve(&self.socket, server);
+        }
+        for exchange in self.exchanges.iter().take(count) {
+            exchange.send(&self.socket);
+        }
     }
 
     /// Serves what has come. `Io` where the socket itself failed.
@@ -72,20 +135,11 @@ impl Datagrams {
         registry: &Registry,
         server: &mut S,
     ) -> Result<(), LoopFault> {
-        for _ in 0..AT_ONCE {
-            match self.socket.recv_from(self.buffer.as_mut_slice()) {
-                Ok((count, from)) => serve_datagram(
-                    &self.socket,
-                    server,
-                    &mut self.answer,
-                    &self.buffer[..count],
-                    from,
-                ),
-                Err(e) => match e.kind() {
-                    ErrorKind::WouldBlock => return Ok(()),
-                    ErrorKind::Interrupted => {}
-                    _ => return Err(LoopFault::Io),
-                },
+        for _ in 0..ROUNDS {
+            let (count, rest) = self.receive();
+            self.answer(count, server);
+            if !rest? {
+                return Ok(());
             }
         }
         registry.reregister(&mut self.socket, DATAGRAMS, Interest::READABLE)?;
