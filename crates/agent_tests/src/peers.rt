@@ -1,4 +1,6 @@
 //! A loop and many peers, over loopback.
+ghost use Rattle.std.specs.Prelude.{◌≡◌, length, IfOk};
+
 use crate::assertion::assert_holds;
 use crate::messages::{EMPTY_REPLY, LINE, REQUEST};
 use crate::site::{LOOPBACK, Still, config, directory};
@@ -106,7 +108,9 @@ fn are_lines(lines: &[u8], count: usize) -> bool {
 }
 
 // A configuration of one address, with any port that is free.
-fn config_at_loopback(alloc: Global) -> Result<Config, Fail> {
+fn config_at_loopback(alloc: Global) -> Result<Config, Fail>
+    ensures { IfOk result (λ config. length config.listen ≡ 1) }
+{
     let mut config = config(alloc)?;
     config.listen = Row::wrap(vec![in alloc; (LOOPBACK, 0)]?);
     Ok(config)
@@ -123,7 +127,6 @@ fn many_peers(rt: HostRuntime) -> Result<(), Fail> {
         output: &output,
     };
     let desk = Desk::new(&rt, alloc, shared, LOOPBACK, Still(0));
-    assert_holds(&rt, config.listen.as_slice().len() == 1, "one address");
     let Ok(mut agent) = AgentLoop::new(&rt, alloc, &config, 0, desk) else {
         panic!(rt; "no loop");
     };
@@ -187,7 +190,6 @@ fn datagrams_that_wait_are_answered_in_order(rt: HostRuntime) -> Result<(), Fail
         output: &output,
     };
     let desk = Desk::new(&rt, alloc, shared, LOOPBACK, Still(0));
-    assert_holds(&rt, config.listen.as_slice().len() == 1, "one address");
     let Ok(mut agent) = AgentLoop::new(&rt, alloc, &config, 0, desk) else {
         panic!(rt; "no loop");
     };
