@@ -7,6 +7,8 @@ mod assertion;
 #[cfg(test)]
 mod clients;
 #[cfg(test)]
+mod clock;
+#[cfg(test)]
 mod fakes;
 #[cfg(test)]
 mod messages;

@@ -179,8 +179,39 @@ fn answered_in_order<R: Net, S: Serve + Drop>(
     Ok(if is_more { 0 } else { next })
 }
 
+// How many streams wait at once: more than one turn accepts.
+const STREAMS_WAITING: usize = 72;
+
+// Has so many streams wait before the loop takes two turns. How many of those past its limit are closed unread.
+fn closed_after_two_turns<R, S>(
+    rt: &R,
+    agent: &mut AgentLoop<S>,
+    address: SocketAddr,
+) -> io::Result<usize>
+where
+    R: Net<Stream = TcpStream> + AllocGlobal,
+    S: Serve + Drop,
+{
+    let mut streams = Vec::new(rt.alloc());
+    for _ in 0..STREAMS_WAITING {
+        streams.push(open(rt, address)?)?;
+    }
+    for _ in 0..2 {
+        if agent.turn().is_err() {
+            return Ok(0);
+        }
+    }
+    let mut closed = 0usize;
+    for stream in streams.into_iter().skip(8) {
+        if is_closed_unread(stream)? {
+            closed = closed.saturating_add(1);
+        }
+    }
+    Ok(closed)
+}
+
 #[test]
-fn datagrams_that_wait_are_answered_in_order(rt: HostRuntime) -> Result<(), Fail> {
+fn what_waits_is_served(rt: HostRuntime) -> Result<(), Fail> {
     let alloc = rt.alloc();
     let config = config_at_loopback(alloc)?;
     let directory = directory(alloc)?;
@@ -195,8 +226,14 @@ fn datagrams_that_wait_are_answered_in_order(rt: HostRuntime) -> Result<(), Fail
     };
     let address = agent.address()?;
     let answered = answered_in_order(&rt, &mut agent, address)?;
+    let closed = closed_after_two_turns(&rt, &mut agent, address)?;
     drop(agent);
     assert_holds(&rt, answered == WAITING, "each reply, in order");
+    assert_holds(
+        &rt,
+        closed == STREAMS_WAITING - 8,
+        "each stream past the limit is closed",
+    );
     assert_holds(
         &rt,
         are_lines(output.lock(&rt).as_slice(), usize::from(WAITING)),
