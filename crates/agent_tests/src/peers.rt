@@ -1,13 +1,9 @@
 //! A loop and many peers, over loopback.
-ghost use Rattle.std.specs.Prelude.{◌≡◌, length, IfOk};
-
 use crate::assertion::assert_holds;
 use crate::messages::{EMPTY_REPLY, LINE, REQUEST};
 use crate::site::{LOOPBACK, Still, config, directory};
-use site_config::Config;
 use slp_loops::{AgentLoop, Desk, LoopFault, Serve, Shared};
 use slp_text::Row;
-use std::alloc::Global;
 use std::io;
 use std::io::{ErrorKind, Read, Write};
 use std::net::{Ipv4Addr, Net, SocketAddr, TcpStream, UdpSocket};
@@ -107,44 +103,6 @@ fn are_lines(lines: &[u8], count: usize) -> bool {
     rest.is_empty()
 }
 
-// A configuration of one address, with any port that is free.
-fn config_at_loopback(alloc: Global) -> Result<Config, Fail>
-    ensures { IfOk result (λ config. length config.listen ≡ 1) }
-{
-    let mut config = config(alloc)?;
-    config.listen = Row::wrap(vec![in alloc; (LOOPBACK, 0)]?);
-    Ok(config)
-}
-
-#[test]
-fn many_peers(rt: HostRuntime) -> Result<(), Fail> {
-    let alloc = rt.alloc();
-    let config = config_at_loopback(alloc)?;
-    let directory = directory(alloc)?;
-    let output = Mutex::new(Vec::new(alloc));
-    let shared = Shared {
-        directory: &directory,
-        output: &output,
-    };
-    let desk = Desk::new(&rt, alloc, shared, LOOPBACK, Still(0));
-    let Ok(mut agent) = AgentLoop::new(&rt, alloc, &config, 0, desk) else {
-        panic!(rt; "no loop");
-    };
-    let address = agent.address()?;
-    let (served, asked) = serve_and_ask(&rt, &mut agent, address);
-    let (replies, is_ninth_closed) = asked?;
-    drop(agent);
-    assert_holds(&rt, replies == 9, "nine replies");
-    assert_holds(&rt, is_ninth_closed, "the ninth stream is closed unread");
-    assert_holds(&rt, served == Ok(()), "the loop ends when it is told");
-    assert_holds(
-        &rt,
-        are_lines(output.lock(&rt).as_slice(), 9),
-        "nine whole lines",
-    );
-    Ok(())
-}
-
 // How many datagrams wait when the loop takes a turn: more than are received before the first is served.
 const WAITING: u8 = 40;
 
@@ -211,9 +169,10 @@ where
 }
 
 #[test]
-fn what_waits_is_served(rt: HostRuntime) -> Result<(), Fail> {
+fn many_peers(rt: HostRuntime) -> Result<(), Fail> {
     let alloc = rt.alloc();
-    let config = config_at_loopback(alloc)?;
+    let mut config = config(alloc)?;
+    config.listen = Row::wrap(vec![in alloc; (LOOPBACK, 0)]?);
     let directory = directory(alloc)?;
     let output = Mutex::new(Vec::new(alloc));
     let shared = Shared {
@@ -221,14 +180,24 @@ fn what_waits_is_served(rt: HostRuntime) -> Result<(), Fail> {
         output: &output,
     };
     let desk = Desk::new(&rt, alloc, shared, LOOPBACK, Still(0));
+    assert_holds(&rt, config.listen.as_slice().len() == 1, "one address");
     let Ok(mut agent) = AgentLoop::new(&rt, alloc, &config, 0, desk) else {
         panic!(rt; "no loop");
     };
     let address = agent.address()?;
+    let (served, asked) = serve_and_ask(&rt, &mut agent, address);
+    let (replies, is_ninth_closed) = asked?;
     let answered = answered_in_order(&rt, &mut agent, address)?;
     let closed = closed_after_two_turns(&rt, &mut agent, address)?;
     drop(agent);
-    assert_holds(&rt, answered == WAITING, "each reply, in order");
+    assert_holds(&rt, replies == 9, "nine replies");
+    assert_holds(&rt, is_ninth_closed, "the ninth stream is closed unread");
+    assert_holds(&rt, served == Ok(()), "the loop ends when it is told");
+    assert_holds(
+        &rt,
+        answered == WAITING,
+        "each datagram is answered once, in order",
+    );
     assert_holds(
         &rt,
         closed == STREAMS_WAITING - 8,
@@ -236,8 +205,8 @@ fn what_waits_is_served(rt: HostRuntime) -> Result<(), Fail> {
     );
     assert_holds(
         &rt,
-        are_lines(output.lock(&rt).as_slice(), usize::from(WAITING)),
-        "a whole line for each",
+        are_lines(output.lock(&rt).as_slice(), 9 + usize::from(WAITING)),
+        "a whole line for each message",
     );
     Ok(())
 }

@@ -21,6 +21,8 @@ capacity = 16
 connections = 8
 ";
 
+const CAPACITY: usize = 16;
+
 /// Its rule file.
 pub const RULES: &str = "\
 version = 1
@@ -41,16 +43,19 @@ pub fn config(alloc: Global) -> Result<Config, Fail>
     Ok(Config::from_text(alloc, CONFIG)?)
 }
 
+// What the site supports, and asks for.
+fn site(alloc: Global) -> Result<Site, Fail> {
+    let scopes = config(alloc)?.scopes;
+    let templates = Arc::new(alloc, Templates::new(alloc))?;
+    Ok(Site::new(scopes, CAPACITY, templates, 1))
+}
+
 /// A directory of the site, without entries. It is boxed, since the proof of a function that lets go of one is long.
 pub fn directory(alloc: Global) -> Result<Box<Mutex<Directory<ListRegistry>>>, Fail> {
-    let config = config(alloc)?;
-    let templates = Arc::new(alloc, Templates::new(alloc))?;
-    let scopes = config.scopes.copy(alloc)?;
-    let site = Site::new(scopes, config.capacity, templates, 1);
-    let registry = ListRegistry::new(alloc, config.capacity)?;
     let rules = Arc::new(alloc, Rules::from_text(alloc, RULES)?)?;
-    let directory = Mutex::new(Directory::open(alloc, registry, &site, rules)?);
-    Ok(Box::new(alloc, directory)?)
+    let registry = ListRegistry::new(alloc, CAPACITY)?;
+    let directory = Directory::open(alloc, registry, &site(alloc)?, rules)?;
+    Ok(Box::new(alloc, Mutex::new(directory))?)
 }
 
 /// A clock that stands still.
