@@ -44,7 +44,9 @@ pub fn config(alloc: Global) -> Result<Config, Fail>
 }
 
 // What the site supports, and asks for.
-fn site(alloc: Global) -> Result<Site, Fail> {
+fn site(alloc: Global) -> Result<Site, Fail>
+    ensures { IfOk result (λ site. site.capacity ≡ 16) }
+{
     let scopes = config(alloc)?.scopes;
     let templates = Arc::new(alloc, Templates::new(alloc))?;
     Ok(Site::new(scopes, CAPACITY, templates, 1))
