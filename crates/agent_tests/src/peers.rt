@@ -7,6 +7,7 @@ use slp_text::Row;
 use std::io;
 use std::io::{ErrorKind, Read, Write};
 use std::net::{Ipv4Addr, Net, SocketAddr, TcpStream, UdpSocket};
+use std::process::Abort;
 use std::sync::atomic::{AtomicBool, Ordering};
 use std::sync::{Mutex, Wait};
 use std::test::Fail;
@@ -106,23 +107,19 @@ fn are_lines(lines: &[u8], count: usize) -> bool {
 // How many datagrams wait when the loop takes a turn: more than are received before the first is served.
 const WAITING: u8 = 40;
 
-// Has so many datagrams wait, each with an XID of its own, before the loop takes one turn. How many of the replies
-// are the next one; none where more come than were asked for.
-fn answered_in_order<R: Net, S: Serve + Drop>(
-    rt: &R,
-    agent: &mut AgentLoop<S>,
-    address: SocketAddr,
-) -> io::Result<u8> {
-    let socket = UdpSocket::bind(rt, SocketAddr::from((Ipv4Addr::LOCALHOST, 0)))?;
-    socket.set_read_timeout(Some(Duration::from_secs(PATIENCE)))?;
-    let (mut request, mut wanted) = (REQUEST, EMPTY_REPLY);
+// Sends so many requests, each with an XID of its own, from 0 on.
+fn send_in_order(socket: &UdpSocket, address: SocketAddr) -> io::Result<()> {
+    let mut request = REQUEST;
     for number in 0..WAITING {
         request[11] = number;
         socket.send_to(&request, address)?;
     }
-    if agent.turn().is_err() {
-        return Ok(0);
-    }
+    Ok(())
+}
+
+// How many of the replies to these are the next one; none where more come than were asked for.
+fn replies_in_order(socket: &UdpSocket) -> io::Result<u8> {
+    let mut wanted = EMPTY_REPLY;
     let mut next = 0;
     for _ in 0..WAITING {
         let mut reply = [0; 64];
@@ -135,6 +132,21 @@ fn answered_in_order<R: Net, S: Serve + Drop>(
     socket.set_nonblocking(true)?;
     let is_more = socket.recv_from(&mut [0; 64]).is_ok();
     Ok(if is_more { 0 } else { next })
+}
+
+// Has so many datagrams wait before the loop takes one turn: how many are answered in order.
+fn answered_in_order<R: Net, S: Serve + Drop>(
+    rt: &R,
+    agent: &mut AgentLoop<S>,
+    address: SocketAddr,
+) -> io::Result<u8> {
+    let socket = UdpSocket::bind(rt, SocketAddr::from((Ipv4Addr::LOCALHOST, 0)))?;
+    socket.set_read_timeout(Some(Duration::from_secs(PATIENCE)))?;
+    send_in_order(&socket, address)?;
+    if agent.turn().is_err() {
+        return Ok(0);
+    }
+    replies_in_order(&socket)
 }
 
 // How many streams wait at once: more than one turn accepts.
@@ -168,6 +180,43 @@ where
     Ok(closed)
 }
 
+// Has a loop meet many peers: eight streams at once, a ninth and a datagram, then what waits. Its lines are in the output.
+fn assert_served<R, S>(rt: &R, mut agent: AgentLoop<S>, output: &Mutex<Vec<u8>>) -> io::Result<()>
+where
+    R: Threads + Wait + Net<Stream = TcpStream> + AllocGlobal + Abort + Sync,
+    S: Serve + Drop + Send,
+{
+    let address = agent.address()?;
+    let (served, asked) = serve_and_ask(rt, &mut agent, address);
+    let (replies, is_ninth_closed) = asked?;
+    assert_holds(rt, replies == 9, "nine replies");
+    assert_holds(rt, is_ninth_closed, "the ninth stream is closed unread");
+    assert_holds(rt, served == Ok(()), "the loop ends when it is told");
+    assert_holds(
+        rt,
+        are_lines(output.lock(rt).as_slice(), 9),
+        "nine whole lines",
+    );
+    let answered = answered_in_order(rt, &mut agent, address)?;
+    assert_holds(
+        rt,
+        answered == WAITING,
+        "each datagram is answered once, in order",
+    );
+    let closed = closed_after_two_turns(rt, &mut agent, address)?;
+    assert_holds(
+        rt,
+        closed == STREAMS_WAITING - 8,
+        "each stream past the limit is closed",
+    );
+    assert_holds(
+        rt,
+        are_lines(output.lock(rt).as_slice(), 9 + usize::from(WAITING)),
+        "a whole line for each message",
+    );
+    Ok(())
+}
+
 #[test]
 fn many_peers(rt: HostRuntime) -> Result<(), Fail> {
     let alloc = rt.alloc();
@@ -181,32 +230,9 @@ fn many_peers(rt: HostRuntime) -> Result<(), Fail> {
     };
     let desk = Desk::new(&rt, alloc, shared, LOOPBACK, Still(0));
     assert_holds(&rt, config.listen.as_slice().len() == 1, "one address");
-    let Ok(mut agent) = AgentLoop::new(&rt, alloc, &config, 0, desk) else {
+    let Ok(agent) = AgentLoop::new(&rt, alloc, &config, 0, desk) else {
         panic!(rt; "no loop");
     };
-    let address = agent.address()?;
-    let (served, asked) = serve_and_ask(&rt, &mut agent, address);
-    let (replies, is_ninth_closed) = asked?;
-    let answered = answered_in_order(&rt, &mut agent, address)?;
-    let closed = closed_after_two_turns(&rt, &mut agent, address)?;
-    drop(agent);
-    assert_holds(&rt, replies == 9, "nine replies");
-    assert_holds(&rt, is_ninth_closed, "the ninth stream is closed unread");
-    assert_holds(&rt, served == Ok(()), "the loop ends when it is told");
-    assert_holds(
-        &rt,
-        answered == WAITING,
-        "each datagram is answered once, in order",
-    );
-    assert_holds(
-        &rt,
-        closed == STREAMS_WAITING - 8,
-        "each stream past the limit is closed",
-    );
-    assert_holds(
-        &rt,
-        are_lines(output.lock(&rt).as_slice(), 9 + usize::from(WAITING)),
-        "a whole line for each message",
-    );
+    assert_served(&rt, agent, &output)?;
     Ok(())
 }

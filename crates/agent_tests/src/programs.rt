@@ -146,18 +146,25 @@ where
     Ok(ROWS.len())
 }
 
+// Writes the configuration of an agent at this port, and its rule file: the paths of the two.
+fn written<R: Files + AllocGlobal>(rt: &R, port: u16) -> Result<(String, String), Fail> {
+    let alloc = rt.alloc();
+    let path = format!(in alloc; "/tmp/mirtsjab-{port}.toml")?;
+    let rules = format!(in alloc; "/tmp/mirtsjab-{port}-rules.toml")?;
+    let config = format!(in alloc;
+        "scopes = \"DEFAULT\"\nlisten = [\"127.0.0.1:{port}\"]\ncapacity = 16\nrules = \"{rules}\"\n"
+    )?;
+    fs::write(rt, rules.as_str(), RULES)?;
+    fs::write(rt, path.as_str(), config.as_str())?;
+    Ok((path, rules))
+}
+
 #[test]
 fn agent_and_tool(rt: HostRuntime) -> Result<(), Fail> {
     let alloc = rt.alloc();
     let port = free_port(&rt)?;
-    let rules = format!(in alloc; "/tmp/mirtsjab-{port}-rules.toml")?;
-    let path = format!(in alloc; "/tmp/mirtsjab-{port}.toml")?;
+    let (path, rules) = written(&rt, port)?;
     let peer = format!(in alloc; "127.0.0.1:{port}")?;
-    let config = format!(in alloc;
-        "scopes = \"DEFAULT\"\nlisten = [\"{peer}\"]\ncapacity = 16\nrules = \"{rules}\"\n"
-    )?;
-    fs::write(&rt, rules.as_str(), RULES)?;
-    fs::write(&rt, path.as_str(), config.as_str())?;
     let words = words_of(alloc, &[path.as_str()])?;
     let mut output = Vec::new(alloc);
     let (mut ours, mut theirs) = pair(&rt)?;
