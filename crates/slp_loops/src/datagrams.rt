@@ -19,10 +19,10 @@ const LONGEST_DATAGRAM: usize = 65_535;
 const LONGEST_REPLY: usize = 1_400;
 
 /// How many datagrams are received before the first is served, and served before the first answer is
-/// sent: what does one thing many times finds its code in the processor's caches.
+/// sent: more of them are answered a second so than one by one.
 const TOGETHER: usize = 16;
 
-/// How many times as many one event may bring. What is left is reported again, so that the streams
+/// How many times so many one event may bring. What is left is reported again, so that the streams
 /// get their turn.
 const ROUNDS: usize = 16;
 
