@@ -6,7 +6,8 @@ use Rattle.slp_answer.specs.declared.answer.Sent.{Sent}
 use Rattle.slp_script.specs.Commands.{Single}
 use Rattle.slp_script.specs.declared.command.Order.TheVariants.{At, From, Loop, Udp, Open, Tcp, Sweep}
 use Rattle.slp_script.specs.declared.command.Block.TheVariants as block
-use Rattle.directory_program.specs.Sessions.{Holds, IsAgent, Takes, TakesPiece, Acts, Meets, AddsTo, ConfiguresTo, MovesTo, ReloadsTo, config_text, rules_text, template_text}
+use Rattle.directory_program.specs.Sessions.{Holds, IsAgent, Takes, TakesPiece, Acts, Meets, AddsTo, ConfiguresTo, MovesTo, ReloadsTo}
+use Rattle.site_reports.specs.Reports.{config_text, rules_text, template_text}
 use Rattle.directory_program.specs.Worlds.{World, Adds, Answers, Configures, Reloads, late_text, reloaded_world, swept_world, templated_world, templates_with, no_memory_text, answer_text, new_stream, longest_reply, late_world, configured_world}
 use Rattle.directory_program.specs.Turns.{Closes, Turns, TurnsTo, TurnsOutside, TurnsInside}
 use Rattle.directory_program.specs.declared.progress.OpenBlock.{OpenBlock}

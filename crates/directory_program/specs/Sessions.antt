@@ -15,7 +15,7 @@ use Rattle.slp_answer.specs.declared.answer.Sent.{Sent}
 use Rattle.slp_stream.specs.Cutting.{front_of, IsCut}
 use Rattle.slp_stream.specs.Framing.{Frames}
 use Rattle.slp_script.specs.Commands.{Command}
-use Rattle.directory_program.specs.Worlds.{World, opening_of, call_of, Answers, AnswersAll, Pieces, Does, closed_text, added_text, configured_world, is_loop, template_fault_text, templated_world, end_text, end_refused, longest_on_stream, config_fault_text, configured_text, reloaded_world, rule_fault_text, ruled_text}
+use Rattle.directory_program.specs.Worlds.{World, opening_of, call_of, Answers, AnswersAll, Pieces, Does, closed_text, configured_world, is_loop, templated_world, end_text, end_refused, longest_on_stream, reloaded_world}
 use Rattle.srv_template.specs.Conformity.{SiteTemplates}
 use Rattle.srv_template.specs.declared.fault.ParseFault.{ParseFault}
 use Rattle.site_config.specs.declared.config.Config.{Config}
@@ -73,30 +73,15 @@ abbrev pub MovesTo : World → ℕ → Bool → Agent → Type 0
 MovesTo w n true a = IsTrue (is_loop w n) × IsAgent (record w { loop = n - 1 }) a
 MovesTo w n false a = (is_loop w n ≡ false) × IsAgent w a
 
--- what is written of a configuration
-abbrev pub config_text : Result (Unit {0}) ConfigFault → List ℕ
-config_text (Ok x) = configured_text
-config_text (Err e) = config_fault_text e
-
 -- what came of a configuration, and the agent after it: that of the new site, or the one that it was
 abbrev pub ConfiguresTo : World → Result Config ConfigFault → Result (Unit {0}) ConfigFault → Agent → Type 0
 ConfiguresTo w (Ok c) told a = (told ≡ Ok tt) × IsAgent (configured_world c w) a
 ConfiguresTo w (Err e) told a = (told ≡ Err e) × IsAgent w a
 
--- what is written of a template
-abbrev pub template_text : Result (Unit {0}) ParseFault → List ℕ
-template_text (Ok x) = added_text
-template_text (Err e) = template_fault_text e
-
 -- what came of a template, and the agent after it: that of the site with these templates, or the one that it was
 abbrev pub AddsTo : World → Result SiteTemplates ParseFault → Result (Unit {0}) ParseFault → Agent → Type 0
 AddsTo w (Ok templates) told a = (told ≡ Ok tt) × IsAgent (templated_world templates w) a
 AddsTo w (Err e) told a = (told ≡ Err e) × IsAgent w a
-
--- what is written of a rule file, which has so many rules or is refused
-abbrev pub rules_text : Result ℕ RuleFault → List ℕ
-rules_text (Ok number) = ruled_text number
-rules_text (Err e) = rule_fault_text e
 
 -- what came of a rule file, and the agent after it: that of the reload, or the one that it was
 abbrev pub ReloadsTo : World → Result SiteRules RuleFault → Result ℕ RuleFault → Agent → Type 0

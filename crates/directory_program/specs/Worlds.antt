@@ -7,13 +7,13 @@ use Rattle.slp_headers.specs.Headers.{heading_of}
 use Rattle.access_rules.specs.Deciding.{SiteRules}
 use Rattle.access_rules.specs.RuleFiles.{rules_in_text}
 use Rattle.access_rules.specs.declared.fault.RuleFault.{RuleFault}
-use Rattle.access_rules.specs.declared.fault.RuleFault.TheVariants as rule_fault
 use Rattle.directory_judge.specs.History.{History, Event, Act, Sweep, Reload, now}
 use Rattle.directory_judge.specs.Meaning.{rules}
 use Rattle.directory_answers.specs.Answers.{IsAnswer}
 use Rattle.directory_answers.specs.Calls.{Opening, Call}
 use Rattle.directory_answers.specs.Outcomes.{Outcome, refusal_outcome}
 use Rattle.directory_answers.specs.Verdicts.{history_with}
+use Rattle.site_reports.specs.Reports.{configured_text, config_fault_text, added_text, template_fault_text, ruled_text, rule_fault_text}
 use Rattle.slp_answer.specs.Answers.{line_of}
 use Rattle.slp_stream.specs.Cutting.{Front, Wanting, Whole, Bad, front_of, IsCut}
 use Rattle.slp_stream.specs.Framing.{Frames}
@@ -28,17 +28,13 @@ use Rattle.srv_template.specs.Conformity.{SiteTemplates}
 use Rattle.srv_template.specs.Reading.{template_in}
 use Rattle.srv_template.specs.Templates.{Template, added_to}
 use Rattle.srv_template.specs.declared.fault.ParseFault.{ParseFault}
-use Rattle.srv_template.specs.declared.fault.ParseFault.TheVariants as template
 use Rattle.slp_script.specs.Lines.{Line, lines_of, line_bytes, HasNoLf}
 use Rattle.directory_program.specs.OpeningRules.{opening_rules}
 use Rattle.directory_program.specs.Sites.{first_site}
 use Rattle.site_config.specs.Configurations.{config_of}
 use Rattle.site_config.specs.declared.config.Config.{Config}
 use Rattle.site_config.specs.declared.fault.ConfigFault.{ConfigFault}
-use Rattle.site_config.specs.declared.fault.ConfigFault.TheVariants.{Toml, Missing, Range}
-use Rattle.site_config.specs.declared.fault.ConfigFault.TheVariants as config
 use Rattle.directory_judge.specs.Sites.{Site}
-use Rattle.std.specs.Fmt.{decimal}
 use Rattle.slp_text.specs.Ascii.{line_feed}
 
 -- the bytes of a reply that is sent as a datagram
@@ -154,20 +150,6 @@ swept_world w = world_with Sweep w
 abbrev pub reloaded_world : SiteRules → World → World
 reloaded_world rs w = world_with (Reload rs) w
 
--- the number of a fault of a configuration
-abbrev pub fault_number : ConfigFault → ℕ
-fault_number Toml = 1
-fault_number Missing = 2
-fault_number Range = 3
-fault_number config.NoMemory = 4
-
--- what is written of a configuration that is taken, and of one that is refused
-abbrev pub configured_text : List ℕ
-configured_text = codes "# config" ++ line_feed ∷ []
-
-abbrev pub config_fault_text : ConfigFault → List ℕ
-config_fault_text e = codes "! config " ++ decimal (fault_number e) ++ line_feed ∷ []
-
 -- the text of a block: its lines, each with its LF
 abbrev pub text_of : List Line → List ℕ
 text_of body = flat_map line_bytes body
@@ -190,20 +172,6 @@ Configures true w read out v = (out ≡ late_text) × (v ≡ w)
 Configures false w (Ok c) out v = (out ≡ configured_text) × (v ≡ configured_world c w)
 Configures false w (Err e) out v = (out ≡ config_fault_text e) × (v ≡ w)
 
--- the number of a fault of a template
-abbrev pub template_fault_number : ParseFault → ℕ
-template_fault_number (template.Line n) = 1
-template_fault_number template.TwiceType = 2
-template_fault_number template.NoMemory = 3
-template_fault_number template.TooMany = 4
-
--- what is written of a template that is added, and of one that is refused
-abbrev pub added_text : List ℕ
-added_text = codes "# template" ++ line_feed ∷ []
-
-abbrev pub template_fault_text : ParseFault → List ℕ
-template_fault_text e = codes "! template " ++ decimal (template_fault_number e) ++ line_feed ∷ []
-
 -- the templates of the site with one more, if it is read and may be added
 abbrev pub templates_with : World → Result Template ParseFault → Result SiteTemplates ParseFault
 templates_with w read = read_then (added_to w.site.templates) read
@@ -217,20 +185,6 @@ abbrev pub Adds : Bool → World → Result SiteTemplates ParseFault → List �
 Adds true w templates out v = (out ≡ late_text) × (v ≡ w)
 Adds false w (Ok templates) out v = (out ≡ added_text) × (v ≡ templated_world templates w)
 Adds false w (Err e) out v = (out ≡ template_fault_text e) × (v ≡ w)
-
--- the number of a fault of a rule file
-abbrev pub rule_fault_number : RuleFault → ℕ
-rule_fault_number (rule_fault.Shape n) = 1
-rule_fault_number rule_fault.TwiceName = 2
-rule_fault_number rule_fault.NoMemory = 3
-rule_fault_number rule_fault.Toml = 4
-
--- what is written where so many rules decide from now on, and of a rule file that is refused
-abbrev pub ruled_text : ℕ → List ℕ
-ruled_text number = codes "# rules " ++ decimal number ++ line_feed ∷ []
-
-abbrev pub rule_fault_text : RuleFault → List ℕ
-rule_fault_text e = codes "! rules " ++ decimal (rule_fault_number e) ++ line_feed ∷ []
 
 -- What a rule file may write, and what it leaves: its rules decide from now on, unless it is refused. Either way it is too late for another site.
 abbrev pub Reloads : World → Result SiteRules RuleFault → List ℕ → World → Type 0

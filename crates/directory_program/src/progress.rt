@@ -4,8 +4,7 @@ ghost use Rattle.std.specs.Option.{option_map, option_copied};
 ghost use Rattle.slp_script.specs.Commands.{longest_line, Single};
 ghost use Rattle.slp_script.specs.declared.command.Block.TheVariants as block;
 ghost use Rattle.slp_script.specs.declared.command.Order.TheVariants as order;
-ghost use Rattle.directory_program.specs.Worlds.{config_fault_text, rule_fault_text, template_fault_text};
-ghost use Rattle.directory_program.specs.Sessions.{Acts, config_text, rules_text, template_text};
+ghost use Rattle.directory_program.specs.Sessions.{Acts};
 ghost use Rattle.directory_program.specs.Turns.{Closes, block_text_with, LacksLoop, TurnsOutside, TurnsInside, OrderFails, OutsideFails, InsideFails, TurnsTo, TurnFails};
 ghost use Rattle.directory_program.specs.declared.fault.RunFault.TheVariants as fault;
 
@@ -13,15 +12,15 @@ use crate::exchange::meet;
 use crate::fault::RunFault;
 use crate::session::{LONGEST_ON_STREAM, LONGEST_REPLY, Session};
 use crate::stream::take_piece;
-use access_rules::{Addr, RuleFault};
-use site_config::{ConfigFault, LONGEST_CONFIG};
+use access_rules::Addr;
+use site_config::LONGEST_CONFIG;
+use site_reports::{print_config, print_rules, print_template};
 use slp_answer::Answer;
 use slp_script::{Block, Order, Reading, read_line};
 use slp_stream::Framer;
 use slp_text::{NoMemory, Row};
-use srv_template::ParseFault;
 use std::alloc::Global;
-use std::io::{self, Write};
+use std::io::Write;
 
 /// The block that is open.
 #[derive(Drop)]
@@ -58,28 +57,6 @@ fn lengthen_text(text: Option<String>, line: &str) -> Result<Option<String>, NoM
     Ok(Some(text))
 }
 
-// Writes why a configuration is refused.
-fn print_fault<W: Write>(fault: ConfigFault, writer: &mut W) -> io::Result<()>
-    ensures { OnOk result (Appends (W.contents writer.old) (W.contents writer.new) (config_fault_text fault)) }
-{
-    match fault {
-        ConfigFault::Toml => writer.write_all(b"! config 1\n"),
-        ConfigFault::Missing => writer.write_all(b"! config 2\n"),
-        ConfigFault::Range => writer.write_all(b"! config 3\n"),
-        ConfigFault::NoMemory => writer.write_all(b"! config 4\n"),
-    }
-}
-
-// Writes what came of a configuration.
-fn print_told<W: Write>(told: Result<(), ConfigFault>, writer: &mut W) -> io::Result<()>
-    ensures { OnOk result (Appends (W.contents writer.old) (W.contents writer.new) (config_text told)) }
-{
-    match told {
-        Ok(()) => writer.write_all(b"# config\n"),
-        Err(fault) => print_fault(fault, writer),
-    }
-}
-
 // Ends a configuration of which this text is kept.
 fn close_config<W: Write>(
     session: &mut Session,
@@ -94,33 +71,11 @@ fn close_config<W: Write>(
     let written = if session.late {
         writer.write_all(b"! late\n")
     } else {
-        print_told(session.agent.configure(alloc, text)?, writer)
+        print_config(session.agent.configure(alloc, text)?, writer)
     };
     match written {
         Ok(()) => Ok(()),
         Err(_) => Err(RunFault::Write),
-    }
-}
-
-// Writes why a template is refused.
-fn print_template_fault<W: Write>(fault: ParseFault, writer: &mut W) -> io::Result<()>
-    ensures { OnOk result (Appends (W.contents writer.old) (W.contents writer.new) (template_fault_text fault)) }
-{
-    match fault {
-        ParseFault::Line(_) => writer.write_all(b"! template 1\n"),
-        ParseFault::TwiceType => writer.write_all(b"! template 2\n"),
-        ParseFault::NoMemory => writer.write_all(b"! template 3\n"),
-        ParseFault::TooMany => writer.write_all(b"! template 4\n"),
-    }
-}
-
-// Writes what came of a template.
-fn print_added<W: Write>(told: Result<(), ParseFault>, writer: &mut W) -> io::Result<()>
-    ensures { OnOk result (Appends (W.contents writer.old) (W.contents writer.new) (template_text told)) }
-{
-    match told {
-        Ok(()) => writer.write_all(b"# template\n"),
-        Err(fault) => print_template_fault(fault, writer),
     }
 }
 
@@ -138,33 +93,11 @@ fn close_template<W: Write>(
     let written = if session.late {
         writer.write_all(b"! late\n")
     } else {
-        print_added(session.agent.add_template(alloc, text)?, writer)
+        print_template(session.agent.add_template(alloc, text)?, writer)
     };
     match written {
         Ok(()) => Ok(()),
         Err(_) => Err(RunFault::Write),
-    }
-}
-
-// Writes why a rule file is refused.
-fn print_rule_fault<W: Write>(fault: RuleFault, writer: &mut W) -> io::Result<()>
-    ensures { OnOk result (Appends (W.contents writer.old) (W.contents writer.new) (rule_fault_text fault)) }
-{
-    match fault {
-        RuleFault::Shape(_) => writer.write_all(b"! rules 1\n"),
-        RuleFault::TwiceName => writer.write_all(b"! rules 2\n"),
-        RuleFault::NoMemory => writer.write_all(b"! rules 3\n"),
-        RuleFault::Toml => writer.write_all(b"! rules 4\n"),
-    }
-}
-
-// Writes what came of a rule file.
-fn print_ruled<W: Write>(told: Result<usize, RuleFault>, writer: &mut W) -> io::Result<()>
-    ensures { OnOk result (Appends (W.contents writer.old) (W.contents writer.new) (rules_text told)) }
-{
-    match told {
-        Ok(number) => writeln!(writer, "# rules {number}"),
-        Err(fault) => print_rule_fault(fault, writer),
     }
 }
 
@@ -181,7 +114,7 @@ fn close_rules<W: Write>(
 {
     let told = session.agent.reload(alloc, text)?;
     session.late = true;
-    match print_ruled(told, writer) {
+    match print_rules(told, writer) {
         Ok(()) => Ok(()),
         Err(_) => Err(RunFault::Write),
     }

@@ -2,7 +2,8 @@ use Rattle.std.proofs.Common.{ℕ, List, [], ◌∷◌, ◌++◌, codes, sym, su
 use Rattle.std.specs.Io.KnownBytes.{Appends}
 use Rattle.std.specs.Option.{option_copied}
 use Rattle.slp_script.specs.declared.command.Block.TheVariants as block
-use Rattle.directory_program.specs.Sessions.{IsAgent, config_text}
+use Rattle.directory_program.specs.Sessions.{IsAgent}
+use Rattle.site_reports.specs.Reports.{config_text}
 use Rattle.directory_program.specs.Worlds.{World}
 use Rattle.directory_program.specs.Turns.{Closes}
 use Rattle.directory_program.specs.declared.session.Session.{Session}
@@ -23,7 +24,7 @@ returns-in-Ok g c = elim c.if-session.branch [
       (late_line, rw w.writer-is out.bytes, subst (λ (s : Session). Closes c.args.session.now block.Config (option_copied c.args.text) late_line s) (sym w.session-is) closes)
   | else-session+in_ok-configure w ↦
       let told = w.in_ok-configure.field-0 in
-      let out : Appends (g.W.Write.contents c.args.writer.now) (g.W.Write.contents w.print_told-written.new.writer) (config_text told) = rw (sym w.written-is ∙ c.in-Ok.is) at w.print_told-written.ensures in
+      let out : Appends (g.W.Write.contents c.args.writer.now) (g.W.Write.contents w.print_config-written.new.writer) (config_text told) = rw (sym w.written-is ∙ c.in-Ok.is) at w.print_config-written.ensures in
       let closes = Closes-told c.args.session.now w.configure.new.self (option_copied c.args.text) told w.if-session.false (λ (v : World) (h : IsAgent v c.args.session.now.agent). w.in_ok-configure.ensures v h) in
       (config_text told, rw w.writer-is out, subst (λ (s : Session). Closes c.args.session.now block.Config (option_copied c.args.text) (config_text told) s) (sym w.session-is) closes)
 ]

@@ -1,5 +1,6 @@
 use Rattle.std.specs.Option.{option_copied}
-use Rattle.directory_program.specs.Sessions.{IsAgent, rules_text}
+use Rattle.directory_program.specs.Sessions.{IsAgent}
+use Rattle.site_reports.specs.Reports.{rules_text}
 use Rattle.directory_program.specs.Worlds.{World}
 use Rattle.directory_program.proofs.CommandsDone.{Closes-ruled}
 use Rattle.directory_program.proofs.progress.close_rules.Goals as goal

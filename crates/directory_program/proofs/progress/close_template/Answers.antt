@@ -2,7 +2,8 @@ use Rattle.std.proofs.Common.{sym, subst, ◌∙◌}
 use Rattle.std.specs.Io.KnownBytes.{Appends}
 use Rattle.std.specs.Option.{option_copied}
 use Rattle.slp_script.specs.declared.command.Block.TheVariants as block
-use Rattle.directory_program.specs.Sessions.{IsAgent, template_text}
+use Rattle.directory_program.specs.Sessions.{IsAgent}
+use Rattle.site_reports.specs.Reports.{template_text}
 use Rattle.directory_program.specs.Worlds.{World, late_text}
 use Rattle.directory_program.specs.Turns.{Closes}
 use Rattle.directory_program.specs.declared.session.Session.{Session}
@@ -18,7 +19,7 @@ returns-in-Ok g c = elim c.if-session.branch [
       (late_text, rw w.writer-is out.bytes, subst (λ (s : Session). Closes c.args.session.now block.Template (option_copied c.args.text) late_text s) (sym w.session-is) closes)
   | else-session+in_ok-add_template w ↦
       let told = w.in_ok-add_template.field-0 in
-      let out : Appends (g.W.Write.contents c.args.writer.now) (g.W.Write.contents w.print_added-written.new.writer) (template_text told) = rw (sym w.written-is ∙ c.in-Ok.is) at w.print_added-written.ensures in
+      let out : Appends (g.W.Write.contents c.args.writer.now) (g.W.Write.contents w.print_template-written.new.writer) (template_text told) = rw (sym w.written-is ∙ c.in-Ok.is) at w.print_template-written.ensures in
       let closes = Closes-added c.args.session.now w.add_template.new.self (option_copied c.args.text) told w.if-session.false (λ (v : World) (h : IsAgent v c.args.session.now.agent). w.in_ok-add_template.ensures v h) in
       (template_text told, rw w.writer-is out, subst (λ (s : Session). Closes c.args.session.now block.Template (option_copied c.args.text) (template_text told) s) (sym w.session-is) closes)
 ]

@@ -1,8 +1,8 @@
 use Rattle.std.proofs.Common.{◌≡◌, ◌∷◌, ◌++◌, [], ℕ, codes, refl}
 use Rattle.std.specs.Fmt.{digits}
 use Rattle.access_rules.specs.declared.fault.RuleFault.TheVariants.{Shape, TwiceName, NoMemory, Toml}
-use Rattle.directory_program.specs.Worlds.{rule_fault_text}
-use Rattle.directory_program.proofs.progress.print_rule_fault.Goals as goal
+use Rattle.site_reports.specs.Reports.{rule_fault_text}
+use Rattle.site_reports.proofs.print_rules_fault.Goals as goal
 use Rattle.slp_text.specs.Ascii.{line_feed}
 
 told-shape : (n : ℕ) → rule_fault_text (Shape n) ≡ codes "! rules 1" ++ line_feed ∷ []

@@ -1,8 +1,8 @@
 use Rattle.std.proofs.Common.{◌≡◌, ◌∷◌, ◌++◌, [], codes, refl}
 use Rattle.std.specs.Fmt.{digits}
 use Rattle.site_config.specs.declared.fault.ConfigFault.TheVariants.{Toml, Missing, Range, NoMemory}
-use Rattle.directory_program.specs.Worlds.{config_fault_text}
-use Rattle.directory_program.proofs.progress.print_fault.Goals as goal
+use Rattle.site_reports.specs.Reports.{config_fault_text}
+use Rattle.site_reports.proofs.print_config_fault.Goals as goal
 use Rattle.slp_text.specs.Ascii.{line_feed}
 
 told-toml : config_fault_text Toml ≡ codes "! config 1" ++ line_feed ∷ []

@@ -1,8 +1,8 @@
 use Rattle.std.proofs.Common.{◌≡◌, ◌∷◌, ◌++◌, [], ℕ, codes, refl}
 use Rattle.std.specs.Fmt.{digits}
 use Rattle.srv_template.specs.declared.fault.ParseFault.TheVariants.{Line, TwiceType, NoMemory, TooMany}
-use Rattle.directory_program.specs.Worlds.{template_fault_text}
-use Rattle.directory_program.proofs.progress.print_template_fault.Goals as goal
+use Rattle.site_reports.specs.Reports.{template_fault_text}
+use Rattle.site_reports.proofs.print_template_fault.Goals as goal
 use Rattle.slp_text.specs.Ascii.{line_feed}
 
 told-line : (n : ℕ) → template_fault_text (Line n) ≡ codes "! template 1" ++ line_feed ∷ []
