@@ -1,14 +1,19 @@
 //! The words on standard input.
-use crate::fault::{StartFault, rules_number};
-use crate::opening;
-use access_rules::Rules;
-use directory_judge::Change;
+ghost use Rattle.std.specs.Prelude.{◌≤◌, length, IfOk, OnOk};
+ghost use Rattle.std.specs.Io.KnownBytes.{Appends};
+ghost use Rattle.agent_program.specs.Statuses.{reload_text};
+
+use crate::fault::StartFault;
+use crate::{changes, opening};
+use access_rules::{RuleFault, Rules};
+use site_reports::print_rules;
 use slp_loops::{Moments, Shared, WallClock};
 use slp_text::Text;
 use std::alloc::Global;
 use std::io::{self, ErrorKind, Read, Write};
 use std::rt::Files;
-use std::sync::{Arc, Wait};
+use std::sync::atomic::{AtomicBool, Ordering};
+use std::sync::{Arc, Mutex, Wait};
 use std::time::Clock;
 
 /// The bytes of a line that are kept: more than any word has.
@@ -26,14 +31,15 @@ enum Word {
     Unknown,
 }
 
-/// What acts on the words: the directory and the output, the rule file and the clock.
+/// What reads the words and acts on them: the directory and the output, the rule file and the clock.
 #[derive(Drop)]
-pub(crate) struct Console<'r, 's, R: Wait + Clock, W: Write> {
+pub(crate) struct Console<'r, 's, R: Wait + Clock, I: Read, W: Write> {
     pub rt: &'r R,
     pub alloc: Global,
     pub shared: Shared<'s, W>,
     pub rules: Option<&'s Text>,
     pub clock: WallClock<'r, R>,
+    pub input: &'s Mutex<I>,
 }
 
 /// A line that is begun. Of a long one only the beginning is kept, and its length.
@@ -84,18 +90,23 @@ impl Line {
 }
 
 // Prints what came of a reload: how many rules decide from now on, or why the old ones stay.
-fn print_reload<W: Write>(writer: &mut W, told: Result<usize, StartFault>) -> io::Result<()> {
+fn print_reload<W: Write>(told: Result<usize, StartFault>, writer: &mut W) -> io::Result<()>
+    ensures { OnOk result (Appends (W.contents writer.old) (W.contents writer.new) (reload_text told)) }
+{
     match told {
-        Ok(number) => writeln!(writer, "# rules {number}"),
-        Err(StartFault::Rules(fault)) => writeln!(writer, "! rules {}", rules_number(fault)),
-        Err(StartFault::NoMemory) => writeln!(writer, "! rules 3"),
-        Err(_) => writeln!(writer, "! file"),
+        Ok(number) => print_rules(Ok(number), writer),
+        Err(StartFault::Rules(fault)) => print_rules(Err(fault), writer),
+        Err(StartFault::NoMemory) => print_rules(Err(RuleFault::NoMemory), writer),
+        Err(StartFault::Failed | StartFault::Config(_) | StartFault::Template(_)) => {
+            writer.write_all(b"! file\n")
+        }
     }
 }
 
-impl<'r, 's, R, W> Console<'r, 's, R, W>
+impl<'r, 's, R, I, W> Console<'r, 's, R, I, W>
 where
     R: Files + Wait + Clock,
+    I: Read,
     W: Write,
 {
     // Prints a line, which is out at once. A failing write is ignored, as for every line of an agent.
@@ -111,8 +122,7 @@ where
         let rules = Arc::new(self.alloc, rules)?;
         let moment = self.clock.now();
         let mut directory = self.shared.directory.lock(self.rt);
-        let now = directory.now(moment);
-        directory.apply(Change::Reload(now, rules));
+        changes::reload(&mut *directory, moment, rules);
         Ok(number)
     }
 
@@ -123,7 +133,7 @@ where
             Err(fault) => Err(fault),
         };
         let mut output = self.shared.output.lock(self.rt);
-        let _ = print_reload(&mut *output, told);
+        let _ = print_reload(told, &mut *output);
         let _ = output.flush();
     }
 
@@ -131,8 +141,7 @@ where
     fn sweep(&mut self) {
         let moment = self.clock.now();
         let mut directory = self.shared.directory.lock(self.rt);
-        let now = directory.now(moment);
-        directory.apply(Change::Sweep(now));
+        changes::sweep(&mut *directory, moment);
         drop(directory);
         self.print("# sweep\n");
     }
@@ -164,13 +173,20 @@ where
         true
     }
 
-    /// Acts on each line until `stop` or the end of input, which stops too, as does a read that fails. A line
-    /// without its end is one.
-    pub(crate) fn run<I: Read>(&mut self, input: &mut I) {
+    // Takes what comes next.
+    fn read(&self, chunk: &mut [u8]) -> io::Result<usize>
+        ensures { IfOk result (λ count. count ≤ length chunk.new) }
+    {
+        self.input.lock(self.rt).read(chunk)
+    }
+
+    // Acts on each line until `stop` or the end of input, which stops too, as does a read that fails. A line
+    // without its end is one.
+    fn act_on_lines(&mut self) {
         let mut line = Line::new();
         let mut chunk = [0; CHUNK];
         for _ in 0..u64::MAX {
-            match input.read(&mut chunk) {
+            match self.read(&mut chunk) {
                 Ok(0) => break,
                 Ok(count) => {
                     if !self.take(&mut line, &chunk[..count]) {
@@ -184,5 +200,12 @@ where
         if !line.is_empty() {
             self.act(line.word());
         }
+    }
+
+    /// Says that the agent is ready, acts on each line until one is `stop` or the input ends, and sets the flag.
+    pub(crate) fn run(&mut self, stop: &AtomicBool) {
+        self.print("ready\n");
+        self.act_on_lines();
+        stop.store(true, Ordering::SeqCst);
     }
 }

@@ -1,6 +1,7 @@
 //! The program `slpda`: a directory agent that listens at the address of its configuration.
 #![tactic(auto)]
 
+mod changes;
 mod console;
 mod fault;
 mod files;

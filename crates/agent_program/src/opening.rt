@@ -1,6 +1,9 @@
 //! What an agent starts with: its configuration, its rules and its templates, read in this order.
-ghost use Rattle.std.specs.Prelude.{◌≡◌, ◌<◌, ◌≤◌, length, IfOk};
+ghost use Rattle.std.specs.Prelude.{◌≡◌, ◌<◌, ◌≤◌, length, Ok, IfOk, OnOk};
 ghost use Rattle.std.specs.FinMap as fin;
+ghost use Rattle.access_rules.specs.RuleFiles.{rules_in_text};
+ghost use Rattle.agent_program.specs.Openings.{AreRules, AreTemplates, IsOpened, site_with, templates_and};
+ghost use Rattle.directory_state.specs.State.{opening_state};
 ghost use Rattle.registry_core.specs.Entries.{entries_of_list};
 ghost use Rattle.site_config.specs.Configurations.{IsWithin};
 
@@ -30,35 +33,62 @@ pub(crate) fn config<R: Files>(rt: &R, alloc: Global, path: &str) -> Result<Conf
     Ok(config)
 }
 
+// The rules that a text reads as.
+fn rules_in(alloc: Global, text: &str) -> Result<Rules, StartFault>
+    ensures { IfOk result (λ rules. rules_in_text text.now ≡ Ok rules) }
+{
+    match Rules::from_text(alloc, text) {
+        Ok(rules) => Ok(rules),
+        Err(fault) => Err(StartFault::from(fault)),
+    }
+}
+
 /// The rules in a file; none where no file is named.
 pub(crate) fn rules<R: Files>(
     rt: &R,
     alloc: Global,
     path: Option<&Text>,
-) -> Result<Rules, StartFault> {
+) -> Result<Rules, StartFault>
+    ensures { IfOk result (AreRules path.entry) }
+{
     let Some(path) = path else {
         return Ok(Rules::new(Vec::new(alloc)));
     };
     let text = files::read(rt, alloc, path.as_str())?;
-    Ok(Rules::from_text(alloc, text.as_str())?)
+    rules_in(alloc, text.as_str())
+}
+
+// Adds the template that a text reads as.
+fn add_template(alloc: Global, templates: &mut Templates, text: &str) -> Result<(), StartFault>
+    ensures { OnOk result (templates_and templates.old text.now ≡ Ok templates.new) }
+{
+    match Template::parse(alloc, text) {
+        Ok(template) => match templates.add(template) {
+            Ok(()) => Ok(()),
+            Err(fault) => Err(StartFault::from(fault)),
+        },
+        Err(fault) => Err(StartFault::from(fault)),
+    }
 }
 
 // The templates in files.
-fn templates<R: Files>(rt: &R, alloc: Global, paths: &[Text]) -> Result<Templates, StartFault> {
+fn templates<R: Files>(rt: &R, alloc: Global, paths: &[Text]) -> Result<Templates, StartFault>
+    ensures { IfOk result (AreTemplates (length paths.now)) }
+{
     let mut templates = Templates::new(alloc);
     for path in paths {
         let text = files::read(rt, alloc, path.as_str())?;
-        let template = Template::parse(alloc, text.as_str())?;
-        templates.add(template)?;
+        add_template(alloc, &mut templates, text.as_str())?;
     }
     Ok(templates)
 }
 
-// The site of a configuration, with its templates.
-fn site<R: Files>(rt: &R, alloc: Global, config: &Config, boot: u32) -> Result<Site, StartFault>
+// The site of a configuration, with these templates.
+fn site(alloc: Global, config: &Config, templates: Templates, boot: u32) -> Result<Site, StartFault>
     requires { IsWithin config.now }
+    ensures { IfOk result (λ site. site ≡ site_with config.now templates boot) }
 {
-    let templates = Arc::new(alloc, templates(rt, alloc, config.templates.as_slice())?)?;
+    let templates = Arc::new(alloc, templates)?;
     let scopes = config.scopes.copy(alloc)?;
     Ok(Site::new(scopes, config.capacity, templates, boot))
 }
@@ -76,8 +106,11 @@ fn registry(alloc: Global, capacity: usize) -> Result<ListRegistry, StartFault>
         Err(RegistryFault::Full) => unreachable!(),
     }
 }
+
 // The directory of a site with these rules, to which nothing happened.
-fn opened(alloc: Global, site: &Site, rules: Rules) -> Result<Directory<ListRegistry>, StartFault> {
+fn opened(alloc: Global, site: &Site, rules: Rules) -> Result<Directory<ListRegistry>, StartFault>
+    ensures { IfOk result (λ d. d ≡ opening_state (record { rules = rules; site = site.now })) }
+{
     let rules = Arc::new(alloc, rules)?;
     let registry = registry(alloc, site.capacity())?;
     Ok(Directory::open(alloc, registry, site, rules)?)
@@ -92,8 +125,10 @@ pub(crate) fn directory<R: Files>(
     boot: u32,
 ) -> Result<Directory<ListRegistry>, StartFault>
     requires { IsWithin config.now }
+    ensures { IfOk result (IsOpened config.now boot) }
 {
     let rules = rules(rt, alloc, config.rules.as_ref())?;
-    let site = site(rt, alloc, config, boot)?;
+    let templates = templates(rt, alloc, config.templates.as_slice())?;
+    let site = site(alloc, config, templates, boot)?;
     opened(alloc, &site, rules)
 }

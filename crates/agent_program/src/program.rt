@@ -1,7 +1,9 @@
-ghost use Rattle.std.specs.Prelude.{◌≡◌, ◌≢◌, length};
+ghost use Rattle.std.specs.Prelude.{◌≡◌, ◌≢◌, length, slice_get, Some};
+ghost use Rattle.std.specs.Option.{option_map};
+ghost use Rattle.agent_program.specs.Statuses as spec;
 
 use crate::console::Console;
-use crate::fault::{StartFault, config_number, rules_number, template_number};
+use crate::fault::StartFault;
 use crate::opening;
 use directory_state::Directory;
 use registry_core::ListRegistry;
@@ -11,35 +13,33 @@ use std::alloc::Global;
 use std::io::{Read, Write};
 use std::net::Net;
 use std::rt::Files;
-use std::sync::atomic::{AtomicBool, Ordering};
+use std::sync::atomic::AtomicBool;
 use std::sync::{Mutex, Wait};
-use std::thread::{Threads, join};
+use std::thread;
+use std::thread::Threads;
 use std::time::Clock;
 
 /// The status of a call with words that are not understood.
 const USAGE: u8 = 64;
 
-// Answers the status of an agent that does not start, and prints what was refused.
-fn refuse<W: Write>(fault: StartFault, writer: &mut W) -> u8 {
-    let told = match fault {
-        StartFault::Failed => return 1,
-        StartFault::NoMemory => return 3,
-        StartFault::Config(fault) => writeln!(writer, "! config {}", config_number(fault)),
-        StartFault::Rules(fault) => writeln!(writer, "! rules {}", rules_number(fault)),
-        StartFault::Template(fault) => writeln!(writer, "! template {}", template_number(fault)),
-    };
-    let _ = told;
-    let _ = writer.flush();
-    2
+// The status of an agent whose loop ended.
+fn end_status(told: Result<(), LoopFault>) -> u8
+    ensures { result ≡ spec.end_status told }
+{
+    match told {
+        Ok(()) => 0,
+        Err(LoopFault::Io) => 1,
+        Err(LoopFault::NoMemory) => 3,
+    }
 }
 
-// Serves until the words on standard input end it, and answers the status.
+// Has the loop run on a thread of its own while the words on standard input last, and answers the status. It is `ready` once
+// that thread runs; where none can be made, memory is wanting.
 fn serve<R, S, I, W>(
     rt: &R,
-    agent: &mut AgentLoop<S>,
-    console: &mut Console<'_, '_, R, W>,
-    input: &mut I,
-) -> u8
+    agent: AgentLoop<S>,
+    console: Console<'_, '_, R, I, W>,
+) -> Result<u8, StartFault>
 where
     R: Threads + Wait + Clock + Files + Sync,
     S: Serve + Drop + Send,
@@ -47,19 +47,33 @@ where
     W: Write + Send,
 {
     let stop = AtomicBool::new(false);
-    let (served, ()) = join(
-        rt,
-        || agent.run(rt, &stop),
-        || {
-            console.run(input);
-            stop.store(true, Ordering::SeqCst);
-        },
-    );
-    match served {
-        Ok(()) => 0,
-        Err(LoopFault::Io) => 1,
-        Err(LoopFault::NoMemory) => 3,
-    }
+    let stopping = &stop;
+    thread::scope(thread::scope_env(), rt, move |scope| {
+        let mut console = console;
+        let run = move || {
+            let mut agent = agent;
+            agent.run(rt, stopping)
+        };
+        let Ok(served) = scope.spawn(run) else {
+            return Err(StartFault::NoMemory);
+        };
+        console.run(stopping);
+        Ok(end_status(served.join(rt)))
+    })
+}
+
+// The desk for messages that come to the address of a configuration.
+fn desk<'r, 's, R: Wait + Clock, W: Write>(
+    rt: &'r R,
+    alloc: Global,
+    config: &Config,
+    shared: Shared<'s, W>,
+) -> Desk<'r, 's, R, WallClock<'r, R>, W>
+    requires { length config.now.listen ≡ 1 }
+    ensures { option_map (λ place. place.0) (slice_get config.now.listen 0) ≡ Some result.own }
+{
+    let (own, _) = config.listen.as_slice()[0];
+    Desk::new(rt, alloc, shared, own, WallClock::new(rt))
 }
 
 // Serves a directory at the address of its configuration, between the two ends of a terminal.
@@ -68,7 +82,7 @@ fn serve_at<R, I, W>(
     alloc: Global,
     config: &Config,
     directory: &Mutex<Directory<ListRegistry>>,
-    ends: (&mut I, &Mutex<W>),
+    ends: (&Mutex<I>, &Mutex<W>),
 ) -> Result<u8, StartFault>
 where
     R: Threads + Wait + Net + Clock + Files + Sync,
@@ -77,24 +91,17 @@ where
     requires { length config.now.listen ≡ 1 }
 {
     let (input, output) = ends;
-    let (own, _) = config.listen.as_slice()[0];
-    let desk = Desk::new(
-        rt,
-        alloc,
-        Shared { directory, output },
-        own,
-        WallClock::new(rt),
-    );
-    let mut agent = AgentLoop::new(rt, alloc, config, 0, desk)?;
-    let mut console = Console {
+    let desk = desk(rt, alloc, config, Shared { directory, output });
+    let agent = AgentLoop::new(rt, alloc, config, 0, desk)?;
+    let console = Console {
         rt,
         alloc,
         shared: Shared { directory, output },
         rules: config.rules.as_ref(),
         clock: WallClock::new(rt),
+        input,
     };
-    console.print("ready\n");
-    Ok(serve(rt, &mut agent, &mut console, input))
+    serve(rt, agent, console)
 }
 
 // Opens what the configuration names, and serves.
@@ -102,8 +109,7 @@ fn run<R, I, W>(
     rt: &R,
     alloc: Global,
     path: &str,
-    input: &mut I,
-    output: &Mutex<W>,
+    ends: (&Mutex<I>, &Mutex<W>),
 ) -> Result<u8, StartFault>
 where
     R: Threads + Wait + Net + Clock + Files + Sync,
@@ -113,7 +119,7 @@ where
     let config = opening::config(rt, alloc, path)?;
     let boot = WallClock::new(rt).now();
     let directory = Mutex::new(opening::directory(rt, alloc, &config, boot)?);
-    serve_at(rt, alloc, &config, &directory, (input, output))
+    serve_at(rt, alloc, &config, &directory, ends)
 }
 
 /// The program `slpda`: its words without its own name, its input and its output. It serves until the input
@@ -137,9 +143,14 @@ where
         let _ = writer.flush();
         return USAGE;
     };
-    let output = Mutex::new(writer);
-    match run(rt, alloc, path.as_str(), reader, &output) {
+    let (input, output) = (Mutex::new(reader), Mutex::new(writer));
+    match run(rt, alloc, path.as_str(), (&input, &output)) {
         Ok(status) => status,
-        Err(fault) => refuse(fault, &mut *output.lock(rt)),
+        Err(fault) => {
+            let mut output = output.lock(rt);
+            let _ = fault.print(&mut *output);
+            let _ = output.flush();
+            fault.status()
+        }
     }
 }

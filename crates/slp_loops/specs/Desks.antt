@@ -1,21 +1,27 @@
 -- What a desk does with a message.
-use Rattle.std.specs.Prelude.{ℕ, List, Result, IfOk}
+use Rattle.std.specs.Prelude.{◌≡◌, ℕ, nat_lt, Bool, ◌||◌, List, [], length, Result, Ok, Err}
 use Rattle.slp_text.specs.declared.faults.NoMemory.{NoMemory}
-use Rattle.directory_judge.specs.History.{History}
-use Rattle.directory_answers.specs.Calls.{Opening}
-use Rattle.directory_answers.specs.Verdicts.{IsLegal}
-use Rattle.directory_state.specs.Folds.{Fold}
-use Rattle.directory_state.specs.State.{State}
-use Rattle.slp_answer.specs.Answers as answers
+use Rattle.slp_headers.specs.Headers.{heading_of}
+use Rattle.directory_answers.specs.Outcomes.{refusal_outcome}
+use Rattle.slp_answer.specs.Answers.{line_of}
 use Rattle.slp_answer.specs.declared.answer.Answer.{Answer}
 use Rattle.slp_answer.specs.declared.answer.Sent.{Sent}
 use Rattle.slp_loops.specs.Serving.{Ticks}
 
--- At a moment that its clock may answer, it answers from a state that the directory had, and leaves one: where the first is that of a legal history, the answer is that of the history, and the second is that of the history with the change that the message asks for, where it is accepted.
-pub record DeskSteps {M : Type 0} (may : Ticks M) (own asker : ℕ) (message : List ℕ) (limit : ℕ) (before : M) (outcome : Result Sent NoMemory) (answer : Answer) (after : M) : Type 0 where
+-- a desk between two messages: the address to which they come, its clock, and whether a line waits to be written out
+pub record Standing (M : Type 0) : Type 0 where
+  pub own : ℕ
+  pub moments : M
+  pub is_unsettled : Bool
+
+-- the line of a message: that of its answer, or of a refusal where no memory was found
+abbrev pub told_line : ℕ → List ℕ → Result Sent NoMemory → Answer → List ℕ
+told_line asker message (Ok _) answer = answer.audit.items
+told_line asker message (Err _) answer = line_of [] asker (heading_of message) (refusal_outcome (heading_of message))
+
+-- It asks its clock, and the line of the message waits to be written out. What it answers is said of the step that it takes under the directory's lock.
+pub record DeskSteps {M : Type 0} (may : Ticks M) (line : List ℕ) (before after : Standing M) : Type 0 where
   pub moment : ℕ
-  pub told : may before moment after
-  pub found : State
-  pub left : State
-  pub answered : (o : Opening) (h : History) → Fold o h found → IsLegal o h
-      → IfOk outcome (λ what. answers.Steps o h (record { own = own; moment = moment; asker = asker; bytes = message; limit = limit }) what answer.bytes.items answer.audit.items left)
+  pub told : may before.moments moment after.moments
+  pub own : after.own ≡ before.own
+  pub unsettled : after.is_unsettled ≡ (before.is_unsettled || nat_lt 0 (length line))

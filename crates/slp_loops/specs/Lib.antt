@@ -1,6 +1,7 @@
 pub mod Desks
 pub mod Holding
 pub mod Linking
+pub mod Listening
 pub mod Reading
 pub mod Serving
 pub mod Writing

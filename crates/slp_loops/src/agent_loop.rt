@@ -1,9 +1,11 @@
-ghost use Rattle.std.specs.Prelude.{◌≡◌, ◌≤◌, ◌<◌, length, IfOk};
+ghost use Rattle.std.specs.Prelude.{◌≡◌, ◌≤◌, ◌<◌, ◌↔◌, length, slice_get, Some, IfOk, IfErr, IsTrue};
+ghost use Rattle.slp_loops.specs.declared.fault.LoopFault.TheVariants.{Io as Failing};
 
 use crate::datagrams::{DATAGRAMS, Datagrams};
 use crate::fault::LoopFault;
 use crate::serve::Serve;
 use crate::streams::{LISTENER, Streams};
+use access_rules::Addr;
 use mio::net::{TcpListener, UdpSocket};
 use mio::{Events, Interest, Poll, Registry};
 use site_config::Config;
@@ -49,6 +51,13 @@ fn serve_events<S: Serve>(
         }
     }
     outcome
+}
+
+// Whether a turn tells that its sockets are of no use any more. Want of memory may pass.
+fn is_lost(told: Result<(), LoopFault>) -> bool
+    ensures { IsTrue result ↔ (told ≡ Err Failing) }
+{
+    told == Err(LoopFault::Io)
 }
 
 /// Serves the datagrams and the streams of one address.
@@ -113,6 +122,14 @@ fn parts_at<N: Net>(
     })
 }
 
+// The address and the port at a place of a configuration.
+fn listened_at(config: &Config, place: usize) -> (Addr, u16)
+    requires { place < length config.now.listen }
+    ensures { slice_get config.now.listen place ≡ Some result }
+{
+    config.listen.as_slice()[place]
+}
+
 impl<S: Serve + Drop> AgentLoop<S> {
     /// A loop that listens at one of the addresses of a configuration, for datagrams and for streams. All its
     /// memory is taken here, but that of the streams and the answers.
@@ -126,8 +143,7 @@ impl<S: Serve + Drop> AgentLoop<S> {
         requires { place < length config.now.listen }
         ensures { IfOk result (λ l. l ≡ record { limit = config.now.connections; held = 0 }) }
     {
-        let listen = config.listen.as_slice();
-        let (own, port) = listen[place];
+        let (own, port) = listened_at(config, place);
         let address = SocketAddr::from((Ipv4Addr::from_bits(own.0), port));
         match parts_at(net, alloc, address, config.connections) {
             Ok(
@@ -183,15 +199,16 @@ impl<S: Serve + Drop> AgentLoop<S> {
         )
     }
 
-    /// Takes turns until the flag is set, or a turn answers `Io`.
+    /// Takes turns until the flag is set, or a turn answers `Io`, which is its only fault.
     pub fn run<R: Wait>(&mut self, rt: &R, stop: &AtomicBool) -> Result<(), LoopFault>
-        ensures { self.new.limit ≡ self.old.limit }
+        ensures limit { self.new.limit ≡ self.old.limit }
+        ensures fault { IfErr result (λ e. e ≡ Failing) }
     {
         for _ in rt.forever() {
             if stop.load(Ordering::SeqCst) {
                 return Ok(());
             }
-            if self.turn() == Err(LoopFault::Io) {
+            if is_lost(self.turn()) {
                 return Err(LoopFault::Io);
             }
         }

@@ -22,9 +22,9 @@ const LONGEST_REPLY: usize = 1_400;
 /// sent: more of them are answered a second so than one by one.
 const TOGETHER: usize = 16;
 
-/// How many times so many one event may bring. What is left is reported again, so that the streams
-/// get their turn.
-const ROUNDS: usize = 16;
+/// How many times so many one event may bring: half of what a socket's buffer mostly holds. What is left is
+/// reported again, so that the streams get their turn.
+const ROUNDS: usize = 8;
 
 /// A datagram, and what is answered.
 #[derive(Drop)]

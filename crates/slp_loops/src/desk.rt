@@ -31,7 +31,7 @@ pub struct Desk<'r, 's, R: Wait, M: Moments + Drop, W: Write> {
 }
 
 impl<'r, 's, R: Wait, M: Moments + Drop, W: Write> Desk<'r, 's, R, M, W> {
-    ghost use Rattle.std.specs.Prelude.{◌≡◌};
+    ghost use Rattle.std.specs.Prelude.{◌≡◌, ◌||◌, nat_lt, length, false};
 
     /// A desk for messages that come to an address of the directory. Takes no memory.
     pub fn new(
@@ -43,6 +43,7 @@ impl<'r, 's, R: Wait, M: Moments + Drop, W: Write> Desk<'r, 's, R, M, W> {
     ) -> Desk<'r, 's, R, M, W>
         ensures own { result.own ≡ own }
         ensures moments { result.moments ≡ moments }
+        ensures settled { result.is_unsettled ≡ false }
     {
         Desk {
             rt,
@@ -58,6 +59,7 @@ impl<'r, 's, R: Wait, M: Moments + Drop, W: Write> Desk<'r, 's, R, M, W> {
     fn tell(&mut self, line: &[u8])
         ensures own { self.new.own ≡ self.old.own }
         ensures moments { self.new.moments ≡ self.old.moments }
+        ensures unsettled { self.new.is_unsettled ≡ (self.old.is_unsettled || nat_lt 0 (length line.now)) }
     {
         if line.is_empty() {
             return;
@@ -70,9 +72,11 @@ impl<'r, 's, R: Wait, M: Moments + Drop, W: Write> Desk<'r, 's, R, M, W> {
 
 impl<'r, 's, R: Wait, M: Moments + Drop, W: Write> Serve for Desk<'r, 's, R, M, W> {
     ghost use Rattle.std.specs.Prelude.{◌≡◌, false};
-    ghost use Rattle.slp_loops.specs.Desks.{DeskSteps};
+    ghost use Rattle.slp_loops.specs.Desks.{DeskSteps, told_line};
 
-    ghost steps = { λ before asker message limit outcome answer after. DeskSteps M.may before.own asker message limit before.moments outcome answer after.moments };
+    ghost steps = { λ before asker message limit outcome answer after. DeskSteps M.may (told_line asker message outcome answer)
+        (record { own = before.own; moments = before.moments; is_unsettled = before.is_unsettled })
+        (record { own = after.own; moments = after.moments; is_unsettled = after.is_unsettled }) };
 
     ghost settles = { λ before after. after ≡ record before { is_unsettled = false } };
 

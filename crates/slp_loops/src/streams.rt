@@ -1,5 +1,7 @@
-ghost use Rattle.std.specs.Prelude.{◌≡◌, ◌≤◌, IfOk};
+ghost use Rattle.std.specs.Prelude.{◌≡◌, ◌≤◌, ◌↔◌, IfOk, IsTrue};
 ghost use Rattle.slab.specs.Slab.{slab_len};
+ghost use Rattle.std_io.specs.IoError.{raw_os_error};
+ghost use Rattle.slp_loops.specs.Listening.{IsLost};
 
 use crate::connection::{Connection, Next};
 use crate::fault::LoopFault;
@@ -50,7 +52,9 @@ impl Peer {
 
 // Whether a failed `accept` tells that the listener itself is of no use any more. All else concerns
 // the one connection that waited, or means that are wanting now, as descriptors.
-fn is_listener_lost(error: &io::Error) -> bool {
+fn is_listener_lost(error: &io::Error) -> bool
+    ensures { IsTrue result ↔ IsLost (raw_os_error error.now) }
+{
     matches!(error.raw_os_error(), Some(EBADF | EINVAL | ENOTSOCK))
 }
 

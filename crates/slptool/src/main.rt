@@ -20,13 +20,15 @@ fn words(rt: &HostRuntime) -> io::Result<Vec<String>> {
     Ok(words)
 }
 
-// The status of a call whose words are not all text, or that finds no memory for them.
+// Prints why nothing is asked: words that are not all text, or no memory for what comes first.
 fn refuse(rt: &HostRuntime, fault: &io::Error) -> ExitCode {
-    if fault.kind() != io::ErrorKind::InvalidData {
-        return ExitCode::from(NO_MEMORY);
-    }
-    let _ = io::writer(rt).write_all(b"usage: slptool HOST:PORT COMMAND\n");
-    ExitCode::from(USAGE)
+    let (line, status) = if fault.kind() == io::ErrorKind::InvalidData {
+        (b"usage: slptool HOST:PORT COMMAND\n".as_slice(), USAGE)
+    } else {
+        (b"! memory\n".as_slice(), NO_MEMORY)
+    };
+    let _ = io::writer(rt).write_all(line);
+    ExitCode::from(status)
 }
 
 fn main(rt: HostRuntime) -> ExitCode {
@@ -34,8 +36,9 @@ fn main(rt: HostRuntime) -> ExitCode {
         Ok(words) => words,
         Err(fault) => return refuse(&rt, &fault),
     };
-    let Ok(mut writer) = BufWriter::new(rt.alloc(), io::writer(&rt)) else {
-        return ExitCode::from(NO_MEMORY);
+    let mut writer = match BufWriter::new(rt.alloc(), io::writer(&rt)) {
+        Ok(writer) => writer,
+        Err(fault) => return refuse(&rt, &fault),
     };
     let reader = rt.reader();
     ExitCode::from(tool_run(&rt, rt.alloc(), words.as_slice(), reader, &mut writer))

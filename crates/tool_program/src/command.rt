@@ -34,6 +34,14 @@ pub(crate) enum Command<'a> {
     Keep(RegistrationView<'a>),
 }
 
+/// The header of the tool's requests, which are in English.
+pub(crate) fn header_with(xid: u16) -> RequestHeader<'static> {
+    RequestHeader {
+        xid,
+        language: "en",
+    }
+}
+
 // The word at a place, or an empty one.
 fn word_or_empty<'a>(words: &'a [String], place: usize) -> &'a str {
     match words.get(place) {
@@ -59,49 +67,71 @@ fn registration_in(words: &[String]) -> Option<RegistrationView<'_>> {
     })
 }
 
+// The two or three words that a command has after its name, the third one empty where it is left out.
+fn three_in(words: &[String]) -> Option<(&str, &str, &str)> {
+    match words {
+        [first, second] => Some((first.as_str(), second.as_str(), "")),
+        [first, second, third] => Some((first.as_str(), second.as_str(), third.as_str())),
+        _ => None,
+    }
+}
+
+// The scopes, and the authority if one is named, of a question about types.
+fn types_in(words: &[String]) -> Option<Command<'_>> {
+    match words {
+        [scopes] => Some(Command::Types {
+            scopes: scopes.as_str(),
+            authority: None,
+        }),
+        [scopes, authority] => Some(Command::Types {
+            scopes: scopes.as_str(),
+            authority: Some(authority.as_str()),
+        }),
+        _ => None,
+    }
+}
+
+// The command of this name with two words or three.
+fn command_of_three<'a>(
+    name: &str,
+    (first, scopes, third): (&'a str, &'a str, &'a str),
+) -> Option<Command<'a>> {
+    if name == "find" {
+        Some(Command::Find {
+            kind: first,
+            scopes,
+            predicate: third,
+        })
+    } else if name == "attributes" {
+        Some(Command::Attributes {
+            subject: first,
+            scopes,
+            tags: third,
+        })
+    } else if name == "withdraw" {
+        Some(Command::Withdraw {
+            url: first,
+            scopes,
+            tags: third,
+        })
+    } else {
+        None
+    }
+}
+
 impl<'a> Command<'a> {
     /// The command that words are, after the agent's address; `None` where they are none.
     pub(crate) fn of(words: &'a [String]) -> Option<Command<'a>> {
         let (name, words) = words.split_first()?;
-        let has_third = words.len() == 2 || words.len() == 3;
         let name = name.as_str();
         if name == "register" {
-            return Some(Command::Register(registration_in(words)?));
-        }
-        if name == "keep" {
-            return Some(Command::Keep(registration_in(words)?));
-        }
-        if name == "types" && (words.len() == 1 || words.len() == 2) {
-            return Some(Command::Types {
-                scopes: words[0].as_str(),
-                authority: words.get(1).map(|word| word.as_str()),
-            });
-        }
-        if !has_third {
-            return None;
-        }
-        let (first, second) = (words[0].as_str(), words[1].as_str());
-        let third = word_or_empty(words, 2);
-        if name == "find" {
-            Some(Command::Find {
-                kind: first,
-                scopes: second,
-                predicate: third,
-            })
-        } else if name == "attributes" {
-            Some(Command::Attributes {
-                subject: first,
-                scopes: second,
-                tags: third,
-            })
-        } else if name == "withdraw" {
-            Some(Command::Withdraw {
-                url: first,
-                scopes: second,
-                tags: third,
-            })
+            registration_in(words).map(Command::Register)
+        } else if name == "keep" {
+            registration_in(words).map(Command::Keep)
+        } else if name == "types" {
+            types_in(words)
         } else {
-            None
+            command_of_three(name, three_in(words)?)
         }
     }
 
@@ -133,4 +163,11 @@ impl<'a> Command<'a> {
             }
         }
     }
+}
+
+/// The message that asks for what words say, as the tool sends it with this number: `None` where they are no
+/// command, or it can't be spelled.
+pub fn request_of(alloc: Global, xid: u16, words: &[String]) -> Option<Vec<u8>> {
+    let command = Command::of(words)?;
+    command.request(alloc, &header_with(xid)).ok()
 }

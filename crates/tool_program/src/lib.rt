@@ -5,4 +5,5 @@ mod command;
 mod printing;
 mod program;
 
+pub use command::request_of;
 pub use program::tool_run;

@@ -1,67 +1,111 @@
 //! What is printed of a reply, and of none.
+ghost use Rattle.std.specs.Prelude.{◌≡◌, ◌∷◌, ◌++◌, [], flat_map, OnOk};
+ghost use Rattle.slp_text.specs.Ascii.{line_feed};
+ghost use Rattle.std.specs.Io.KnownBytes.{Appends};
+ghost use Rattle.tool_program.specs.Printing as spec;
+
 use agent_clients::{ClientFault, Items};
 use slp_messages::UrlEntry;
+use slp_text::capital_digit;
 use std::io::{self, Write};
 
-// Prints a text on one line. A control character, which no directory of good will sends, is printed as its
+// Prints a byte of a text. A control character, which no directory of good will sends, is printed as its
 // escape, so that each line stays one.
-fn print_text<W: Write>(writer: &mut W, text: &str) -> io::Result<()> {
-    for part in text.split_inclusive(|c: char| c.is_ascii_control()) {
-        match part.as_bytes().split_last() {
-            Some((last, front)) if last.is_ascii_control() => {
-                writer.write_all(front)?;
-                write!(writer, "\\{last:02X}")?;
-            }
-            _ => writer.write_all(part.as_bytes())?,
-        }
+fn print_byte<W: Write>(byte: u8, writer: &mut W) -> io::Result<()>
+    ensures { OnOk result (Appends (W.contents writer.old) (W.contents writer.new) (spec.shown_byte byte)) }
+{
+    if byte < b' ' || byte == 0x7f {
+        let (first, second) = (capital_digit(byte / 16), capital_digit(byte % 16));
+        writer.write_all(&[b'\\', first as u8, second as u8])
+    } else {
+        writer.write_all(&[byte])
+    }
+}
+
+// Prints a text on one line.
+fn print_text<W: Write>(text: &str, writer: &mut W) -> io::Result<()>
+    ensures { OnOk result (Appends (W.contents writer.old) (W.contents writer.new) (flat_map spec.shown_byte text.now)) }
+{
+    for byte in text.as_bytes() {
+        print_byte(*byte, writer)?;
     }
     Ok(())
 }
 
-fn print_urls<W: Write>(writer: &mut W, entries: &[UrlEntry]) -> io::Result<()> {
+// Prints a URL and the seconds that are left of its lifetime.
+fn print_url<W: Write>(entry: &UrlEntry, writer: &mut W) -> io::Result<()>
+    ensures { OnOk result (Appends (W.contents writer.old) (W.contents writer.new) (spec.url_line entry.now)) }
+{
+    print_text(entry.url.as_str(), writer)?;
+    writeln!(writer, " {}", entry.lifetime)
+}
+
+// Prints a line for each URL.
+fn print_urls<W: Write>(entries: &[UrlEntry], writer: &mut W) -> io::Result<()>
+    ensures { OnOk result (Appends (W.contents writer.old) (W.contents writer.new) (flat_map spec.url_line entries.now)) }
+{
     for entry in entries {
-        print_text(writer, entry.url.as_str())?;
-        writeln!(writer, " {}", entry.lifetime)?;
+        print_url(entry, writer)?;
     }
     Ok(())
+}
+
+// Prints a text and the end of its line.
+fn print_line<W: Write>(text: &str, writer: &mut W) -> io::Result<()>
+    ensures { OnOk result (Appends (W.contents writer.old) (W.contents writer.new) (flat_map spec.shown_byte text.now ++ line_feed ∷ [])) }
+{
+    print_text(text, writer)?;
+    writer.write_all(b"\n")
 }
 
 // Prints each part of a list on a line; of an empty list nothing.
-fn print_list<W: Write>(writer: &mut W, list: &str) -> io::Result<()> {
+fn print_list<W: Write>(list: &str, writer: &mut W) -> io::Result<()> {
     if list.is_empty() {
         return Ok(());
     }
     for part in list.split(',') {
-        print_text(writer, part)?;
-        writer.write_all(b"\n")?;
+        print_line(part, writer)?;
     }
     Ok(())
 }
 
 /// Prints what a reply holds: a line for each URL or type, one for attributes or for a directory agent, and
 /// `ok` for an acknowledgement.
-pub(crate) fn print_items<W: Write>(writer: &mut W, items: &Items) -> io::Result<()> {
+pub(crate) fn print_items<W: Write>(items: &Items, writer: &mut W) -> io::Result<()> {
     match items {
-        Items::Urls(entries) => print_urls(writer, entries.as_slice()),
-        Items::Types(list) => print_list(writer, list.as_str()),
+        Items::Urls(entries) => print_urls(entries.as_slice(), writer),
+        Items::Types(list) => print_list(list.as_str(), writer),
         Items::Acknowledged => writer.write_all(b"ok\n"),
         Items::Attributes(text) | Items::Advert { url: text, .. } => {
-            print_text(writer, text.as_str())?;
-            writer.write_all(b"\n")
+            print_line(text.as_str(), writer)
         }
     }
 }
 
-/// Prints why there is no reply, and answers the status of a call that has none.
-pub(crate) fn print_fault<W: Write>(writer: &mut W, fault: ClientFault) -> u8 {
-    let (told, status) = match fault {
-        ClientFault::Io => (writer.write_all(b"! io\n"), 1),
-        ClientFault::GaveUp => (writer.write_all(b"! no answer\n"), 2),
-        ClientFault::Code(code) => (writeln!(writer, "! code {code}"), 3),
-        ClientFault::NoMemory => (writer.write_all(b"! memory\n"), 4),
-        ClientFault::Partial => (writer.write_all(b"! partial\n"), 5),
-        ClientFault::TooLong => (writer.write_all(b"! too long\n"), 6),
-    };
-    let _ = told;
-    status
+/// Prints why there is no reply.
+pub(crate) fn print_fault<W: Write>(fault: ClientFault, writer: &mut W) -> io::Result<()>
+    ensures { OnOk result (Appends (W.contents writer.old) (W.contents writer.new) (spec.fault_text fault)) }
+{
+    match fault {
+        ClientFault::Io => writer.write_all(b"! io\n"),
+        ClientFault::GaveUp => writer.write_all(b"! no answer\n"),
+        ClientFault::Code(code) => writeln!(writer, "! code {code}"),
+        ClientFault::NoMemory => writer.write_all(b"! memory\n"),
+        ClientFault::Partial => writer.write_all(b"! partial\n"),
+        ClientFault::TooLong => writer.write_all(b"! too long\n"),
+    }
+}
+
+/// The status of a call that has no reply.
+pub(crate) fn fault_status(fault: ClientFault) -> u8
+    ensures { result ≡ spec.fault_status fault }
+{
+    match fault {
+        ClientFault::Io => 1,
+        ClientFault::GaveUp => 2,
+        ClientFault::Code(_) => 3,
+        ClientFault::NoMemory => 4,
+        ClientFault::Partial => 5,
+        ClientFault::TooLong => 6,
+    }
 }

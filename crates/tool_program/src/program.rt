@@ -1,10 +1,10 @@
 ghost use Rattle.std.specs.Prelude.{◌≤◌, length};
 ghost use Rattle.agent_clients.specs.Keeping.{IsRegistration};
 
-use crate::command::Command;
-use crate::printing::{print_fault, print_items};
+use crate::command::{Command, header_with};
+use crate::printing::{fault_status, print_fault, print_items};
 use access_rules::Addr;
-use agent_clients::{ClientFault, RequestHeader, ServiceAgent, ask, keep_alive, registration};
+use agent_clients::{ClientFault, ServiceAgent, ask, keep_alive, registration};
 use std::alloc::Global;
 use std::io::{self, ErrorKind, Read, Write};
 use std::net::{Ipv4Addr, Net, SocketAddr, TcpStream};
@@ -61,13 +61,13 @@ where
     let mut messages = Vec::new(alloc);
     agent.turn(alloc, 0, &mut messages)?;
     for message in messages {
-        ask(rt, alloc, peer, message)?;
+        drop(ask(rt, alloc, peer, message)?);
     }
     Ok(())
 }
 
-// Registers a service, and keeps it registered until the input ends. The thread that reads the input is not
-// joined: where a refresh fails, the call ends at once.
+// Registers a service, and keeps it registered until the input ends. The thread that reads the input is made before
+// anything is registered, and not joined: where a refresh fails, the call ends at once.
 fn keep<R, I>(
     rt: &R,
     alloc: Global,
@@ -83,13 +83,13 @@ where
 {
     let mut agent = ServiceAgent::new(alloc);
     agent.keep(alloc, request)?;
-    register_first(rt, alloc, peer, &mut agent)?;
     let stop = Arc::new(alloc, AtomicBool::new(false))?;
     let theirs = Arc::try_clone(&stop)?;
-    match thread::spawn(rt, move || wait_for_end(&mut input, &theirs)) {
-        Ok(_) => keep_alive(rt, alloc, peer, agent, &stop),
-        Err(_) => Err(ClientFault::Io),
+    if thread::spawn(rt, move || wait_for_end(&mut input, &theirs)).is_err() {
+        return Err(ClientFault::NoMemory);
     }
+    register_first(rt, alloc, peer, &mut agent)?;
+    keep_alive(rt, alloc, peer, agent, &stop)
 }
 
 // Does what a command asks for, and prints what comes of it.
@@ -105,17 +105,16 @@ where
     I: Read + Send + Drop + 'static,
     W: Write,
 {
-    let header = RequestHeader {
-        xid: xid_now(rt),
-        language: "en",
-    };
+    let header = header_with(xid_now(rt));
     if let Command::Keep(service) = command {
         let request = registration(alloc, &header, &service)?;
         keep(rt, alloc, peer, request, reader)?;
         return Ok(writer.write_all(b"ok\n"));
     }
     let items = ask(rt, alloc, peer, command.request(alloc, &header)?)?;
-    Ok(print_items(writer, &items))
+    let printed = print_items(&items, writer);
+    drop(items);
+    Ok(printed)
 }
 
 // The agent and the command that words name.
@@ -140,12 +139,11 @@ where
         let _ = writer.flush();
         return USAGE;
     };
-    let status = match act(rt, alloc, call, reader, writer) {
-        Ok(Ok(())) => 0,
-        Ok(Err(_)) => UNWRITTEN,
-        Err(fault) => print_fault(writer, fault),
+    let (status, printed) = match act(rt, alloc, call, reader, writer) {
+        Ok(printed) => (0, printed),
+        Err(fault) => (fault_status(fault), print_fault(fault, writer)),
     };
-    match writer.flush() {
+    match printed.and_then(|()| writer.flush()) {
         Ok(()) => status,
         Err(_) => UNWRITTEN,
     }
