@@ -59,3 +59,25 @@ impl Write for Sink {
         Ok(())
     }
 }
+
+/// Takes all that is written. Its `flush` fails from the moment that so many bytes are there.
+#[derive(Drop)]
+pub struct Unflushed {
+    pub bytes: Vec<u8>,
+    pub full: usize,
+}
+
+impl Write for Unflushed {
+    fn write(&mut self, buf: &[u8]) -> io::Result<usize> {
+        self.bytes.extend_from_slice(buf)?;
+        Ok(buf.len())
+    }
+
+    fn flush(&mut self) -> io::Result<()> {
+        if self.bytes.len() < self.full {
+            Ok(())
+        } else {
+            Err(io::Error::from(ErrorKind::Other))
+        }
+    }
+}

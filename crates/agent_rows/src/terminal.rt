@@ -1,0 +1,102 @@
+//! The terminal of an agent: two streams, of which rows have the other ends.
+use std::alloc::Global;
+use std::io::{self, Write};
+use std::net::TcpStream;
+use std::sync::atomic::{AtomicBool, Ordering};
+use std::thread;
+use std::time::{Clock, Duration};
+
+/// How many bytes one write takes.
+const TAKEN: usize = 10;
+
+/// How often a closed gate is looked at, and how long between, in milliseconds.
+const LOOKS: u32 = 1_000;
+
+const NAP: u64 = 5;
+
+/// Holds who writes lines out, and tells that one waits.
+#[derive(Drop)]
+pub(crate) struct Gate {
+    is_closed: AtomicBool,
+    is_waited_at: AtomicBool,
+}
+
+impl Gate {
+    pub(crate) fn new() -> Gate {
+        Gate {
+            is_closed: AtomicBool::new(false),
+            is_waited_at: AtomicBool::new(false),
+        }
+    }
+
+    pub(crate) fn close(&self) {
+        self.is_closed.store(true, Ordering::SeqCst);
+    }
+
+    pub(crate) fn open(&self) {
+        self.is_closed.store(false, Ordering::SeqCst);
+    }
+
+    // Waits until the gate is open, for five seconds at most.
+    fn pass<R: Clock>(&self, rt: &R) {
+        for _ in 0..LOOKS {
+            if !self.is_closed.load(Ordering::SeqCst) {
+                break;
+            }
+            self.is_waited_at.store(true, Ordering::SeqCst);
+            thread::sleep(rt, Duration::from_millis(NAP));
+        }
+        self.is_waited_at.store(false, Ordering::SeqCst);
+    }
+
+    /// Waits until someone waits at the gate, for five seconds at most, and answers whether one does.
+    pub(crate) fn is_reached<R: Clock>(&self, rt: &R) -> bool {
+        for _ in 0..LOOKS {
+            if self.is_waited_at.load(Ordering::SeqCst) {
+                return true;
+            }
+            thread::sleep(rt, Duration::from_millis(NAP));
+        }
+        false
+    }
+}
+
+/// What an agent writes to. Only what it has flushed comes out, through the gate; and a write takes some bytes alone.
+#[derive(Drop)]
+pub(crate) struct Terminal<'g, R> {
+    rt: &'g R,
+    gate: &'g Gate,
+    stream: TcpStream,
+    waiting: Vec<u8>,
+}
+
+impl<'g, R: Clock> Terminal<'g, R> {
+    pub(crate) fn new(
+        rt: &'g R,
+        alloc: Global,
+        gate: &'g Gate,
+        stream: TcpStream,
+    ) -> Terminal<'g, R> {
+        Terminal {
+            rt,
+            gate,
+            stream,
+            waiting: Vec::new(alloc),
+        }
+    }
+}
+
+impl<'g, R: Clock> Write for Terminal<'g, R> {
+    fn write(&mut self, buf: &[u8]) -> io::Result<usize> {
+        let count = buf.len().min(TAKEN);
+        self.waiting.extend_from_slice(&buf[..count])?;
+        Ok(count)
+    }
+
+    fn flush(&mut self) -> io::Result<()> {
+        self.gate.pass(self.rt);
+        let told = self.stream.write_all(self.waiting.as_slice());
+        self.waiting.clear();
+        told
+    }
+}
