@@ -1,0 +1,306 @@
+ghost use Rattle.std.specs.Prelude.{◌≡◌, ◌≤◌, length, IfOk};
+ghost use Rattle.slp_text.specs.Scopes.{printed_scopes};
+
+mod rows;
+
+use crate::assertion::{Asking, assert_table, found, part_of};
+use crate::messages::bytes_of;
+use access_rules::{Addr, Rules};
+use directory_answers::{Authority, Target};
+use directory_judge::{Change, Judged, Site, judge_on};
+use directory_state::{AttrQuery, Directory, QueryFault, ServiceQuery, TypeQuery};
+use registry_core::{ListRegistry, Registry};
+use rows::{MESSAGES, TABLE};
+use service_url::ServiceType;
+use slp_answer::{Answer, Sent, acknowledge, is_change};
+use slp_text::{NoMemory, ScopeList, TagList, key};
+use slp_wire::{Message, decode};
+use srv_template::Templates;
+use std::alloc::{AllocError, Global};
+use std::sync::Arc;
+
+#[derive(Clone, Copy)]
+struct Directories;
+
+const OPEN: &str = "\
+version = 1
+rule = [
+    { name = 'all-register', from = ['0.0.0.0/0'], action = 'register', type = '*', scopes = ['*'], verdict = 'allow' },
+    { name = 'all-withdraw', from = ['0.0.0.0/0'], action = 'withdraw', type = '*', scopes = ['*'], verdict = 'allow' },
+    { name = 'all-see', from = ['0.0.0.0/0'], action = 'see', type = '*', scopes = ['*'], verdict = 'allow' },
+]
+";
+
+fn rules_of(alloc: Global, text: &str) -> Result<Arc<Rules>, NoMemory> {
+    let rules = found(Rules::from_text(alloc, text))?;
+    Ok(Arc::new(alloc, rules)?)
+}
+
+// The one scope that a text names, of at most 1,024 bytes where it is written.
+fn one_scope(alloc: Global, scope: &str) -> Result<ScopeList, NoMemory>
+    ensures one { IfOk result (λ scopes. length scopes ≡ 1) }
+    ensures short { IfOk result (λ scopes. length (printed_scopes scopes) ≤ 1024) }
+{
+    let scopes = found(ScopeList::parse(alloc, scope))?;
+    let mut written = String::new(alloc);
+    scopes.print_into(&mut written)?;
+    if scopes.len() == 1 && written.len() <= 1024 {
+        Ok(scopes)
+    } else {
+        Err(NoMemory)
+    }
+}
+
+// A directory of one scope and open rules. It is boxed, since the proof of a function that lets go of one is long.
+fn opened(alloc: Global) -> Result<Box<Directory<ListRegistry>>, NoMemory> {
+    let rules = rules_of(alloc, OPEN)?;
+    let templates = Arc::new(alloc, Templates::new(alloc))?;
+    let site = Site::new(one_scope(alloc, "DEFAULT")?, 4, templates, 1);
+    let Ok(registry) = ListRegistry::new(alloc, 4) else {
+        return Err(NoMemory);
+    };
+    Ok(Box::new(alloc, Directory::open(alloc, registry, &site, rules)?)?)
+}
+
+// Makes a share of a change.
+fn make_share(directory: &mut Directory<ListRegistry>, change: Change) -> Result<(), NoMemory> {
+    let share = change.share();
+    drop(change);
+    directory.apply(share?);
+    Ok(())
+}
+
+// Takes the bytes of a message, and tells the code of the reply.
+fn take_message(
+    alloc: Global,
+    directory: &mut Directory<ListRegistry>,
+    moment: u32,
+    bytes: &[u8],
+) -> Result<u16, NoMemory> {
+    if !is_change(bytes) {
+        return Err(NoMemory);
+    }
+    let mut answer = Answer::new(alloc);
+    let (sent, change) = acknowledge(alloc, directory, moment, Addr(1), bytes, &mut answer)?;
+    if let Some(change) = change {
+        make_share(directory, change)?;
+    }
+    match sent {
+        Sent::Bytes(code) => Ok(code),
+        Sent::Silence => Ok(0),
+    }
+}
+
+// Takes a message so often, and prints its name and code each time that it is refused.
+fn take_messages(
+    alloc: Global,
+    directory: &mut Directory<ListRegistry>,
+    moment: u32,
+    (name, times): (&str, u32),
+    out: &mut String,
+) -> Result<(), NoMemory> {
+    let bytes = bytes_of(alloc, part_of(name, &MESSAGES))?;
+    for _ in 0..times {
+        let code = take_message(alloc, directory, moment, bytes.as_slice())?;
+        if code > 0 {
+            write!(out, "{name} {code} ")?;
+        }
+    }
+    Ok(())
+}
+
+fn take_step(
+    alloc: Global,
+    directory: &mut Directory<ListRegistry>,
+    moment: u32,
+    name: &str,
+    out: &mut String,
+) -> Result<(), NoMemory> {
+    match name {
+        "sweep" => make_share(directory, Change::Sweep(moment)),
+        "closed" => {
+            let rules = rules_of(alloc, "version = 1")?;
+            make_share(directory, Change::Reload(moment, rules))
+        }
+        "open" => {
+            let rules = rules_of(alloc, OPEN)?;
+            make_share(directory, Change::Reload(moment, rules))
+        }
+        "a 100000 times" => take_messages(alloc, directory, moment, ("a", 100_000), out),
+        name => take_messages(alloc, directory, moment, (name, 1), out),
+    }
+}
+
+fn take_steps(
+    alloc: Global,
+    directory: &mut Directory<ListRegistry>,
+    steps: &str,
+    out: &mut String,
+) -> Result<(), NoMemory> {
+    for step in steps.split(", ") {
+        if let Some((moment, name)) = step.split_once(' ') {
+            let moment = moment.parse::<u32>().unwrap_or(0);
+            take_step(alloc, directory, moment, name, out)?;
+        }
+    }
+    Ok(())
+}
+
+fn service_query(alloc: Global, scope: &str) -> Result<ServiceQuery, NoMemory> {
+    Ok(ServiceQuery {
+        kind: found(ServiceType::parse(alloc, "service:printer"))?,
+        scopes: found(ScopeList::parse(alloc, scope))?,
+        language: found(key(alloc, "en"))?,
+        filter: None,
+    })
+}
+
+fn print_services(
+    alloc: Global,
+    directory: &Directory<ListRegistry>,
+    scope: &str,
+    out: &mut String,
+) -> Result<(), QueryFault> {
+    let query = service_query(alloc, scope)?;
+    let told = directory.services(alloc, 0, Addr(1), &query);
+    drop(query);
+    for entry in told?.as_slice() {
+        write!(out, " {} {}", entry.url.as_str(), entry.lifetime)?;
+    }
+    Ok(())
+}
+
+fn attribute_query(alloc: Global, scope: &str) -> Result<AttrQuery, NoMemory> {
+    Ok(AttrQuery {
+        target: Target::Kind(found(ServiceType::parse(alloc, "service:printer"))?),
+        scopes: found(ScopeList::parse(alloc, scope))?,
+        language: found(key(alloc, "en"))?,
+        tags: found(TagList::parse(alloc, ""))?,
+    })
+}
+
+fn print_attributes(
+    alloc: Global,
+    directory: &Directory<ListRegistry>,
+    scope: &str,
+    out: &mut String,
+) -> Result<(), QueryFault> {
+    let query = attribute_query(alloc, scope)?;
+    let told = directory.attributes(alloc, 0, Addr(1), &query);
+    drop(query);
+    Ok(found(told?.print_into(out))?)
+}
+
+fn print_types(
+    alloc: Global,
+    directory: &Directory<ListRegistry>,
+    scope: &str,
+    out: &mut String,
+) -> Result<(), QueryFault> {
+    let query = TypeQuery {
+        authority: Authority::All,
+        scopes: found(ScopeList::parse(alloc, scope))?,
+    };
+    let told = directory.types(alloc, 0, Addr(1), &query);
+    drop(query);
+    for kind in told?.as_slice() {
+        write!(out, " {}", kind.text())?;
+    }
+    Ok(())
+}
+
+fn put_judged(judged: &Judged, out: &mut String) -> Result<(), AllocError> {
+    let (code, because, placed) = match judged {
+        Judged::Accept(Change::Put(placed) | Change::Edit(placed), because) => {
+            (0, because, Some(placed))
+        }
+        Judged::Accept(_, because) => (0, because, None),
+        Judged::Deny(code, because) => (*code, because, None),
+        Judged::Nothing => return out.push_str(" nothing;"),
+    };
+    write!(out, " {code} {:?}", because.decider)?;
+    if let Some(kind) = &because.kind {
+        write!(out, " {}", kind.text())?;
+    }
+    if let Some(scope) = &because.scope {
+        write!(out, " {}", scope.as_str())?;
+    }
+    if let Some(placed) = placed {
+        write!(out, " {} {}", placed.moment, placed.entry.deadline)?;
+    }
+    out.push(';')
+}
+
+fn print_judged(judged: Result<Judged, NoMemory>, out: &mut String) -> Result<(), NoMemory> {
+    let judged = judged?;
+    let told = put_judged(&judged, out);
+    drop(judged);
+    Ok(told?)
+}
+
+// What comes of a message at moment 7, and what its parts make of it.
+fn print_judgements(
+    alloc: Global,
+    directory: &Directory<ListRegistry>,
+    message: &Message,
+    out: &mut String,
+) -> Result<(), NoMemory> {
+    match message {
+        Message::Registration(_, _) | Message::Withdrawal(_, _) => {
+            print_judged(directory.judge(alloc, 7, Addr(1), message), out)?;
+            let (registry, rules, site) = (
+                directory.registry(),
+                directory.rules(),
+                directory.site(),
+            );
+            print_judged(
+                judge_on(alloc, registry, rules, site, 7, Addr(1), message),
+                out,
+            )
+        }
+        _ => Err(NoMemory),
+    }
+}
+
+fn print_judgement(
+    alloc: Global,
+    directory: &Directory<ListRegistry>,
+    name: &str,
+    out: &mut String,
+) -> Result<(), NoMemory> {
+    let bytes = bytes_of(alloc, part_of(name, &MESSAGES))?;
+    let Ok(message) = decode(alloc, bytes.as_slice()) else {
+        return Err(NoMemory);
+    };
+    let told = print_judgements(alloc, directory, &message, out);
+    drop(message);
+    told
+}
+
+impl Asking for Directories {
+    type Fault = QueryFault;
+
+    fn print(
+        self,
+        alloc: Global,
+        word: &str,
+        text: &str,
+        beside: &str,
+        out: &mut String,
+    ) -> Result<(), QueryFault> {
+        let mut directory = opened(alloc)?;
+        take_steps(alloc, &mut directory, text, out)?;
+        match word {
+            "services" => print_services(alloc, &directory, beside, out),
+            "attributes" => print_attributes(alloc, &directory, beside, out),
+            "types" => print_types(alloc, &directory, beside, out),
+            "number" => Ok(write!(out, "{}", directory.registry().len())?),
+            _ => Ok(print_judgement(alloc, &directory, beside, out)?),
+        }
+    }
+}
+
+#[test]
+fn directories_answer_after_their_history(rt: HostRuntime) {
+    assert_table(&rt, rt.alloc(), Directories, TABLE);
+}

@@ -1,0 +1,134 @@
+mod rows;
+
+use crate::assertion::{Asking, assert_table, found, lines, part_of, whole};
+use access_rules::{Action, Addr, RuleFault, Rules};
+use rows::{FILES, LINES, TABLE};
+use service_url::ServiceType;
+use slp_text::{Key, NoMemory, key};
+use std::alloc::{AllocError, Global};
+
+#[derive(Clone, Copy)]
+struct RuleFiles;
+
+fn print_names(rules: &Rules, out: &mut String) -> Result<(), NoMemory> {
+    for place in 0..rules.len() {
+        out.push(' ')?;
+        out.push_str(rules.name(place))?;
+    }
+    Ok(())
+}
+
+fn print_file(alloc: Global, text: &str, out: &mut String) -> Result<(), RuleFault> {
+    let rules = Rules::from_text(alloc, text)?;
+    let told = print_names(&rules, out);
+    drop(rules);
+    Ok(told?)
+}
+
+// A file of one rule, good but for the line of a key.
+fn print_value(alloc: Global, key: &str, line: &str, out: &mut String) -> Result<(), RuleFault> {
+    let parts = [
+        (key, line),
+        ("name", "name = 'a'"),
+        ("from", "from = ['0.0.0.0/0']"),
+        ("action", "action = 'register'"),
+        ("type", "type = '*'"),
+        ("scopes", "scopes = ['*']"),
+        ("verdict", "verdict = 'allow'"),
+    ];
+    let text = "version = 1¶[[rule]]¶name¶from¶action¶type¶scopes¶verdict";
+    let file = lines(alloc, text, &parts)?;
+    print_file(alloc, file.as_str(), out)
+}
+
+// Who asks, the action and the text of the type.
+fn asked(text: &str) -> Option<(Addr, Action, &str)> {
+    let (asker, rest) = text.split_once(' ')?;
+    let (action, kind) = rest.split_once(' ')?;
+    let action = match action {
+        "register" => Action::Register,
+        "withdraw" => Action::Withdraw,
+        _ => Action::See,
+    };
+    Some((Addr::parse(asker.as_bytes())?, action, kind))
+}
+
+fn print_verdict(
+    rules: &Rules,
+    question: (Addr, Action, &ServiceType),
+    scope: &Key,
+    out: &mut String,
+) -> Result<(), AllocError> {
+    let (asker, action, kind) = question;
+    let verdict = rules.decide(asker, action, kind, scope);
+    out.push_str(if verdict.allow {
+        "allow by "
+    } else {
+        "deny by "
+    })?;
+    match verdict.rule {
+        Some(place) => out.push_str(rules.name(place)),
+        None => out.push_str("no rule"),
+    }
+}
+
+fn print_decided(
+    alloc: Global,
+    rules: &Rules,
+    text: &str,
+    scope: &str,
+    out: &mut String,
+) -> Result<(), RuleFault> {
+    let Some((asker, action, kind)) = asked(text) else {
+        return Err(RuleFault::Toml);
+    };
+    let kind = found(ServiceType::parse(alloc, kind))?;
+    let scope = found(key(alloc, scope))?;
+    Ok(print_verdict(rules, (asker, action, &kind), &scope, out)?)
+}
+
+fn print_decision(
+    alloc: Global,
+    text: &str,
+    scope: &str,
+    out: &mut String,
+) -> Result<(), RuleFault> {
+    let Some((name, text)) = text.split_once(' ') else {
+        return Err(RuleFault::Toml);
+    };
+    let file = whole(alloc, part_of(name, &FILES))?;
+    let rules = Rules::from_text(alloc, file.as_str())?;
+    let told = print_decided(alloc, &rules, text, scope, out);
+    drop(rules);
+    told
+}
+
+impl Asking for RuleFiles {
+    type Fault = RuleFault;
+
+    fn print(
+        self,
+        alloc: Global,
+        word: &str,
+        text: &str,
+        beside: &str,
+        out: &mut String,
+    ) -> Result<(), RuleFault> {
+        match word {
+            "decided" => print_decision(alloc, text, beside, out),
+            "file" => {
+                let file = lines(alloc, text, &LINES)?;
+                print_file(alloc, file.as_str(), out)
+            }
+            key => {
+                let line = lines(alloc, text, &[])?;
+                print_value(alloc, key, line.as_str(), out)
+            }
+        }
+    }
+}
+
+#[test]
+fn rule_files_are_read_and_decide(rt: HostRuntime) {
+    assert_table(&rt, rt.alloc(), RuleFiles, TABLE);
+}

@@ -1,0 +1,230 @@
+// What a line of a file stands for, if not for itself.
+pub static LINES: [(&str, &str); 3] = [
+    (
+        "a",
+        "[[rule]]\nname = 'a'\nfrom = ['0.0.0.0/0']\naction = 'register'\ntype = '*'\nscopes = ['*']\nverdict = 'allow'",
+    ),
+    (
+        "b",
+        "[[rule]]\nname = 'b'\nfrom = ['0.0.0.0/0']\naction = 'see'\ntype = '*'\nscopes = ['*']\nverdict = 'deny'",
+    ),
+    ("broken", "[[rule]]\nname = 'a'"),
+];
+
+// Rule files by name.
+pub static FILES: [(&str, &str); 9] = [
+    (
+        "house",
+        "
+version = 1
+
+[[rule]]
+name = 'printers'
+from = ['10.0.0.0/8']
+action = 'register'
+type = 'service:printer'
+scopes = ['DEFAULT']
+verdict = 'allow'
+
+[[rule]]
+name = 'no-others'
+from = ['10.0.0.0/8', '192.168.7.1/32']
+action = 'register'
+type = '*'
+scopes = ['*']
+verdict = 'deny'
+
+[[rule]]
+name = 'house'
+from = ['192.168.7.9/16', '10.9.9.9/8']
+action = 'see'
+type = '*'
+scopes = ['Upper Floor', 'lower']
+verdict = 'allow'
+",
+    ),
+    (
+        "two",
+        "version = 1\nrule = [{ name = 'first', from = ['10.1.2.3/8'], action = 'register', type = '*', scopes = ['*'], verdict = 'deny' }, { name = 'second', from = ['10.1.2.3/0'], action = 'register', type = '*', scopes = ['*'], verdict = 'allow' }]",
+    ),
+    (
+        "everyone",
+        "version = 1\nrule = [{ name = 'first', from = ['10.1.2.3/0'], action = 'register', type = '*', scopes = ['*'], verdict = 'allow' }]",
+    ),
+    (
+        "eight-bits",
+        "version = 1\nrule = [{ name = 'first', from = ['10.1.2.3/8'], action = 'register', type = '*', scopes = ['*'], verdict = 'allow' }]",
+    ),
+    (
+        "all-bits",
+        "version = 1\nrule = [{ name = 'first', from = ['10.1.2.3/32'], action = 'register', type = '*', scopes = ['*'], verdict = 'allow' }]",
+    ),
+    (
+        "printers",
+        "version = 1\nrule = [{ name = 'first', from = ['10.1.2.3/0'], action = 'register', type = 'service:printer', scopes = ['*'], verdict = 'allow' }]",
+    ),
+    (
+        "one-scope",
+        "version = 1\nrule = [{ name = 'first', from = ['10.1.2.3/0'], action = 'register', type = '*', scopes = ['DEFAULT'], verdict = 'allow' }]",
+    ),
+    ("none", "version = 1"),
+    (
+        "many",
+        "version = 1\n<<1023 [[rule]]\nname = 'r-%'\naction = 'see'\nfrom = ['0.0.0.0/0']\ntype = '*'\nscopes = ['*']\nverdict = 'allow'\n>>[[rule]]\nname = 'r-1024'\naction = 'register'\nfrom = ['0.0.0.0/0']\ntype = '*'\nscopes = ['*']\nverdict = 'allow'",
+    ),
+];
+
+/// Files, and lines of a key of a file's only rule, with the names of the rules; and who asks for what action on a type in a
+/// scope, and what the file of a name decides.
+pub const TABLE: &str = "
+file¦version = 1¦¦
+file¦version = 1¶rule = []¦¦
+file¦version = 1¶rule = [{ name = 'a', from = ['0.0.0.0/0'], action = 'register', type = '*', scopes = ['*'], verdict = 'allow' }]¦¦ a
+file¦version = 1¶a¦¦ a
+file¦version = 1¶a¶b¦¦ a b
+file¦version = 1¶<<1024 [[rule]]¶name = 'r-%'¶action = 'see'¶from = ['0.0.0.0/0']¶type = '*'¶scopes = ['*']¶verdict = 'allow'¶>>¦¦<<1024  r-%>>
+file¦version = 1¶a¶b¶#<<1048359 x>>¦¦ a b
+name¦name = 'abcdefghijklmnopqrstuvwxyz-01234'¦¦ abcdefghijklmnopqrstuvwxyz-01234
+name¦name = 'a-1'¦¦ a-1
+name¦name = '-'¦¦ -
+from¦from = ['010.000.0.01/08']¦¦ a
+from¦from = ['255.255.255.255/32', '10.0.0.0/8']¦¦ a
+action¦action = 'withdraw'¦¦ a
+action¦action = 'see'¦¦ a
+type¦type = 'service:printer'¦¦ a
+type¦type = 'Service:Printer:'¦¦ a
+type¦type = 'http'¦¦ a
+scopes¦scopes = ['a,']¦¦ a
+scopes¦scopes = ['a,A']¦¦ a
+scopes¦scopes = ['a\\28b']¦¦ a
+scopes¦scopes = [\"a\\\\28b\"]¦¦ a
+scopes¦scopes = ['a', 'B', 'a']¦¦ a
+verdict¦verdict = 'deny'¦¦ a
+decided¦house 10.0.0.1 register service:printer¦DEFAULT¦allow by printers
+decided¦house 10.255.255.255 register service:printer:lpr¦default¦allow by printers
+decided¦house 10.0.0.1 register service:printers¦default¦deny by no-others
+decided¦house 10.0.0.1 register http¦default¦deny by no-others
+decided¦house 10.0.0.1 register service:printer¦lower¦deny by no-others
+decided¦house 192.168.7.1 register service:printer¦default¦deny by no-others
+decided¦house 192.168.7.2 register service:printer¦default¦deny by no rule
+decided¦house 9.255.255.255 register service:printer¦default¦deny by no rule
+decided¦house 11.0.0.0 register service:printer¦default¦deny by no rule
+decided¦house 10.0.0.1 see http¦lower¦allow by house
+decided¦house 192.168.255.255 see http¦lower¦allow by house
+decided¦house 192.169.7.9 see http¦lower¦deny by no rule
+decided¦house 192.168.7.9 see service:printer:lpr¦upper floor¦allow by house
+decided¦house 192.168.7.9 see service:printer:lpr¦ UPPER  FLOOR ¦allow by house
+decided¦house 10.0.0.1 see service:printer¦default¦deny by no rule
+decided¦house 10.0.0.1 see service:printer¦upper¦deny by no rule
+decided¦house 0.0.0.0 see service:printer¦lower¦deny by no rule
+decided¦house 255.255.255.255 register service:printer¦default¦deny by no rule
+decided¦house 10.0.0.1 withdraw service:printer¦default¦deny by no rule
+decided¦house 192.168.7.1 withdraw http¦lower¦deny by no rule
+decided¦two 10.255.255.255 register service:printer:lpr¦Default¦deny by first
+decided¦two 11.0.0.0 register service:printer:lpr¦Default¦allow by second
+decided¦everyone 11.0.0.0 register service:printer:lpr¦Default¦allow by first
+decided¦everyone 255.255.255.255 register service:printer:lpr¦Default¦allow by first
+decided¦eight-bits 10.255.255.255 register service:printer:lpr¦Default¦allow by first
+decided¦eight-bits 11.0.0.0 register service:printer:lpr¦Default¦deny by no rule
+decided¦eight-bits 10.0.0.0 register service:printer:lpr¦Default¦allow by first
+decided¦eight-bits 9.255.255.255 register service:printer:lpr¦Default¦deny by no rule
+decided¦all-bits 10.1.2.3 register service:printer:lpr¦Default¦allow by first
+decided¦all-bits 10.1.2.2 register service:printer:lpr¦Default¦deny by no rule
+decided¦printers 10.255.255.255 register service:printer:lpr¦Default¦allow by first
+decided¦printers 10.255.255.255 register service:print¦Default¦deny by no rule
+decided¦one-scope 10.255.255.255 register service:printer:lpr¦default¦allow by first
+decided¦one-scope 10.255.255.255 register service:printer:lpr¦other¦deny by no rule
+decided¦none 10.255.255.255 register service:printer:lpr¦Default¦deny by no rule
+decided¦many 0.0.0.7 register http¦default¦allow by r-1024
+file¦version = ¦¦! Toml
+file¦version = 1¶version = 1¦¦! Toml
+file¦version = 1¶a¶name = 'c'¦¦! Toml
+file¦version = ¶#<<1048564 x>>¦¦! Toml
+file¦¦¦! Shape(0)
+file¦a¦¦! Shape(0)
+file¦version = 2¶a¦¦! Shape(0)
+file¦version = 0¶a¦¦! Shape(0)
+file¦version = 9¶a¦¦! Shape(0)
+file¦version = -1¶a¦¦! Shape(0)
+file¦version = 1.0¶a¦¦! Shape(0)
+file¦version = '1'¶a¦¦! Shape(0)
+file¦version = true¶a¦¦! Shape(0)
+file¦version = 1¶owner = true¶a¦¦! Shape(0)
+file¦version = 1¶a¶[[hide]]¦¦! Shape(0)
+file¦version = 1¶rule = 5¦¦! Shape(0)
+file¦version = 1¶rule = 'a'¦¦! Shape(0)
+file¦version = 1¶rule = { name = 'a', from = ['0.0.0.0/0'], action = 'register', type = '*', scopes = ['*'], verdict = 'allow' }¦¦! Shape(0)
+file¦version = 1¶[rule]¦¦! Shape(0)
+file¦owner = true¶version = 1¶broken¦¦! Shape(0)
+file¦version = 2¶broken¦¦! Shape(0)
+file¦version = 1¶<<1025 [[rule]]¶name = 'r-%'¶action = 'see'¶from = ['0.0.0.0/0']¶type = '*'¶scopes = ['*']¶verdict = 'allow'¶>>¦¦! Shape(0)
+file¦version = 1¶broken¶<<1024 [[rule]]¶name = 'r-%'¶action = 'see'¶from = ['0.0.0.0/0']¶type = '*'¶scopes = ['*']¶verdict = 'allow'¶>>¦¦! Shape(0)
+file¦version = 1¶a¶b¶#<<1048360 x>>¦¦! Shape(0)
+file¦version = ¶#<<1048565 x>>¦¦! Shape(0)
+file¦version = 1¶rule = [1]¦¦! Shape(1)
+file¦version = 1¶rule = [[]]¦¦! Shape(1)
+file¦version = 1¶[[rule]]¦¦! Shape(1)
+file¦version = 1¶broken¶broken¦¦! Shape(1)
+file¦version = 1¶broken¶<<1023 [[rule]]¶name = 'r-%'¶action = 'see'¶from = ['0.0.0.0/0']¶type = '*'¶scopes = ['*']¶verdict = 'allow'¶>>¦¦! Shape(1)
+file¦version = 1¶rule = [{ name = 'a', from = ['0.0.0.0/0'], action = 'register', type = '*', scopes = ['*'], verdict = 'allow' }, 'x']¦¦! Shape(2)
+file¦version = 1¶a¶broken¦¦! Shape(2)
+file¦version = 1¶a¶broken¶a¦¦! Shape(2)
+file¦version = 1¶<<1023 [[rule]]¶name = 'r-%'¶action = 'see'¶from = ['0.0.0.0/0']¶type = '*'¶scopes = ['*']¶verdict = 'allow'¶>>broken¦¦! Shape(1024)
+file¦version = 1¶a¶a¦¦! TwiceName
+file¦version = 1¶a¶b¶a¦¦! TwiceName
+file¦version = 1¶a¶b¶b¦¦! TwiceName
+name¦¦¦! Shape(1)
+name¦name = 'a'¶owner = true¦¦! Shape(1)
+name¦name = 'a'¶version = 1¦¦! Shape(1)
+name¦name = ''¦¦! Shape(1)
+name¦name = 'abcdefghijklmnopqrstuvwxyz-012345'¦¦! Shape(1)
+name¦name = 'A'¦¦! Shape(1)
+name¦name = 'a_b'¦¦! Shape(1)
+name¦name = 'a b'¦¦! Shape(1)
+name¦name = 'ä'¦¦! Shape(1)
+name¦name = 5¦¦! Shape(1)
+from¦¦¦! Shape(1)
+from¦from = []¦¦! Shape(1)
+from¦from = '0.0.0.0/0'¦¦! Shape(1)
+from¦from = [5]¦¦! Shape(1)
+from¦from = ['10.0.0.1']¦¦! Shape(1)
+from¦from = ['10.0.0.1/33']¦¦! Shape(1)
+from¦from = ['10.0.0/8']¦¦! Shape(1)
+from¦from = ['10.0.0.256/8']¦¦! Shape(1)
+from¦from = ['10.0.0.1/']¦¦! Shape(1)
+from¦from = ['/8']¦¦! Shape(1)
+from¦from = ['10.0.0.1/8/9']¦¦! Shape(1)
+from¦from = [' 10.0.0.1/8']¦¦! Shape(1)
+from¦from = ['10.0.0.1/8 ']¦¦! Shape(1)
+from¦from = ['10.0.0.1/+8']¦¦! Shape(1)
+from¦from = ['0.0.0.0/0', 'x']¦¦! Shape(1)
+action¦¦¦! Shape(1)
+action¦action = 'Register'¦¦! Shape(1)
+action¦action = ''¦¦! Shape(1)
+action¦action = 5¦¦! Shape(1)
+type¦¦¦! Shape(1)
+type¦type = ''¦¦! Shape(1)
+type¦type = 'service:a:b:c'¦¦! Shape(1)
+type¦type = '*a'¦¦! Shape(1)
+type¦type = 5¦¦! Shape(1)
+scopes¦¦¦! Shape(1)
+scopes¦scopes = []¦¦! Shape(1)
+scopes¦scopes = '*'¦¦! Shape(1)
+scopes¦scopes = ['']¦¦! Shape(1)
+scopes¦scopes = [',']¦¦! Shape(1)
+scopes¦scopes = ['a,b']¦¦! Shape(1)
+scopes¦scopes = ['*', 'a']¦¦! Shape(1)
+scopes¦scopes = ['a', '*']¦¦! Shape(1)
+scopes¦scopes = ['*', '*']¦¦! Shape(1)
+scopes¦scopes = ['a(b']¦¦! Shape(1)
+scopes¦scopes = [1]¦¦! Shape(1)
+scopes¦scopes = ['a', 1]¦¦! Shape(1)
+scopes¦scopes = ['a', '']¦¦! Shape(1)
+verdict¦¦¦! Shape(1)
+verdict¦verdict = 'maybe'¦¦! Shape(1)
+verdict¦verdict = 'Allow'¦¦! Shape(1)
+verdict¦verdict = ''¦¦! Shape(1)
+verdict¦verdict = true¦¦! Shape(1)
+verdict¦verdict = 1¦¦! Shape(1)
+verdict¦verdict = ['allow']¦¦! Shape(1)
+";
