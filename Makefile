@@ -4,9 +4,11 @@
 # make demo    starts the proved server on an example site, and asks it with the proved client
 # make build   proves what the programs need, crates side by side, and leaves them in bin/
 # make test    the gate
+# make wrong   tries the wrong bodies beside the gate, in a copy, and says what refused each; make wrong CRATE=slp_text tries those of one
+#              crate. It is no part of the gate, takes an hour or more, and needs python3
 # make bench   counts instructions per message and measures the server, with the built programs; it is no part of the gate,
 #              and needs valgrind, python3 and a C compiler
-.PHONY: run day try demo build test bench
+.PHONY: run day try demo build test wrong bench
 
 script := examples/printer.script
 jobs := $(shell nproc)
@@ -34,6 +36,9 @@ build:
 
 test:
 	rt ci
+
+wrong:
+	@wrong/try $(CRATE)
 
 bench:
 	@bench/instructions bin/slpreplay
