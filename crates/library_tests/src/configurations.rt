@@ -13,30 +13,19 @@ static LINES: [(&str, &str); 3] = [
     ("capacity", "capacity = 16"),
 ];
 
-fn print_sockets(config: &Config, out: &mut String) -> Result<(), NoMemory> {
-    config.scopes.print_into(out)?;
-    out.push_str("; ")?;
-    for (address, port) in config.listen.as_slice() {
-        write!(out, "{address}:{port} ")?;
-    }
-    Ok(())
-}
-
 fn print_config(config: &Config, out: &mut String) -> Result<(), NoMemory> {
-    print_sockets(config, out)?;
-    write!(
-        out,
-        "{} {} {} ",
-        config.capacity, config.connections, config.sweep
-    )?;
-    match &config.rules {
-        Some(path) => out.push_str(path.as_str())?,
-        None => out.push_str("none")?,
+    config.scopes.print_into(out)?;
+    for (address, port) in config.listen.as_slice() {
+        write!(out, " {address}:{port}")?;
     }
-    out.push_str(";")?;
+    let rules = match &config.rules {
+        Some(path) => path.as_str(),
+        None => "none",
+    };
+    let (capacity, connections, sweep) = (config.capacity, config.connections, config.sweep);
+    write!(out, " {capacity} {connections} {sweep} {rules};")?;
     for path in config.templates.as_slice() {
-        out.push_str(" ")?;
-        out.push_str(path.as_str())?;
+        write!(out, " {}", path.as_str())?;
     }
     Ok(())
 }
@@ -62,21 +51,21 @@ impl Asking for Configurations {
 
 // What texts say as configurations. The longest has 1,048,576 bytes.
 const TABLE: &str = "
-config¦scopes¶listen¶capacity¦¦default; 1.2.3.4:427 16 64 60 none;
-config¦scopes = 'b, A'¶listen = ['1.2.3.4:5', '1.2.3.4:6']¶capacity = 65536¶connections = 1¶sweep = 3600¶rules = '/etc/rules'¶templates = ['a', '']¦¦a,b; 1.2.3.4:5 1.2.3.4:6 65536 1 3600 /etc/rules; a 
-config¦scopes¶listen¶capacity¶connections = 1¦¦default; 1.2.3.4:427 16 1 60 none;
-config¦scopes¶listen¶capacity¶connections = 256¦¦default; 1.2.3.4:427 16 256 60 none;
-config¦scopes¶listen¶capacity¶sweep = 1¦¦default; 1.2.3.4:427 16 64 1 none;
-config¦scopes¶listen¶capacity¶sweep = 3600¦¦default; 1.2.3.4:427 16 64 3600 none;
-config¦scopes¶listen¶capacity¶rules = ''¦¦default; 1.2.3.4:427 16 64 60 ;
-config¦scopes¶listen¶capacity¶templates = []¦¦default; 1.2.3.4:427 16 64 60 none;
-config¦scopes¶listen¶capacity = 1¦¦default; 1.2.3.4:427 1 64 60 none;
-config¦scopes¶listen¶capacity = 65536¦¦default; 1.2.3.4:427 65536 64 60 none;
-config¦scopes¶listen = ['0.0.0.0:1', '0.0.0.0:2', '0.0.0.0:3', '0.0.0.0:4', '0.0.0.0:5', '0.0.0.0:6', '0.0.0.0:7', '0.0.0.0:8']¶capacity¦¦default; 0.0.0.0:1 0.0.0.0:2 0.0.0.0:3 0.0.0.0:4 0.0.0.0:5 0.0.0.0:6 0.0.0.0:7 0.0.0.0:8 16 64 60 none;
-config¦scopes = 'a,b,c,d,e,f,g,h,i,j,k,l,m,n,o,p'¶listen¶capacity¦¦a,b,c,d,e,f,g,h,i,j,k,l,m,n,o,p; 1.2.3.4:427 16 64 60 none;
-config¦scopes = '<<1024 a>>'¶listen¶capacity¦¦<<1024 a>>; 1.2.3.4:427 16 64 60 none;
-config¦scopes¶listen¶capacity¶templates = [<<256 'a',>>]¦¦default; 1.2.3.4:427 16 64 60 none;<<256  a>>
-config¦scopes¶listen¶capacity¶<<1048518 ¶>>¦¦default; 1.2.3.4:427 16 64 60 none;
+config¦scopes¶listen¶capacity¦¦default 1.2.3.4:427 16 64 60 none;
+config¦scopes = 'b, A'¶listen = ['1.2.3.4:5', '1.2.3.4:6']¶capacity = 65536¶connections = 1¶sweep = 3600¶rules = '/etc/rules'¶templates = ['a', '']¦¦a,b 1.2.3.4:5 1.2.3.4:6 65536 1 3600 /etc/rules; a 
+config¦scopes¶listen¶capacity¶connections = 1¦¦default 1.2.3.4:427 16 1 60 none;
+config¦scopes¶listen¶capacity¶connections = 256¦¦default 1.2.3.4:427 16 256 60 none;
+config¦scopes¶listen¶capacity¶sweep = 1¦¦default 1.2.3.4:427 16 64 1 none;
+config¦scopes¶listen¶capacity¶sweep = 3600¦¦default 1.2.3.4:427 16 64 3600 none;
+config¦scopes¶listen¶capacity¶rules = ''¦¦default 1.2.3.4:427 16 64 60 ;
+config¦scopes¶listen¶capacity¶templates = []¦¦default 1.2.3.4:427 16 64 60 none;
+config¦scopes¶listen¶capacity = 1¦¦default 1.2.3.4:427 1 64 60 none;
+config¦scopes¶listen¶capacity = 65536¦¦default 1.2.3.4:427 65536 64 60 none;
+config¦scopes¶listen = ['0.0.0.0:1', '0.0.0.0:2', '0.0.0.0:3', '0.0.0.0:4', '0.0.0.0:5', '0.0.0.0:6', '0.0.0.0:7', '0.0.0.0:8']¶capacity¦¦default 0.0.0.0:1 0.0.0.0:2 0.0.0.0:3 0.0.0.0:4 0.0.0.0:5 0.0.0.0:6 0.0.0.0:7 0.0.0.0:8 16 64 60 none;
+config¦scopes = 'a,b,c,d,e,f,g,h,i,j,k,l,m,n,o,p'¶listen¶capacity¦¦a,b,c,d,e,f,g,h,i,j,k,l,m,n,o,p 1.2.3.4:427 16 64 60 none;
+config¦scopes = '<<1024 a>>'¶listen¶capacity¦¦<<1024 a>> 1.2.3.4:427 16 64 60 none;
+config¦scopes¶listen¶capacity¶templates = [<<256 'a',>>]¦¦default 1.2.3.4:427 16 64 60 none;<<256  a>>
+config¦scopes¶listen¶capacity¶<<1048518 ¶>>¦¦default 1.2.3.4:427 16 64 60 none;
 config¦scopes¶listen¶capacity¶connections = 0¦¦! Range
 config¦scopes¶listen¶capacity¶connections = 257¦¦! Range
 config¦scopes¶listen¶capacity¶connections = -1¦¦! Range

@@ -51,11 +51,18 @@ fn one_scope(alloc: Global, scope: &str) -> Result<ScopeList, NoMemory>
     }
 }
 
+fn site(alloc: Global) -> Result<Site, NoMemory>
+    ensures { IfOk result (λ site. site.capacity ≡ 4) }
+{
+    let scopes = one_scope(alloc, "DEFAULT")?;
+    let templates = Arc::new(alloc, Templates::new(alloc))?;
+    Ok(Site::new(scopes, 4, templates, 1))
+}
+
 // A directory of one scope and open rules. It is boxed, since the proof of a function that lets go of one is long.
 fn opened(alloc: Global) -> Result<Box<Directory<ListRegistry>>, NoMemory> {
+    let site = site(alloc)?;
     let rules = rules_of(alloc, OPEN)?;
-    let templates = Arc::new(alloc, Templates::new(alloc))?;
-    let site = Site::new(one_scope(alloc, "DEFAULT")?, 4, templates, 1);
     let Ok(registry) = ListRegistry::new(alloc, 4) else {
         return Err(NoMemory);
     };
@@ -76,12 +83,12 @@ fn take_message(
     directory: &mut Directory<ListRegistry>,
     moment: u32,
     bytes: &[u8],
+    answer: &mut Answer,
 ) -> Result<u16, NoMemory> {
     if !is_change(bytes) {
         return Err(NoMemory);
     }
-    let mut answer = Answer::new(alloc);
-    let (sent, change) = acknowledge(alloc, directory, moment, Addr(1), bytes, &mut answer)?;
+    let (sent, change) = acknowledge(alloc, directory, moment, Addr(1), bytes, answer)?;
     if let Some(change) = change {
         make_share(directory, change)?;
     }
@@ -91,44 +98,40 @@ fn take_message(
     }
 }
 
-// Takes a message so often, and prints its name and code each time that it is refused.
+// Takes a message so often, and tells the greatest code.
 fn take_messages(
     alloc: Global,
     directory: &mut Directory<ListRegistry>,
     moment: u32,
-    (name, times): (&str, u32),
-    out: &mut String,
-) -> Result<(), NoMemory> {
+    name: &str,
+    times: u32,
+) -> Result<u16, NoMemory> {
     let bytes = bytes_of(alloc, part_of(name, &MESSAGES))?;
+    let mut answer = Answer::new(alloc);
+    let mut code = 0;
     for _ in 0..times {
-        let code = take_message(alloc, directory, moment, bytes.as_slice())?;
-        if code > 0 {
-            write!(out, "{name} {code} ")?;
-        }
+        let told = take_message(alloc, directory, moment, bytes.as_slice(), &mut answer)?;
+        code = told.max(code);
     }
-    Ok(())
+    Ok(code)
 }
 
+// Takes what a name stands for, and tells the code of the reply to a message.
 fn take_step(
     alloc: Global,
     directory: &mut Directory<ListRegistry>,
     moment: u32,
     name: &str,
-    out: &mut String,
-) -> Result<(), NoMemory> {
-    match name {
-        "sweep" => make_share(directory, Change::Sweep(moment)),
-        "closed" => {
-            let rules = rules_of(alloc, "version = 1")?;
-            make_share(directory, Change::Reload(moment, rules))
-        }
-        "open" => {
-            let rules = rules_of(alloc, OPEN)?;
-            make_share(directory, Change::Reload(moment, rules))
-        }
-        "a 100000 times" => take_messages(alloc, directory, moment, ("a", 100_000), out),
-        name => take_messages(alloc, directory, moment, (name, 1), out),
-    }
+) -> Result<u16, NoMemory> {
+    let event = match name {
+        "sweep" => Change::Sweep(moment),
+        "closed" => Change::Reload(moment, rules_of(alloc, "version = 1")?),
+        "open" => Change::Reload(moment, rules_of(alloc, OPEN)?),
+        "a 100000 times" => return take_messages(alloc, directory, moment, "a", 100_000),
+        name => return take_messages(alloc, directory, moment, name, 1),
+    };
+    make_share(directory, event)?;
+    Ok(0)
 }
 
 fn take_steps(
@@ -140,7 +143,10 @@ fn take_steps(
     for step in steps.split(", ") {
         if let Some((moment, name)) = step.split_once(' ') {
             let moment = moment.parse::<u32>().unwrap_or(0);
-            take_step(alloc, directory, moment, name, out)?;
+            let code = take_step(alloc, directory, moment, name)?;
+            if code > 0 {
+                write!(out, "{name} {code} ")?;
+            }
         }
     }
     Ok(())
@@ -218,17 +224,23 @@ fn put_judged(judged: &Judged, out: &mut String) -> Result<(), AllocError> {
         Judged::Deny(code, because) => (*code, because, None),
         Judged::Nothing => return out.push_str(" nothing;"),
     };
-    write!(out, " {code} {:?}", because.decider)?;
-    if let Some(kind) = &because.kind {
-        write!(out, " {}", kind.text())?;
-    }
-    if let Some(scope) = &because.scope {
-        write!(out, " {}", scope.as_str())?;
-    }
-    if let Some(placed) = placed {
-        write!(out, " {} {}", placed.moment, placed.entry.deadline)?;
-    }
-    out.push(';')
+    let kind = match &because.kind {
+        Some(kind) => kind.text(),
+        None => "-",
+    };
+    let scope = match &because.scope {
+        Some(scope) => scope.as_str(),
+        None => "-",
+    };
+    let (moment, deadline) = match placed {
+        Some(placed) => (placed.moment, placed.entry.deadline),
+        None => (0, 0),
+    };
+    let decider = because.decider;
+    write!(
+        out,
+        " {code} {decider:?} {kind} {scope} {moment} {deadline};"
+    )
 }
 
 fn print_judged(judged: Result<Judged, NoMemory>, out: &mut String) -> Result<(), NoMemory> {

@@ -63,7 +63,10 @@ fn print_fronts(alloc: Global, bytes: &[u8], out: &mut String) -> Result<(), NoM
     Ok(())
 }
 
-fn long_reply(alloc: Global, view: &HeaderView<'_>) -> Result<Message, NoMemory> {
+// A reply in the language of a message, whose tag is copied and printed.
+fn long_reply(alloc: Global, view: &HeaderView<'_>, out: &mut String) -> Result<Message, NoMemory> {
+    let language = Tag::new(alloc, view.language)?.copy(alloc)?;
+    out.push_str(language.as_str())?;
     let header = Header {
         flags: Flags {
             overflow: false,
@@ -71,7 +74,7 @@ fn long_reply(alloc: Global, view: &HeaderView<'_>) -> Result<Message, NoMemory>
             multicast: false,
         },
         xid: view.xid,
-        language: Tag::new(alloc, view.language)?,
+        language,
     };
     let url = Text::wrap(whole(alloc, "<<65536 x>>")?);
     let entries = Row::wrap(vec![in alloc; UrlEntry { lifetime: 1, url }]?);
@@ -84,7 +87,7 @@ fn print_long(alloc: Global, bytes: &[u8], out: &mut String) -> Result<(), WireF
         return Err(WireFault::NoHeader);
     };
     let mut written = Vec::from_slice(alloc, b"before")?;
-    let message = long_reply(alloc, &view)?;
+    let message = long_reply(alloc, &view, out)?;
     let told = encode(&message, &mut written);
     drop(message);
     put_bytes(alloc, written.as_slice(), out)?;

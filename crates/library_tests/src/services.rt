@@ -12,24 +12,24 @@ fn print_type(alloc: Global, text: &str, other: &str, out: &mut String) -> Resul
     let other = ServiceType::parse(alloc, other)?;
     let covers = if kind.covers(&other) { "yes" } else { "no" };
     let authority = kind.authority().unwrap_or("none");
-    Ok(put(out, kind.text(), authority, covers)?)
+    match write!(out, "{} {authority} {covers}", kind.text()) {
+        Ok(()) => Ok(()),
+        Err(_) => Err(UrlFault::NoMemory),
+    }
 }
 
 fn print_authority(alloc: Global, text: &str, out: &mut String) -> Result<(), UrlFault> {
     let authority = parse_authority(alloc, text)?;
-    Ok(put(out, authority.as_str(), "", "")?)
+    Ok(put(out, authority.as_str())?)
 }
 
-// A URL, and whether it is less than another.
-fn print_url(alloc: Global, text: &str, other: &str, out: &mut String) -> Result<(), UrlFault> {
+fn print_url(alloc: Global, text: &str, out: &mut String) -> Result<(), UrlFault> {
     let url = Url::parse(alloc, text)?;
-    let other = Url::parse(alloc, other)?;
-    let less = if url < other { "yes" } else { "no" };
-    Ok(put(out, url.text(), less, "")?)
+    Ok(put(out, url.text())?)
 }
 
-fn put(out: &mut String, first: &str, second: &str, third: &str) -> Result<(), NoMemory> {
-    Ok(write!(out, "{first}|{second}|{third}|")?)
+fn put(out: &mut String, text: &str) -> Result<(), NoMemory> {
+    Ok(out.push_str(text)?)
 }
 
 impl Asking for Services {
@@ -46,40 +46,39 @@ impl Asking for Services {
         match word {
             "type" => print_type(alloc, text, beside, out),
             "authority" => print_authority(alloc, text, out),
-            _ => print_url(alloc, text, beside, out),
+            _ => print_url(alloc, text, out),
         }
     }
 }
 
-// Types with another beside them: how they are kept, their authority and whether they cover the other. Authorities. URLs with
-// another beside them: how they are kept and whether they are less. The longest has 1,024 bytes.
+// Types with another beside them: how they are kept, their authority and whether they cover the other. Authorities and URLs,
+// of which the longest has 1,024 bytes.
 const TABLE: &str = "
-type¦ SERVICE:Printer: ¦x¦service:printer|none|no|
-type¦service:printer¦x¦service:printer|none|no|
-type¦service:printer:lpr¦x¦service:printer:lpr|none|no|
-type¦service:a.b:c.d¦x¦service:a.b:c.d|b|no|
-type¦HTTP¦x¦http|none|no|
-type¦ http.Acme ¦x¦http.acme|acme|no|
-type¦service:a..b¦x¦service:a..b|.b|no|
-type¦http.ACME¦x¦http.acme|acme|no|
-type¦service:a.¦x¦service:a.|none|no|
-type¦service:a:c.d¦x¦service:a:c.d|none|no|
-type¦service:a¦x¦service:a|none|no|
-type¦http¦x¦http|none|no|
-authority¦Acme¦¦acme|||
-authority¦-x.¦¦-x.|||
-type¦service:printer¦service:printer¦service:printer|none|yes|
-type¦service:printer¦service:printer:lpr¦service:printer|none|yes|
-type¦service:printer¦service:printer:ipp¦service:printer|none|yes|
-type¦service:printer¦service:print¦service:printer|none|no|
-type¦service:print¦service:printer¦service:print|none|no|
-type¦service:print¦service:printer:lpr¦service:print|none|no|
-type¦service:printer:lpr¦service:printer:lpr¦service:printer:lpr|none|yes|
-type¦service:printer:lpr¦service:printer¦service:printer:lpr|none|no|
-type¦service:printer:lpr¦service:printer:ipp¦service:printer:lpr|none|no|
-url¦service:printer:lpr://A¦a:b¦service:printer:lpr://A|no||
-url¦service:printer:lpr://a/<<1000 b>>¦a:b¦service:printer:lpr://a/<<1000 b>>|no||
-url¦service:printer:lpr://A¦service:printer:lpr://a¦service:printer:lpr://A|yes||
+type¦ SERVICE:Printer: ¦x¦service:printer none no
+type¦service:printer¦x¦service:printer none no
+type¦service:printer:lpr¦x¦service:printer:lpr none no
+type¦service:a.b:c.d¦x¦service:a.b:c.d b no
+type¦HTTP¦x¦http none no
+type¦ http.Acme ¦x¦http.acme acme no
+type¦service:a..b¦x¦service:a..b .b no
+type¦http.ACME¦x¦http.acme acme no
+type¦service:a.¦x¦service:a. none no
+type¦service:a:c.d¦x¦service:a:c.d none no
+type¦service:a¦x¦service:a none no
+type¦http¦x¦http none no
+authority¦Acme¦¦acme
+authority¦-x.¦¦-x.
+type¦service:printer¦service:printer¦service:printer none yes
+type¦service:printer¦service:printer:lpr¦service:printer none yes
+type¦service:printer¦service:printer:ipp¦service:printer none yes
+type¦service:printer¦service:print¦service:printer none no
+type¦service:print¦service:printer¦service:print none no
+type¦service:print¦service:printer:lpr¦service:print none no
+type¦service:printer:lpr¦service:printer:lpr¦service:printer:lpr none yes
+type¦service:printer:lpr¦service:printer¦service:printer:lpr none no
+type¦service:printer:lpr¦service:printer:ipp¦service:printer:lpr none no
+url¦service:printer:lpr://A¦¦service:printer:lpr://A
+url¦service:printer:lpr://a/<<1000 b>>¦¦service:printer:lpr://a/<<1000 b>>
 type¦¦x¦! BadType
 type¦http:¦x¦! BadType
 type¦-http¦x¦! BadType
@@ -91,13 +90,13 @@ type¦service:a b¦x¦! BadType
 authority¦¦¦! BadType
 authority¦ ¦¦! BadType
 authority¦a:b¦¦! BadType
-url¦¦a:b¦! BadUrl
-url¦x¦a:b¦! BadUrl
-url¦ a:b¦a:b¦! BadUrl
-url¦a:b c¦a:b¦! BadUrl
-url¦1:b¦a:b¦! BadUrl
-url¦a:\u{7f}¦a:b¦! BadUrl
-url¦service:printer:lpr://a/<<1001 b>>¦a:b¦! TooLong
+url¦¦¦! BadUrl
+url¦x¦¦! BadUrl
+url¦ a:b¦¦! BadUrl
+url¦a:b c¦¦! BadUrl
+url¦1:b¦¦! BadUrl
+url¦a:\u{7f}¦¦! BadUrl
+url¦service:printer:lpr://a/<<1001 b>>¦¦! TooLong
 ";
 
 #[test]

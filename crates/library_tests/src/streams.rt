@@ -7,8 +7,16 @@ use std::alloc::Global;
 #[derive(Clone, Copy)]
 struct Streams;
 
-// Prints the messages that are whole, or the fault.
-fn print_whole(alloc: Global, framer: &mut Framer, out: &mut String) -> Result<(), NoMemory> {
+// Takes a piece, and prints the messages that are whole, or the faults.
+fn print_whole(
+    alloc: Global,
+    framer: &mut Framer,
+    piece: &[u8],
+    out: &mut String,
+) -> Result<(), NoMemory> {
+    if let Err(fault) = framer.feed(piece) {
+        write!(out, "{fault:?}")?;
+    }
     for _ in 0..100 {
         out.push(' ')?;
         match framer.next() {
@@ -34,10 +42,7 @@ impl Asking for Streams {
         let stream = bytes_of(alloc, text)?;
         let mut framer = Framer::new(alloc, beside.parse::<usize>().unwrap_or(0));
         for piece in stream.chunks(word.parse::<usize>().unwrap_or(1).max(1)) {
-            if let Err(fault) = framer.feed(piece) {
-                write!(out, "{fault:?}")?;
-            }
-            print_whole(alloc, &mut framer, out)?;
+            print_whole(alloc, &mut framer, piece, out)?;
         }
         Ok(())
     }

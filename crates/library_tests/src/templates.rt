@@ -4,7 +4,7 @@ use crate::assertion::{Asking, assert_table, found, lines};
 use attr_list::Attrs;
 use rows::{BOTH, TABLE};
 use service_url::ServiceType;
-use srv_template::{FaultKind, ParseFault, Template, Templates};
+use srv_template::{ParseFault, Template, Templates};
 use std::alloc::Global;
 
 #[derive(Clone, Copy)]
@@ -28,17 +28,11 @@ fn print_fault(
 ) -> Result<(), ParseFault> {
     let attributes = found(Attrs::parse(alloc, attributes))?;
     let kind = found(ServiceType::parse(alloc, kind))?;
-    let Some(fault) = templates.check(&kind, &attributes) else {
-        return Ok(out.push_str("conforms")?);
+    let told = match templates.check(&kind, &attributes) {
+        Some(fault) => write!(out, "{} {:?}", fault.definition, fault.kind),
+        None => out.push_str("conforms"),
     };
-    write!(out, "{}", fault.definition)?;
-    let told = match fault.kind {
-        FaultKind::Missing => " is missing",
-        FaultKind::WrongKind => " has the wrong kind",
-        FaultKind::Count => " has too many values",
-        FaultKind::Value => " has another value",
-    };
-    Ok(out.push_str(told)?)
+    Ok(told?)
 }
 
 fn print_checked(

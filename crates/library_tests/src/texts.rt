@@ -31,6 +31,25 @@ fn print_selected(alloc: Global, text: &str, tag: &str, out: &mut String) -> Res
     Ok(out.push_str(told)?)
 }
 
+fn print_text(
+    alloc: Global,
+    word: &str,
+    text: &str,
+    beside: &str,
+    out: &mut String,
+) -> Result<(), TextFault> {
+    match word {
+        "key" => print_key(alloc, text, out),
+        "value" => Ok(escape_into(text, Place::Value, out)?),
+        "tag" => Ok(escape_into(text, Place::Tag, out)?),
+        "scope" => Ok(escape_into(text, Place::Scope, out)?),
+        "escapes" => print_read(unescape(alloc, text), out),
+        "bytes" => print_read(unescape_any(alloc, text), out),
+        "scopes" => print_scopes(alloc, text, beside, out),
+        _ => print_selected(alloc, text, beside, out),
+    }
+}
+
 impl Asking for Texts {
     type Fault = TextFault;
 
@@ -43,17 +62,7 @@ impl Asking for Texts {
         out: &mut String,
     ) -> Result<(), TextFault> {
         let text = lines(alloc, text, &[])?;
-        let text = text.as_str();
-        match word {
-            "key" => print_key(alloc, text, out),
-            "value" => Ok(escape_into(text, Place::Value, out)?),
-            "tag" => Ok(escape_into(text, Place::Tag, out)?),
-            "scope" => Ok(escape_into(text, Place::Scope, out)?),
-            "escapes" => print_read(unescape(alloc, text), out),
-            "bytes" => print_read(unescape_any(alloc, text), out),
-            "scopes" => print_scopes(alloc, text, beside, out),
-            _ => print_selected(alloc, text, beside, out),
-        }
+        print_text(alloc, word, text.as_str(), beside, out)
     }
 }
 

@@ -76,7 +76,7 @@ types¦0 a, 0 b¦Default¦ service:printer:lpr
 types¦0 a¦other¦! Scope
 judged¦¦founded¦ 0 Rule(0) service:printer:lpr default 7 307; 0 Rule(0) service:printer:lpr default 7 307;
 judged¦0 founded¦updated¦ 0 Rule(0) service:printer:lpr default 7 407; 0 Rule(0) service:printer:lpr default 7 407;
-judged¦¦dead¦ 3 Registration; 3 Registration;
-judged¦0 a¦removed¦ 0 Rule(1) service:printer:lpr default; 0 Rule(1) service:printer:lpr default;
+judged¦¦dead¦ 3 Registration - - 0 0; 3 Registration - - 0 0;
+judged¦0 a¦removed¦ 0 Rule(1) service:printer:lpr default 0 0; 0 Rule(1) service:printer:lpr default 0 0;
 judged¦¦removed¦ nothing; nothing;
 ";

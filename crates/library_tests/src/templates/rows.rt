@@ -21,10 +21,10 @@ template¦template-type=a¶¶template-version=a=b¶¶¶template-description=¶¶
 template¦template-type= 0-+._Z¶template-version=1¶template-description=¶¶template-url-syntax=¶¶a=STRING¦¦
 template¦template-type=a¶template-version=1¶template-description=¶¶template-url-syntax=¶¶<<9999 tag-% = STRING¶¶>>tag-10000 = STRING¶¦¦
 template¦template-type=a¶template-version=1¶¶template-description=<<1048496 x>>¶¶template-url-syntax=¶¦¦
-site¦<<255 template-type=t%¶template-version=1¶template-description=¶¶template-url-syntax=¶¶needed = STRING¶;>>template-type=t256¶template-version=1¶template-description=¶¶template-url-syntax=¶¶needed = STRING¶¦service:t255:x¦0 is missing
-site¦<<255 template-type=t%¶template-version=1¶template-description=¶¶template-url-syntax=¶¶needed = STRING¶;>>template-type=t256¶template-version=1¶template-description=¶¶template-url-syntax=¶¶needed = STRING¶¦service:t256¦0 is missing
+site¦<<255 template-type=t%¶template-version=1¶template-description=¶¶template-url-syntax=¶¶needed = STRING¶;>>template-type=t256¶template-version=1¶template-description=¶¶template-url-syntax=¶¶needed = STRING¶¦service:t255:x¦0 Missing
+site¦<<255 template-type=t%¶template-version=1¶template-description=¶¶template-url-syntax=¶¶needed = STRING¶;>>template-type=t256¶template-version=1¶template-description=¶¶template-url-syntax=¶¶needed = STRING¶¦service:t256¦0 Missing
 site¦<<255 template-type=t%¶template-version=1¶template-description=¶¶template-url-syntax=¶¶needed = STRING¶;>>template-type=t256¶template-version=1¶template-description=¶¶template-url-syntax=¶¶needed = STRING¶¦service:t257:x¦conforms
-site¦<<255 template-type=t%¶template-version=1¶template-description=¶¶template-url-syntax=¶¶needed = STRING¶;>>template-type=t256¶template-version=1¶template-description=¶¶template-url-syntax=¶¶needed = STRING¶¦service:t1¦0 is missing
+site¦<<255 template-type=t%¶template-version=1¶template-description=¶¶template-url-syntax=¶¶needed = STRING¶;>>template-type=t256¶template-version=1¶template-description=¶¶template-url-syntax=¶¶needed = STRING¶¦service:t1¦0 Missing
 check¦(color=true),(location=hall)¦service:printer:lpr¦conforms
 check¦(color=FALSE)¦service:printer¦conforms
 check¦(color=true,True),(other=1),more¦service:printer:ipp¦conforms
@@ -47,27 +47,27 @@ check¦(x=1,2,3),y¦service:each¦conforms
 check¦k,(i=1),(s=)¦service:each¦conforms
 check¦K¦SERVICE:Each:¦conforms
 check¦(i=7,007)¦service:each¦conforms
-check¦(location=hall)¦service:printer¦0 is missing
-check¦¦service:printer¦0 is missing
-check¦(color=red)¦service:printer¦0 has the wrong kind
-check¦color¦service:printer¦0 has the wrong kind
-check¦(color=true,false)¦service:printer¦0 has too many values
-check¦(color=true,7)¦service:printer¦0 has the wrong kind
-check¦(color=true),location¦service:printer:x¦1 has the wrong kind
-check¦(color=true),(location=a,b)¦service:printer:x¦1 has too many values
-check¦(color=7),(location=a,b)¦service:printer:x¦0 has the wrong kind
-check¦s¦service:each¦0 has the wrong kind
-check¦(s=a,\\FF\\00)¦service:each¦0 has the wrong kind
-check¦(i=x)¦service:each¦1 has the wrong kind
-check¦(i=2147483648)¦service:each¦1 has the wrong kind
-check¦(b=1)¦service:each¦2 has the wrong kind
-check¦(o=x)¦service:each¦3 has the wrong kind
-check¦(o=\\FF\\00,\\FF\\01)¦service:each¦3 has too many values
-check¦(k=1)¦service:each¦4 has the wrong kind
-check¦(w=blue)¦service:each¦5 has another value
-check¦(w=red,8)¦service:each¦5 has another value
-check¦(w=true)¦service:each¦5 has another value
-check¦(w=red,blue),(i=1,2)¦service:each¦1 has too many values
+check¦(location=hall)¦service:printer¦0 Missing
+check¦¦service:printer¦0 Missing
+check¦(color=red)¦service:printer¦0 WrongKind
+check¦color¦service:printer¦0 WrongKind
+check¦(color=true,false)¦service:printer¦0 Count
+check¦(color=true,7)¦service:printer¦0 WrongKind
+check¦(color=true),location¦service:printer:x¦1 WrongKind
+check¦(color=true),(location=a,b)¦service:printer:x¦1 Count
+check¦(color=7),(location=a,b)¦service:printer:x¦0 WrongKind
+check¦s¦service:each¦0 WrongKind
+check¦(s=a,\\FF\\00)¦service:each¦0 WrongKind
+check¦(i=x)¦service:each¦1 WrongKind
+check¦(i=2147483648)¦service:each¦1 WrongKind
+check¦(b=1)¦service:each¦2 WrongKind
+check¦(o=x)¦service:each¦3 WrongKind
+check¦(o=\\FF\\00,\\FF\\01)¦service:each¦3 Count
+check¦(k=1)¦service:each¦4 WrongKind
+check¦(w=blue)¦service:each¦5 Value
+check¦(w=red,8)¦service:each¦5 Value
+check¦(w=true)¦service:each¦5 Value
+check¦(w=red,blue),(i=1,2)¦service:each¦1 Count
 template¦¦¦! Line(1)
 template¦x¦¦! Line(1)
 template¦ template-type=a¶¦¦! Line(1)
