@@ -74,6 +74,8 @@ fn main(rt: HostRuntime) -> io::Result<()> {
         drop(lines);
         patience = scene.end(status, &mut out)?;
         out.extend_from_slice(END.as_bytes())?;
+        io::writer(&rt).write_all(out.as_slice())?;
+        out.clear();
     }
-    io::writer(&rt).write_all(out.as_slice())
+    Ok(())
 }

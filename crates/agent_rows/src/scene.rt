@@ -317,6 +317,13 @@ where
         writeln!(out, "= {status}")
     }
 
+    // Has the tool not be called any more where it had no answer.
+    fn note_status(&mut self, status: u8) {
+        if status == NO_ANSWER {
+            self.patience = 0;
+        }
+    }
+
     // Calls the tool, whose input ends after so long. Once it had no answer it is not called any more.
     fn call(&mut self, after: u64, words: &[String], out: &mut Vec<u8>) -> io::Result<()> {
         if self.patience == 0 {
@@ -326,9 +333,7 @@ where
         theirs.set_read_timeout(Some(Duration::from_millis(after.max(1))))?;
         let mut printed = Vec::new(self.alloc);
         let status = tool_run(self.rt, self.alloc, words, theirs, &mut printed);
-        if status == NO_ANSWER {
-            self.patience = 0;
-        }
+        self.note_status(status);
         self.print_call(status, printed.as_slice(), out)
     }
 
@@ -353,6 +358,9 @@ where
 
     // Calls the tool with a directory that answers what the rows before said.
     fn serve(&mut self, line: &str, out: &mut Vec<u8>) -> io::Result<()> {
+        if self.patience == 0 {
+            return out.write_all(b"(not called)\n");
+        }
         let mut fake = Fake::new(self.rt)?;
         let words = self.words(Ipv4Addr::LOCALHOST, fake.port()?, line)?;
         let (_ours, theirs) = pair(self.rt)?;
@@ -365,6 +373,7 @@ where
             || tool_run(rt, alloc, words.as_slice(), theirs, &mut printed),
         );
         self.answers = Answers::none(self.alloc);
+        self.note_status(status);
         if let Ok(requests) = requests {
             self.print_requests(requests.as_slice(), out)?;
         }
