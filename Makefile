@@ -2,7 +2,7 @@
 # make day     replays a day of a small site; examples/day.md explains it
 # make try     replays it with the program as it stands, unproved, in about a minute
 # make demo    starts the proved server on an example site, and asks it with the proved client
-# make build   proves what the programs need, crates side by side, and leaves them in bin/
+# make build   proves what the programs need, and leaves them in bin/
 # make test    the gate
 # make wrong   tries the wrong bodies beside the gate, in a copy, and says what refused each; make wrong CRATE=slp_text tries those of one
 #              crate. It is no part of the gate, takes an hour or more, and needs python3
