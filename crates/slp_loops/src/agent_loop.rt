@@ -199,8 +199,8 @@ impl<S: Serve + Drop> AgentLoop<S> {
         )
     }
 
-    /// Takes turns until the flag is set, or a turn answers `Io`, which is its only fault.
-    pub fn run<R: Wait>(&mut self, rt: &R, stop: &AtomicBool) -> Result<(), LoopFault>
+    // Takes turns until the flag is set, or a turn answers `Io`.
+    fn take_turns<R: Wait>(&mut self, rt: &R, stop: &AtomicBool) -> Result<(), LoopFault>
         ensures limit { self.new.limit ≡ self.old.limit }
         ensures fault { IfErr result (λ e. e ≡ Failing) }
     {
@@ -213,5 +213,16 @@ impl<S: Serve + Drop> AgentLoop<S> {
             }
         }
         unreachable!()
+    }
+
+    /// Takes turns until the flag is set, or a turn answers `Io`, which is its only fault. What was told of the last
+    /// messages is out then.
+    pub fn run<R: Wait>(&mut self, rt: &R, stop: &AtomicBool) -> Result<(), LoopFault>
+        ensures limit { self.new.limit ≡ self.old.limit }
+        ensures fault { IfErr result (λ e. e ≡ Failing) }
+    {
+        let told = self.take_turns(rt, stop);
+        self.server.settle();
+        told
     }
 }
