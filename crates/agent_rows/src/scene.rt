@@ -180,9 +180,9 @@ where
         }
     }
 
-    // Closes the gate, sends a datagram whose line the agent then can't write out, and waits until it waits there.
+    // Closes the gate once all lines are out, sends a datagram whose line the agent then can't write out, and waits until it waits there.
     fn hold(&mut self, text: &str, out: &mut Vec<u8>) -> io::Result<()> {
-        self.gate.close();
+        self.gate.close(self.rt);
         self.udp(text, out)?;
         if self.gate.is_reached(self.rt) {
             Ok(())

@@ -14,11 +14,12 @@ const LOOKS: u32 = 1_000;
 
 const NAP: u64 = 5;
 
-/// Holds who writes lines out, and tells that one waits.
+/// Holds who writes lines out, and tells that one waits, and whether lines are written that are not out.
 #[derive(Drop)]
 pub(crate) struct Gate {
     is_closed: AtomicBool,
     is_waited_at: AtomicBool,
+    is_unsettled: AtomicBool,
 }
 
 impl Gate {
@@ -26,10 +27,18 @@ impl Gate {
         Gate {
             is_closed: AtomicBool::new(false),
             is_waited_at: AtomicBool::new(false),
+            is_unsettled: AtomicBool::new(false),
         }
     }
 
-    pub(crate) fn close(&self) {
+    /// Closes it once all lines are out, or after five seconds.
+    pub(crate) fn close<R: Clock>(&self, rt: &R) {
+        for _ in 0..LOOKS {
+            if !self.is_unsettled.load(Ordering::SeqCst) {
+                break;
+            }
+            thread::sleep(rt, Duration::from_millis(NAP));
+        }
         self.is_closed.store(true, Ordering::SeqCst);
     }
 
@@ -89,6 +98,7 @@ impl<'g, R: Clock> Terminal<'g, R> {
 impl<'g, R: Clock> Write for Terminal<'g, R> {
     fn write(&mut self, buf: &[u8]) -> io::Result<usize> {
         let count = buf.len().min(TAKEN);
+        self.gate.is_unsettled.store(true, Ordering::SeqCst);
         self.waiting.extend_from_slice(&buf[..count])?;
         Ok(count)
     }
@@ -97,6 +107,7 @@ impl<'g, R: Clock> Write for Terminal<'g, R> {
         self.gate.pass(self.rt);
         let told = self.stream.write_all(self.waiting.as_slice());
         self.waiting.clear();
+        self.gate.is_unsettled.store(false, Ordering::SeqCst);
         told
     }
 }
