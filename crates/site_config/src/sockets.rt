@@ -25,7 +25,6 @@ fn socket(value: &Value) -> Option<(Addr, u16)>
     Addr::parse_with_port(value.as_str()?.as_bytes())
 }
 
-#[tactic(auto, using(access_rules::proofs::Arrays::read_one, access_rules::proofs::Arrays::read_none))]
 fn sockets(alloc: Global, values: &[Value]) -> Result<Row<(Addr, u16)>, ConfigFault>
     ensures { IsReading result (in_range (each_in (λ t. option_and_then socket_of (as_str t)) (map view values.now))) }
 {
