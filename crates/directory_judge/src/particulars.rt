@@ -9,7 +9,7 @@ ghost use Rattle.service_url.specs.Types.{type_of};
 ghost use Rattle.service_url.specs.Urls.{url_of};
 ghost use Rattle.attr_list.specs.Reading.{attributes_in};
 ghost use Rattle.directory_judge.specs.Judgements as spec;
-ghost use Rattle.directory_judge.specs.Judgements.{by_step, denial, particulars, particulars_in, AreParticularsOf};
+ghost use Rattle.directory_judge.specs.Judgements.{by_step, denial, particulars, particulars_in, particulars_of_texts, AreParticularsOf};
 
 use crate::reason::{Because, Decider};
 use crate::site::Site;
@@ -137,6 +137,32 @@ fn denied_by(decider: Decider, kind: Option<ServiceType>) -> Reading
     })
 }
 
+// What a registration names, whose URL and type were read already.
+fn name_read(
+    alloc: Global,
+    site: &Site,
+    registration: &RegistrationView<'_>,
+    url: Url,
+    kind: ServiceType,
+) -> Result<Reading, NoMemory>
+    ensures value { let r = registration_in registration.now in
+        IfOk result (λ n. particulars_of_texts site.now (Some kind) (Some url) (result_ok (attributes_in r.attributes)) (result_ok (scopes_of r.scopes)) ≡ particulars_in n) }
+    ensures url { IfOk result (AreParticularsOf url) }
+{
+    let Some(attrs) = read_attributes(alloc, registration.attributes)? else {
+        return Ok(denied_by(Decider::Attributes, Some(kind)));
+    };
+    let Some(scopes) = read_supported(alloc, site, registration.scopes)? else {
+        return Ok(denied_by(Decider::Parse, None));
+    };
+    Ok(Reading::Read(Particulars {
+        url,
+        kind,
+        scopes,
+        attrs,
+    }))
+}
+
 /// What a registration names, whose type was read already (RFC 2608, section 9.3).
 pub fn name(
     alloc: Global,
@@ -155,19 +181,8 @@ pub fn name(
     let Some(kind) = kind else {
         return Ok(denied_by(Decider::Registration, None));
     };
-    let Some(url) = read_url(alloc, registration.entry.url)? else {
-        return Ok(denied_by(Decider::Registration, None));
-    };
-    let Some(attrs) = read_attributes(alloc, registration.attributes)? else {
-        return Ok(denied_by(Decider::Attributes, Some(kind)));
-    };
-    let Some(scopes) = read_supported(alloc, site, registration.scopes)? else {
-        return Ok(denied_by(Decider::Parse, None));
-    };
-    Ok(Reading::Read(Particulars {
-        url,
-        kind,
-        scopes,
-        attrs,
-    }))
+    match read_url(alloc, registration.entry.url)? {
+        Some(url) => name_read(alloc, site, registration, url, kind),
+        None => Ok(denied_by(Decider::Registration, None)),
+    }
 }

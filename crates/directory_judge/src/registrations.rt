@@ -128,12 +128,20 @@ impl<'a, R: Registry> Grounds<'a, R> {
     {
         let named = self.named(alloc, header, registration, particulars)?;
         match self.rule(Action::Register, &named.kind, &named.scopes) {
-            None => denial(alloc, Reason::of_step(Decider::Scope, Some(&named.kind))),
+            None => {
+                let told = denial(alloc, Reason::of_step(Decider::Scope, Some(&named.kind)));
+                drop(named);
+                told
+            }
             Some(ruling) if ruling.verdict.allow => {
                 let decider = ruling.decider();
                 self.judge_named(alloc, named, header.flags.fresh, decider)
             }
-            Some(ruling) => denial(alloc, ruling.reason()),
+            Some(ruling) => {
+                let told = denial(alloc, ruling.reason());
+                drop(named);
+                told
+            }
         }
     }
 

@@ -1,9 +1,10 @@
-use Rattle.std.proofs.Common.{◌≡◌, ℕ, Bool, true, false, cond, List, length, Some, Ok, Err, sym, ◌∙◌}
-use Rattle.std.specs.Prelude.{nat_lt}
+use Rattle.std.proofs.Common.{◌≡◌, ℕ, Bool, true, false, cond, List, length, Some, Ok, Err, sym, subst, ◌∙◌}
+use Rattle.std.specs.Prelude.{nat_lt, IfOk}
 use Rattle.std.specs.Result.{result_ok}
 use Rattle.std.proofs.lemmas.Option.{none-some, same_Some}
 use Rattle.service_url.specs.Urls.{url_of, is_url, longest_url}
 use Rattle.service_url.specs.declared.fault.UrlFault.TheVariants.{BadUrl, TooLong}
+use Rattle.directory_judge.specs.Judgements.{AreParticularsOf}
 use Rattle.directory_judge.proofs.particulars.name.Goals as goal
 
 -- a URL that is read has the bytes of its text
@@ -12,8 +13,8 @@ read-same true fine text url h = absurd (none-some url h)
 read-same false true text url h = same_Some text url h
 read-same false false text url h = absurd (none-some url h)
 
-pub returns-clause-url : goal.returns-clause-url
-returns-clause-url c =
+pub returns-in-Some-2-clause-url : goal.returns-in-Some-2-clause-url
+returns-in-Some-2-clause-url c =
     let text = c.args.registration.now.entry.url.now in
     let read : result_ok (url_of text) ≡ Some c.in-Some-2.url = sym c.in_ok-url.ensures ∙ c.in-Some-2.is in
-    (sym (read-same (nat_lt longest_url (length text)) (is_url text) text c.in-Some-2.url read), rw c.in-Some-4.is at c.in_ok-scopes.ensures.few)
+    subst (λ u. IfOk c.name_read.result (AreParticularsOf u)) (sym (read-same (nat_lt longest_url (length text)) (is_url text) text c.in-Some-2.url read)) c.name_read.ensures.url

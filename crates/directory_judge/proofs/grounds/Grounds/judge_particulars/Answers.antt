@@ -29,9 +29,9 @@ returns-in-None g c =
     let none : length e.scopes ≡ 0 = no-scopes e.scopes (ruling-none on.rules on.asker Register e.kind e.scopes (sym c.rule.ensures ∙ ap (option_map ruling_in) c.in-None.is)).1 in
     let unsupported : judgement_of_particulars on h r t ≡ denial because =
     judgement-unsupported on h r t (sym (ap (λ (x : Entry). length x.scopes) is) ∙ none) ∙ ap (λ (x : Entry). denial (by_step decider.Scope (Some x.kind))) (sym is) in
-    IfOk-weaker c.denial.result (λ j. judgement_in j ≡ judged.Deny (code_by c.of_step.result.decider) (because_of c.of_step.result)) _
+    IfOk-weaker c.denial-told.result (λ j. judgement_in j ≡ judged.Deny (code_by c.of_step.result.decider) (because_of c.of_step.result)) _
     (λ j made. subst (λ x. IsJudgement on.live x (judgement_of_particulars on h r t)) (sym (made ∙ ap (λ (b : Because). judged.Deny (code_by b.decider) b) c.of_step.ensures)) unsupported)
-    c.denial.ensures
+    c.denial-told.ensures
 
 first_scope : (scopes : List (List ℕ)) → 0 < length scopes → slice_get scopes 0 ≡ Some (unwrap_or (slice_get scopes 0) [])
 first_scope [] h = absurd (omega (arith, h))
@@ -77,6 +77,6 @@ returns-in-Some-2 g c =
     let denies : denial_of on.rules on.asker Register e.kind e.scopes ≡ Some (because_in c.in-Some.ruling) = ruling-denied on.rules on.asker Register e.kind e.scopes c.in-Some.ruling (sym ruled) c.if-ruling.false in
     let judged_so : judgement_of_particulars on h r t ≡ denial (because_in c.in-Some.ruling) =
     judgement-denied on h r t (subst (λ (x : Entry). 0 < length x.scopes) is there) (because_in c.in-Some.ruling) (sym (ap (λ (x : Entry). denial_of on.rules on.asker Register x.kind x.scopes) is) ∙ denies) in
-    IfOk-weaker c.denial-in-Some-2.result (λ j. judgement_in j ≡ judged.Deny (code_by c.reason.result.decider) (because_of c.reason.result)) _
+    IfOk-weaker c.denial-told-in-Some-2.result (λ j. judgement_in j ≡ judged.Deny (code_by c.reason.result.decider) (because_of c.reason.result)) _
     (λ j made. subst (λ x. IsJudgement on.live x (judgement_of_particulars on h r t)) (sym (made ∙ ap (λ (b : Because). judged.Deny (code_by b.decider) b) c.reason.ensures)) judged_so)
-    c.denial-in-Some-2.ensures
+    c.denial-told-in-Some-2.ensures
