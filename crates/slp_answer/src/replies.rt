@@ -114,7 +114,7 @@ fn answer_question<R: Registry>(
     alloc: Global,
     directory: &Directory<R>,
     headed: &Headed<'_>,
-    posed: Question,
+    posed: &Question,
     answer: &mut Answer,
 ) -> Result<Sent, NoMemory>
     requires datagram { 1400 ≤ headed.now.call.now.limit }
@@ -122,7 +122,7 @@ fn answer_question<R: Registry>(
     requires no_reply { answer.old.bytes.items ≡ [] }
     requires no_line { answer.old.audit.items ≡ [] }
     ensures { (o : Opening) (h : History) → Fold o h directory.now → IsLegal o h
-        → IfOk result (λ what. (r : Outcome) × IsAnswerTo o h (call_in headed.now.call.now) (sense_of_question o.site headed.now.call.now.own (heading_in headed.now.header.now) posed) r None
+        → IfOk result (λ what. (r : Outcome) × IsAnswerTo o h (call_in headed.now.call.now) (sense_of_question o.site headed.now.call.now.own (heading_in headed.now.header.now) posed.now) r None
         × Tells directory.now.rules headed.now.call.now.asker (Some (heading_in headed.now.header.now)) r what answer.new.bytes.items answer.new.audit.items) }
 {
     match posed {
@@ -132,10 +132,10 @@ fn answer_question<R: Registry>(
             let asker = headed.call.asker;
             answer_code(directory.rules(), asker, headed.header, finding, answer)
         }
-        Question::Services(query) => answer_services(alloc, directory, headed, &query, answer),
-        Question::Attributes(query) => answer_attributes(alloc, directory, headed, &query, answer),
-        Question::Types(query) => answer_types(alloc, directory, headed, &query, answer),
-        Question::Agents(query) => answer_agents(alloc, directory, headed, &query, answer),
+        Question::Services(query) => answer_services(alloc, directory, headed, query, answer),
+        Question::Attributes(query) => answer_attributes(alloc, directory, headed, query, answer),
+        Question::Types(query) => answer_types(alloc, directory, headed, query, answer),
+        Question::Agents(query) => answer_agents(alloc, directory, headed, query, answer),
     }
 }
 
@@ -159,7 +159,9 @@ fn answer_request<R: Registry>(
     match asked(alloc, call.own, header, call.bytes)? {
         Ok(question) => {
             let headed = Headed { call, header };
-            answer_question(alloc, directory, &headed, question, answer)
+            let told = answer_question(alloc, directory, &headed, &question, answer);
+            drop(question);
+            told
         }
         Err(fault) => answer_fault(directory.rules(), call.asker, header, fault, answer),
     }

@@ -13,9 +13,9 @@ returns-in-Ok g c = λ o h fold legal.
     let own = c.args.call.now.own in
     let bytes : List ℕ = c.args.call.now.bytes.now in
     let told : IsAsked own bytes c.in-Ok.question = subst (λ r. MatchResult r (IsAsked own bytes) (IsUnread bytes)) c.in-Ok.is c.in_ok-question.ensures in
-    IfOk-weaker c.answer_question.result _ _
-    (λ what k. asked-replies o h (call_in c.args.call.now) what c.answer_question.new.answer.bytes.items c.answer_question.new.answer.audit.items head c.in-Ok.question c.args.directory.now.rules fold.ruled c.requires.header told k)
-    (c.answer_question.ensures o h fold legal)
+    IfOk-weaker c.answer_question-told.result _ _
+    (λ what k. asked-replies o h (call_in c.args.call.now) what c.answer_question-told.new.answer.bytes.items c.answer_question-told.new.answer.audit.items head c.in-Ok.question c.args.directory.now.rules fold.ruled c.requires.header told k)
+    (c.answer_question-told.ensures o h fold legal)
 
 pub returns-in-Err : goal.returns-in-Err
 returns-in-Err g c = λ o h fold legal.
