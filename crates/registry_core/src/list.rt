@@ -2,7 +2,7 @@ ghost use Rattle.std.specs.Prelude.{◌≡◌, ◌<◌, ◌≤◌, ◌&&◌, [],
 ghost use Rattle.std.specs.Arc.{arc_value};
 ghost use Rattle.std.specs.FinMap as fin;
 ghost use Rattle.std.specs.Option.{option_copied};
-ghost use Rattle.registry_core.specs.Entries.{is_of, is_at_place, is_of_url, is_within, entries_of_list};
+ghost use Rattle.registry_core.specs.Entries.{is_of, is_at_place, is_kind, is_of_url, is_within, entries_of_list};
 
 use crate::entry::Entry;
 use crate::registry::{Registry, RegistryFault};
@@ -43,7 +43,7 @@ impl ListRegistry {
         ensures memory { OnErr result (result ≡ Err RegistryFault.NoMemory) }
         ensures empty { IfOk result (λ r. entries_of_list r.entries ≡ fin.empty) }
     {
-        let entries = Vec::with_capacity(alloc, capacity).map_err(|_| RegistryFault::NoMemory)?;
+        let entries = Vec::with_capacity(alloc, capacity)?;
         Ok(ListRegistry {
             entries,
             limit: capacity,
@@ -60,33 +60,41 @@ fn place_of(entries: &[Arc<Entry>], url: &Url, language: &Key) -> Option<usize>
         .position(|e| *url == e.url && *language == e.language)
 }
 
+// Whether an entry is of a type that is covered.
+fn is_of_kind(entry: &Entry, kind: Option<&ServiceType>) -> bool
+    ensures { result ≡ is_kind (option_copied kind.entry) entry.now }
+{
+    match kind {
+        None => true,
+        Some(kind) => kind.covers(&entry.kind),
+    }
+}
+
+// The same of an entry whose URL does not come after a bound, which is asked first.
+fn is_of_kind_within(entry: &Entry, kind: Option<&ServiceType>, bound: &Url) -> bool
+    ensures { result ≡ (is_within bound.now entry.now && is_kind (option_copied kind.entry) entry.now) }
+{
+    entry.url <= *bound && is_of_kind(entry, kind)
+}
+
 // Whether an entry stands in a scope and is of a type that is covered.
 fn is_here(entry: &Entry, scope: &Key, kind: Option<&ServiceType>) -> bool
     ensures { result ≡ is_at_place scope.now (option_copied kind.entry) entry.now }
 {
-    let is_kind = match kind {
-        None => true,
-        Some(kind) => kind.covers(&entry.kind),
-    };
-    is_kind && entry.scopes.has(scope)
-}
-
-// The same of an entry whose URL does not come after a bound, which is asked first.
-fn is_here_within(entry: &Entry, scope: &Key, kind: Option<&ServiceType>, bound: &Url) -> bool
-    ensures { result ≡ (is_within bound.now entry.now && is_at_place scope.now (option_copied kind.entry) entry.now) }
-{
-    entry.url <= *bound && is_here(entry, scope, kind)
+    is_of_kind(entry, kind) && entry.scopes.has(scope)
 }
 
 impl Registry for ListRegistry {
     ghost use Rattle.std.specs.Prelude.{filter, drop};
-    ghost use Rattle.registry_core.specs.Entries.{entries_of_list, is_at_place, is_of_url};
+    ghost use Rattle.registry_core.specs.Entries.{entries_of_list, is_at_place, is_kind, is_of_url};
 
     ghost contents = { λ r. entries_of_list r.entries };
 
     ghost limit = { λ r. r.limit };
 
     ghost rest_at = { λ r scope kind from. filter (is_at_place scope kind) (drop from r.entries) };
+
+    ghost rest_of_kind = { λ r kind from. filter (is_kind kind) (drop from r.entries) };
 
     ghost rest_of_url = { λ r url from. filter (is_of_url url) (drop from r.entries) };
 
@@ -145,16 +153,25 @@ impl Registry for ListRegistry {
         None
     }
 
-    fn by_place_within(
+    fn by_kind(&self, kind: Option<&ServiceType>, from: usize) -> Option<(&Entry, usize)> {
+        for at in from..self.entries.len() {
+            let entry: &Entry = &self.entries[at];
+            if is_of_kind(entry, kind) {
+                return Some((entry, at + 1));
+            }
+        }
+        None
+    }
+
+    fn by_kind_within(
         &self,
-        scope: &Key,
         kind: Option<&ServiceType>,
         bound: &Url,
         from: usize,
     ) -> Option<(&Entry, usize)> {
         for at in from..self.entries.len() {
             let entry: &Entry = &self.entries[at];
-            if is_here_within(entry, scope, kind, bound) {
+            if is_of_kind_within(entry, kind, bound) {
                 return Some((entry, at + 1));
             }
         }

@@ -2,11 +2,13 @@ ghost use Rattle.std.specs.Prelude.{◌≡◌, ◌<◌, ◌≤◌, ◌∷◌, []
 ghost use Rattle.std.specs.Arc.{arc_value};
 ghost use Rattle.std.specs.FinMap as fin;
 ghost use Rattle.std.specs.Option.{option_copied};
-ghost use Rattle.registry_core.specs.Entries.{Pair, pair_of, outlives, if_kept, passing_entries, is_at_place, is_of_url, is_within, is_registered, IsListing};
+ghost use Rattle.registry_core.specs.Entries.{Pair, pair_of, outlives, if_kept, passing_entries, is_at_place, is_kind, is_of_url, is_within, is_registered, IsListing};
+ghost use Rattle.registry_core.specs.declared.registry.RegistryFault.TheVariants as fault;
 
 use crate::entry::Entry;
 use service_url::{ServiceType, Url};
 use slp_text::{Key, ScopeList};
+use std::alloc::AllocError;
 use std::sync::Arc;
 use thiserror::Error;
 
@@ -19,6 +21,14 @@ pub enum RegistryFault {
     /// The constructors alone.
     #[error("out of memory")]
     NoMemory = 2,
+}
+
+impl From<AllocError> for RegistryFault {
+    ghost from_gives = { λ _ e. e ≡ fault.NoMemory };
+
+    fn from(_e: AllocError) -> RegistryFault {
+        RegistryFault::NoMemory
+    }
 }
 
 /// Entries by URL and language, in memory that was taken when the registry was made: no call takes
@@ -36,6 +46,9 @@ pub trait Registry {
 
     /// What `by_place` still gives of a scope and a type from a number on.
     ghost rest_at: { Self → List ℕ → Option (List ℕ) → ℕ → List Entry };
+
+    /// What `by_kind` still gives of a type from a number on.
+    ghost rest_of_kind: { Self → Option (List ℕ) → ℕ → List Entry };
 
     /// What `by_url` still gives of a URL from a number on.
     ghost rest_of_url: { Self → List ℕ → ℕ → List Entry };
@@ -84,21 +97,26 @@ pub trait Registry {
         from: usize,
     ) -> Option<(&Entry, usize)>
         ensures next { MatchOption result (rest_at self.now scope.now (option_copied kind.entry) from ≡ []) (λ p. rest_at self.now scope.now (option_copied kind.entry) from ≡ p.0.now ∷ rest_at self.now scope.now (option_copied kind.entry) p.1) }
-        ensures whole { IsListing (is_at_place scope.now (option_copied kind.entry)) (contents self.now) (rest_at self.now scope.now (option_copied kind.entry) 0) }
+        ensures whole { IsListing (is_at_place scope.now (option_copied kind.entry)) (contents self.now) (rest_at self.now scope.now (option_copied kind.entry) 0) };
+
+    /// The next entry of a type that the given one covers (`None`: of any type), in whatever scopes, with the
+    /// number to go on from. The first number is 0. On a registry that stays as it is each such entry comes once.
+    fn by_kind(&self, kind: Option<&ServiceType>, from: usize) -> Option<(&Entry, usize)>
+        ensures next { MatchOption result (rest_of_kind self.now (option_copied kind.entry) from ≡ []) (λ p. rest_of_kind self.now (option_copied kind.entry) from ≡ p.0.now ∷ rest_of_kind self.now (option_copied kind.entry) p.1) }
+        ensures whole { IsListing (is_kind (option_copied kind.entry)) (contents self.now) (rest_of_kind self.now (option_copied kind.entry) 0) }
         ensures onward { IfSome result (λ p. from < p.1) };
 
-    /// The same without the entries whose URL comes after a bound, in byte order. These are passed
-    /// over before anything else of them is looked at.
-    fn by_place_within(
+    /// The same without the entries whose URL comes after a bound, in byte order. A registry that walks in that order
+    /// ends there.
+    fn by_kind_within(
         &self,
-        scope: &Key,
         kind: Option<&ServiceType>,
         bound: &Url,
         from: usize,
     ) -> Option<(&Entry, usize)>
-        ensures next { MatchOption result (filter (is_within bound.now) (rest_at self.now scope.now (option_copied kind.entry) from) ≡ [])
-            (λ p. filter (is_within bound.now) (rest_at self.now scope.now (option_copied kind.entry) from) ≡ p.0.now ∷ filter (is_within bound.now) (rest_at self.now scope.now (option_copied kind.entry) p.1)) }
-        ensures whole { IsListing (is_at_place scope.now (option_copied kind.entry)) (contents self.now) (rest_at self.now scope.now (option_copied kind.entry) 0) }
+        ensures next { MatchOption result (filter (is_within bound.now) (rest_of_kind self.now (option_copied kind.entry) from) ≡ [])
+            (λ p. filter (is_within bound.now) (rest_of_kind self.now (option_copied kind.entry) from) ≡ p.0.now ∷ filter (is_within bound.now) (rest_of_kind self.now (option_copied kind.entry) p.1)) }
+        ensures whole { IsListing (is_kind (option_copied kind.entry)) (contents self.now) (rest_of_kind self.now (option_copied kind.entry) 0) }
         ensures onward { IfSome result (λ p. from < p.1) };
 
     /// The next entry of a URL, with the number to go on from. The first number is 0. On a registry
