@@ -25,6 +25,14 @@ content (change.Withdraw moment w) = Withdraws moment (record { url = (arc_value
 content (change.Sweep moment) = Sweeps moment
 content (change.Reload moment rules) = Reloads moment (arc_value rules)
 
+-- the moment at which it acts
+abbrev pub moment_in : Content → ℕ
+moment_in (Stores moment e) = moment
+moment_in (Edits moment e) = moment
+moment_in (Withdraws moment w) = moment
+moment_in (Sweeps moment) = moment
+moment_in (Reloads moment rules) = moment
+
 -- the entry that a registration founds at a moment
 abbrev pub entry_of : ℕ → Putting → Entry
 entry_of moment p = record { url = p.url; language = p.language; kind = p.kind; scopes = p.scopes; attrs = p.attributes; deadline = moment + p.lifetime }

@@ -53,7 +53,19 @@ impl Placed {
 
 impl Change {
     ghost use Rattle.std.specs.Prelude.{◌≡◌, IfOk};
-    ghost use Rattle.directory_judge.specs.Contents.{content};
+    ghost use Rattle.directory_judge.specs.Contents.{content, moment_in};
+
+    /// Its moment, in seconds.
+    pub fn moment(&self) -> u32
+        ensures { result ≡ moment_in (content self.now) }
+    {
+        match self {
+            Change::Put(placed) | Change::Edit(placed) => placed.moment,
+            Change::Withdraw(moment, _) | Change::Sweep(moment) | Change::Reload(moment, _) => {
+                *moment
+            }
+        }
+    }
 
     /// The same change once more: what it holds is shared, and not copied.
     pub fn share(&self) -> Result<Change, NoMemory>
