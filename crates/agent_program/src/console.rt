@@ -4,7 +4,7 @@ ghost use Rattle.std.specs.Io.KnownBytes.{Appends};
 ghost use Rattle.agent_program.specs.Statuses.{reload_text};
 
 use crate::fault::StartFault;
-use crate::{changes, opening};
+use crate::opening;
 use access_rules::{RuleFault, Rules};
 use site_reports::print_rules;
 use slp_loops::{Moments, Shared, WallClock};
@@ -122,7 +122,7 @@ where
         let rules = Arc::new(self.alloc, rules)?;
         let moment = self.clock.now();
         let mut directory = self.shared.directory.lock(self.rt);
-        changes::reload(&mut *directory, moment, rules);
+        directory.reload(moment, rules);
         Ok(number)
     }
 
@@ -141,7 +141,7 @@ where
     fn sweep(&mut self) {
         let moment = self.clock.now();
         let mut directory = self.shared.directory.lock(self.rt);
-        changes::sweep(&mut *directory, moment);
+        directory.sweep(moment);
         drop(directory);
         self.print("# sweep\n");
     }

@@ -1,7 +1,6 @@
 //! The program `slpda`: a directory agent that listens at the address of its configuration.
 #![tactic(auto)]
 
-mod changes;
 mod console;
 mod fault;
 mod files;

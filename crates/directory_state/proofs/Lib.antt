@@ -1,5 +1,7 @@
 pub mod AcceptedChanges
 pub mod ArrangedEntries
+pub mod AskedEvents
+pub mod AskedPlaces
 pub mod Conforming
 pub mod Cuts
 pub mod EventContents
@@ -20,4 +22,3 @@ pub mod SearchAnswers
 pub mod SeenUrls
 pub mod Shortlists
 pub mod States
-pub mod Viewers

@@ -1,20 +1,16 @@
--- What joins a list of URLs as the scopes are walked, and in which entries it was seen.
-use Rattle.std.proofs.Common.{◌≡◌, ℕ, ◌+◌, ◌<◌, ◌≤◌, max, Bool, true, false, cond, List, [], ◌∷◌, ◌++◌, drop, length, Option, Some, None, Result, Ok, Err, refl, sym, ap, ap₂, subst, ◌∙◌, arith, inl, inr, add-one, drop-cons}
-use Rattle.std.specs.Prelude.{unwrap_or, slice_get, IsTrue, OnErr, ◌||◌, ◌⊎◌, filter, Contains}
-use Rattle.std.specs.List.{list_any, All}
+-- What joins a list of URLs as entries are seen, and in which it was seen.
+use Rattle.std.proofs.Common.{◌≡◌, ℕ, ◌+◌, ◌<◌, ◌≤◌, max, Bool, true, false, cond, List, [], ◌∷◌, drop, length, Option, Some, None, Result, Ok, Err, refl, sym, ap, ap₂, subst, ◌∙◌, arith, inl, inr, add-one, drop-cons}
+use Rattle.std.specs.Prelude.{unwrap_or, slice_get, OnErr, ◌⊎◌, Contains}
+use Rattle.std.specs.List.{All}
 use Rattle.std.specs.Ordering.{is_eq, match_ordering}
 use Rattle.std.specs.declared.cmp.Ordering.TheVariants.{Less, Equal, Greater}
 use Rattle.std.proofs.lemmas.Bool.{cases_lt}
 use Rattle.std.proofs.lemmas.List.Elements.{All-nil, All-cons, All-contains, Contains-append_left, Contains-append_right}
 use Rattle.std.proofs.lemmas.Option.{none-some, same_Some, slice_get_within, get_or_from_slice_get, slice_get-get_or}
-use borrow.Author.Count.{below_more}
 use Rattle.registry_core.specs.declared.entry.Entry.{Entry}
 use Rattle.slp_text.specs.Words.{bytes_cmp, IsAscending}
-use Rattle.directory_judge.specs.Judgements.{supports}
-use Rattle.directory_judge.specs.Sites.{Site}
 use Rattle.directory_state.specs.Deadlines.{UrlDeadline, with_deadline, urls_of}
-use Rattle.directory_state.specs.Searches.{deadlines_with, cut, entries_in}
-use Rattle.directory_state.proofs.Cuts.{cut-joined}
+use Rattle.directory_state.specs.Searches.{deadlines_with}
 use Rattle.directory_state.proofs.Joins.{is_same, is_same-itself, reversed, latest_in, none_before_first, ascending-with_deadline}
 
 -- a URL is found with one more deadline
@@ -60,15 +56,11 @@ latest-deadlines_with q [] ps a = refl
 latest-deadlines_with q (e ∷ es) ps a =
     latest-deadlines_with q es (with_deadline e.url e.deadline ps) (ascending-with_deadline e.url e.deadline ps a) ∙ ap (latest q es) (latest-with_deadline q e.url e.deadline ps a)
 
--- ---- the turns of a walk over the scopes
-
 pub on_err : {A E : Type 0} (r : Result A E) (P : Type 0) → P → OnErr r P
 on_err (Ok x) P p = tt
 on_err (Err e) P p = p
 
-deadlines_with-append : (a b : List Entry) (ps : List UrlDeadline) → deadlines_with (a ++ b) ps ≡ deadlines_with b (deadlines_with a ps)
-deadlines_with-append [] b ps = refl
-deadlines_with-append (e ∷ a) b ps = deadlines_with-append a b (with_deadline e.url e.deadline ps)
+-- ---- the turns of a walk over scopes
 
 pub drop_here : (scopes : List (List ℕ)) (i : ℕ) (s : List ℕ) → slice_get scopes i ≡ Some s → drop i scopes ≡ s ∷ drop (i + 1) scopes
 drop_here scopes i s is = drop-cons scopes i s (slice_get_within scopes i s is) ∙ ap₂ (λ x n. x ∷ drop n scopes) (get_or_from_slice_get scopes i s s is) (sym (add-one i))
@@ -76,60 +68,8 @@ drop_here scopes i s is = drop-cons scopes i s (slice_get_within scopes i s is) 
 pub not_none : (scopes : List (List ℕ)) (i : ℕ) → i < length scopes → slice_get scopes i ≡ None → ⊥
 not_none scopes i h is = none-some _ (sym is ∙ slice_get-get_or scopes i [] h)
 
-or_step : (done b rest whole after : Bool) → (done || (b || rest)) ≡ whole → after ≡ (done || b) → (after || rest) ≡ whole
-or_step true b rest whole after h is = ap (λ x. x || rest) is ∙ h
-or_step false b rest whole after h is = ap (λ x. x || rest) is ∙ h
-
-pub or_true : (done after : Bool) → after ≡ true → after ≡ (done || true)
-or_true true after h = h
-or_true false after h = h
-
-pub or_same : (done after : Bool) → after ≡ done → after ≡ (done || false)
-or_same true after h = h
-or_same false after h = h
-
 pub no_other : (b : Bool) → b ≡ true → b ≡ false → ⊥
 no_other b t f = let k : true ≡ false = sym t ∙ f in cc
-
-pub any_supported : (sup : List ℕ → Bool) (scopes : List (List ℕ)) (i : ℕ) (s : List ℕ) (done : Bool) → slice_get scopes i ≡ Some s → sup s ≡ true
-    → (done || list_any sup (drop i scopes)) ≡ list_any sup scopes → IsTrue (list_any sup scopes)
-any_supported sup scopes i s done at is whole =
-    sym whole ∙ ap (λ xs. done || list_any sup xs) (drop_here scopes i s at) ∙ ap (λ b. done || (b || list_any sup (drop (i + 1) scopes))) is
-    ∙ (elim done as (λ d. (d || true) ≡ true) [ true ↦ refl | false ↦ refl ])
-
-module _ (listing : List ℕ → List Entry) (passes : List ℕ → Entry → Bool) (site : Site) (scopes : List (List ℕ)) (i : ℕ) (s : List ℕ) (at : slice_get scopes i ≡ Some s) where
-  -- what passes in the scope comes before what passes in those that are left
-  pub entries-turn : (b : Bool) → supports site s ≡ b
-      → entries_in listing passes site (drop i scopes) ≡ cond b (filter (passes s) (listing s)) [] ++ entries_in listing passes site (drop (i + 1) scopes)
-  entries-turn b is =
-      let rest = entries_in listing passes site (drop (i + 1) scopes) in
-      ap (entries_in listing passes site) (drop_here scopes i s at) ∙ ap (λ t. cond t (filter (passes s) (listing s)) [] ++ rest) is
-
-  pub deadlines-turn : (cost : List ℕ → ℕ) (left : ℕ) (b : Bool) (before after : List UrlDeadline) → supports site s ≡ b
-      → after ≡ cond b (cut cost left (deadlines_with (filter (passes s) (listing s)) before)) before
-      → cut cost left (deadlines_with (entries_in listing passes site (drop (i + 1) scopes)) after) ≡ cut cost left (deadlines_with (entries_in listing passes site (drop i scopes)) before)
-  deadlines-turn cost left b before after is step =
-      let rest = entries_in listing passes site (drop (i + 1) scopes) in
-      let part = filter (passes s) (listing s) in
-      ap (λ ps. cut cost left (deadlines_with rest ps)) step
-      ∙ (elim b as (λ t. cut cost left (deadlines_with rest (cond t (cut cost left (deadlines_with part before)) before)) ≡ cut cost left (deadlines_with (cond t part [] ++ rest) before)) [
-        | true ↦ cut-joined cost left rest (deadlines_with part before) ∙ ap (cut cost left) (sym (deadlines_with-append part rest before))
-        | false ↦ refl
-      ])
-      ∙ ap (λ xs. cut cost left (deadlines_with xs before)) (sym (entries-turn b is))
-
-  pub supported-turn : (b done after : Bool) → supports site s ≡ b → after ≡ (done || b)
-      → (done || list_any (supports site) (drop i scopes)) ≡ list_any (supports site) scopes
-      → (after || list_any (supports site) (drop (i + 1) scopes)) ≡ list_any (supports site) scopes
-  supported-turn b done after is step whole =
-      or_step done b (list_any (supports site) (drop (i + 1) scopes)) (list_any (supports site) scopes) after
-      (ap (λ t. done || (t || list_any (supports site) (drop (i + 1) scopes))) (sym is) ∙ ap (λ xs. done || list_any (supports site) xs) (sym (drop_here scopes i s at)) ∙ whole) step
-
-  pub listing-turn : (P : List ℕ → Type 0) → ((k : ℕ) (t : List ℕ) → k < i → slice_get scopes k ≡ Some t → IsTrue (supports site t) → P t) → (IsTrue (supports site s) → P s)
-      → (k : ℕ) (t : List ℕ) → k < i + 1 → slice_get scopes k ≡ Some t → IsTrue (supports site t) → P t
-  listing-turn P below here k t h =
-      below_more (λ j. (t : List ℕ) → slice_get scopes j ≡ Some t → IsTrue (supports site t) → P t) i (λ j l t. below j t l)
-      (λ t is. subst (λ x. IsTrue (supports site x) → P x) (same_Some _ _ (sym at ∙ is)) here) k h t
 
 -- ---- the latest deadline
 

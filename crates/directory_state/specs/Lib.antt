@@ -1,4 +1,6 @@
+pub mod AskedScopes
 pub mod Deadlines
+pub mod Events
 pub mod Folds
 pub mod Foundings
 pub mod Fronts

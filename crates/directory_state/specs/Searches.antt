@@ -1,12 +1,10 @@
 -- How what answers a question is found: each entry that is seen joins a list of URLs with their latest deadlines, which is cut to its room.
-use Rattle.std.specs.Prelude.{◌≡◌, ℕ, ◌+◌, ◌-◌, ◌<◌, ◌≤◌, Bool, true, ◌&&◌, nat_le, min, if◌then◌else◌, List, [], ◌∷◌, ◌++◌, length, map, filter, Contains, Option, Some, None, IfSome, IsTrue}
+use Rattle.std.specs.Prelude.{◌≡◌, ℕ, ◌+◌, ◌-◌, ◌<◌, ◌≤◌, Bool, true, ◌&&◌, nat_le, min, if◌then◌else◌, List, [], ◌∷◌, length, map, filter, Contains, Option, Some, None, IfSome, IsTrue}
 use Rattle.access_rules.specs.Deciding.{SiteRules, deciding}
 use Rattle.access_rules.specs.declared.rule.Action.TheVariants.{See}
 use Rattle.registry_core.specs.Entries.{has_scope, outlives, pair_of}
 use Rattle.registry_core.specs.declared.entry.Entry.{Entry}
 use Rattle.slp_messages.specs.declared.message.UrlEntry.{UrlEntry}
-use Rattle.directory_judge.specs.Judgements.{supports}
-use Rattle.directory_judge.specs.Sites.{Site}
 use Rattle.directory_answers.specs.Items.{is_wanted}
 use Rattle.directory_answers.specs.declared.query.ServiceQuery.{ServiceQuery}
 use Rattle.directory_state.specs.Deadlines.{UrlDeadline, with_deadline, total_cost, urls_of}
@@ -18,6 +16,7 @@ use Rattle.directory_state.specs.declared.search.Shortlist.{Shortlist}
 use Rattle.directory_state.specs.declared.search.Room.{Room}
 use Rattle.directory_state.specs.declared.search.Search.{Search}
 use Rattle.directory_state.specs.declared.search.Spoken.{Spoken}
+use Rattle.directory_state.specs.declared.viewer.Viewer.{Viewer}
 use Rattle.directory_state.specs.declared.search.Spoken.TheVariants.{Nothing, Others, Asked}
 
 -- ---- what is seen
@@ -27,35 +26,39 @@ abbrev pub deadlines_with : List Entry → List UrlDeadline → List UrlDeadline
 deadlines_with [] ps = ps
 deadlines_with (e ∷ es) ps = deadlines_with es (with_deadline e.url e.deadline ps)
 
--- the entry lives on, and the asker may see its type in the scope
-abbrev pub is_seen : SiteRules → ℕ → ℕ → List ℕ → Entry → Bool
-is_seen rules now asker scope e = outlives now e && (deciding rules asker See e.kind scope).allow
+-- the entry stands in a scope, in which the asker may see its type
+abbrev pub is_open_in : SiteRules → ℕ → Entry → List ℕ → Bool
+is_open_in rules asker e s = has_scope s e && (deciding rules asker See e.kind s).allow
 
--- it is seen in one of the scopes, in which it stands and which the site supports
-abbrev pub is_seen_in : SiteRules → Site → ℕ → ℕ → List (List ℕ) → Entry → Bool
-is_seen_in rules site now asker scopes e = list_any (λ s. supports site s && (has_scope s e && is_seen rules now asker s e)) scopes
+-- it is so of one of the scopes
+abbrev pub is_allowed : SiteRules → ℕ → List (List ℕ) → Entry → Bool
+is_allowed rules asker scopes e = list_any (is_open_in rules asker e) scopes
+
+-- it lives on too
+abbrev pub is_open : SiteRules → ℕ → ℕ → List (List ℕ) → Entry → Bool
+is_open rules now asker scopes e = outlives now e && is_allowed rules asker scopes e
+
+abbrev pub is_seen : Viewer → Entry → Bool
+is_seen v = is_open v.rules.now v.moment v.asker v.asked
+
+-- the scopes in which it is open, of those that are asked for
+abbrev pub open_scopes : Viewer → Entry → List (List ℕ)
+open_scopes v e = filter (is_open_in v.rules.now v.asker e) v.asked
 
 -- it is seen, and asked for
-abbrev pub is_found : ServiceQuery → SiteRules → ℕ → ℕ → List ℕ → Entry → Bool
-is_found query rules now asker scope e = is_seen rules now asker scope e && is_wanted query e
+abbrev pub is_found : Search → Entry → Bool
+is_found s e = is_seen s.viewer e && is_wanted s.query.now e
 
 -- what was seen: nothing, or something, in the language that is asked for or in others alone
 abbrev pub spoken_of : ServiceQuery → List Entry → Spoken
 spoken_of query [] = Nothing
 spoken_of query (e ∷ es) = if bytes_eq e.language query.language then Asked else (elim (spoken_of query es) [ Nothing ↦ Others | Others ↦ Others | Asked ↦ Asked ])
 
--- what passes in those of the scopes that the site supports, where the listing says what stands in each
-abbrev pub entries_in : (List ℕ → List Entry) → (List ℕ → Entry → Bool) → Site → List (List ℕ) → List Entry
-entries_in listing passes site [] = []
-entries_in listing passes site (s ∷ scopes) = (if supports site s then filter (passes s) (listing s) else []) ++ entries_in listing passes site scopes
-
--- what is seen there
-abbrev pub seen_entries : (List ℕ → List Entry) → SiteRules → Site → ℕ → ℕ → List (List ℕ) → List Entry
-seen_entries listing rules site now asker = entries_in listing (is_seen rules now asker) site
-
--- what is found there
-abbrev pub found_entries : (List ℕ → List Entry) → SiteRules → Site → ℕ → ℕ → ServiceQuery → List Entry
-found_entries listing rules site now asker query = entries_in listing (is_found query rules now asker) site query.scopes
+-- of what was seen first, and of what was seen then
+abbrev pub joined : Spoken → Spoken → Spoken
+joined Nothing after = after
+joined Others after = elim after [ Nothing ↦ Others | Others ↦ Others | Asked ↦ Asked ]
+joined Asked after = Asked
 
 -- what is answered of a URL and its latest deadline
 abbrev pub item_at : ℕ → UrlDeadline → UrlEntry
@@ -100,9 +103,9 @@ pub record IsBound (cost : List ℕ → ℕ) (left : ℕ) (url : List ℕ) (ps :
   pub over : left < total_cost cost ps
   pub all : AllByRecursion (λ held. is_le (bytes_cmp held url) ≡ true) (urls_of ps)
 
--- what is kept, with what is seen of these entries of a scope
-abbrev pub shortlist_with : Shortlist → Search → List ℕ → List Entry → List UrlDeadline
-shortlist_with k s scope es = cut_in k.room (deadlines_with (filter (is_found s.query.now s.viewer.rules.now s.viewer.moment s.viewer.asker scope) es) k.latest)
+-- what is kept, with what is found of these entries
+abbrev pub shortlist_with : Shortlist → Search → List Entry → List UrlDeadline
+shortlist_with k s es = cut_in k.room (deadlines_with (filter (is_found s) es) k.latest)
 
 -- ---- what is made of the entries that are seen
 

@@ -1,30 +1,32 @@
-ghost use Rattle.std.specs.Prelude.{◌≡◌, ◌∷◌, [], max, map, List, IfOk, IsErrOf, ◌≤◌, ◌↔◌, false};
+ghost use Rattle.std.specs.Prelude.{◌≡◌, ◌∷◌, [], max, map, List, IfOk, IfNone, IfSome, IsErrOf, IsTrue, ◌≤◌, ◌↔◌, false};
 ghost use Rattle.std.specs.List.{list_any};
 ghost use Rattle.std.specs.Arc.{arc_value};
 ghost use Rattle.std.specs.FinMap as fin;
 ghost use Rattle.slp_messages.specs.Views.{message_in};
 ghost use Rattle.directory_judge.specs.History.{History, Event};
 ghost use Rattle.directory_judge.specs.Judgements.{IsChange, Judgement, judgement_in, supports};
-ghost use Rattle.directory_judge.specs.Contents.{content};
+ghost use Rattle.directory_judge.specs.Contents.{content, Reloads, Sweeps};
 ghost use Rattle.directory_answers.specs.Calls.{Opening};
 ghost use Rattle.registry_core.specs.declared.entry.Entry as spec;
 ghost use Rattle.directory_answers.specs.Items.{AreAttributesOf, AreServices, AreTypesOf, IsAskedAbout, IsElsewhere, IsForeign, IsOpenNow};
+ghost use Rattle.directory_state.specs.AskedScopes.{asked_scopes};
 ghost use Rattle.directory_state.specs.Deadlines.{UrlDeadline};
-ghost use Rattle.directory_state.specs.Searches.{item_at, cut_in, entries_lent, HasOneOfEachPair, IsIn, IsSmall, IsKept};
+ghost use Rattle.directory_state.specs.Searches.{is_open, is_seen, item_at, cut_in, entries_lent, HasOneOfEachPair, IsIn, IsSmall, IsKept};
 ghost use Rattle.directory_state.specs.Fronts.{IsFront, items_in, size_in};
 ghost use Rattle.directory_state.specs.Folds.{Fold, StandsFor};
-ghost use Rattle.directory_state.specs.State.{State, opening_state, state_made};
+ghost use Rattle.directory_state.specs.State.{State, opening_state, state_changed, state_made, swept};
 ghost use Rattle.directory_answers.specs.Verdicts.{IsLegal, IsVerdict};
 ghost use Rattle.directory_state.specs.Folds.{IsJudgedAs};
 
 use crate::arranging::{describe, lend, name_types};
+use crate::asked::Asked;
 use crate::search::{FoundItems, Room, Search, Shortlist};
 use crate::viewer::Viewer;
 use access_rules::{Addr, Rules};
 use attr_list::Attrs;
 use attr_union::AttrUnion;
 use directory_answers::{AttrQuery, QueryFault, ServiceQuery, Target, TypeQuery};
-use directory_judge::{Change, Decision, Grounds, Judged, Placed, Site, change_view};
+use directory_judge::{Change, Decision, Grounds, Judged, Site, change_view};
 use registry_core::{Entry, Registry};
 use service_url::ServiceType;
 use slp_messages::{ChangeView, Message, UrlEntry};
@@ -146,64 +148,89 @@ impl<R: Registry> Directory<R> {
         grounds.judge(alloc, change)
     }
 
+    // Drops what is dead at a moment, and raises the clock.
+    fn drop_dead(&mut self, moment: u32)
+        ensures { self.new ≡ swept moment self.old }
+    {
+        self.clock = self.now(moment);
+        self.registry.sweep(u64::from(moment));
+    }
+
+    // Makes a change where nothing is dead any more. That there is room for an entry was judged, so what `put` answers is passed over.
+    fn make(&mut self, change: Change)
+        ensures { self.new ≡ state_changed (content change) self.old }
+    {
+        match change {
+            Change::Put(placed) => {
+                let _ = self.registry.put(placed.entry);
+            }
+            Change::Edit(placed) => {
+                let entry = placed.entry;
+                if self.registry.find(&entry.url, &entry.language).is_some() {
+                    self.registry.edit(entry);
+                }
+            }
+            Change::Withdraw(_, withdrawn) => {
+                self.registry.remove_url(&withdrawn.url, &withdrawn.scopes);
+            }
+            Change::Sweep(_) => {}
+            Change::Reload(_, rules) => self.rules = rules,
+        }
+    }
+
     /// Makes a change: what is dead at its moment is dropped, and the clock raised. It has no answer for want of memory.
     pub fn apply(&mut self, change: Change)
         ensures made { self.new ≡ state_made (content change) self.old }
         ensures fold { (o : Opening) (h : History) (c : Event) → Fold o h self.old → IsLegal o (c ∷ h)
             → StandsFor h (content change) c → Fold o (c ∷ h) self.new }
     {
-        match change {
-            Change::Put(placed) => {
-                let Placed { moment, entry } = placed;
-                self.clock = self.now(moment);
-                self.registry.sweep(u64::from(moment));
-                let _ = self.registry.put(entry);
-            }
-            Change::Edit(placed) => {
-                let Placed { moment, entry } = placed;
-                self.clock = self.now(moment);
-                self.registry.sweep(u64::from(moment));
-                if self.registry.find(&entry.url, &entry.language).is_some() {
-                    self.registry.edit(entry);
-                }
-            }
-            Change::Withdraw(moment, withdrawn) => {
-                self.clock = self.now(moment);
-                self.registry.sweep(u64::from(moment));
-                self.registry.remove_url(&withdrawn.url, &withdrawn.scopes);
-            }
-            Change::Sweep(moment) => {
-                self.clock = self.now(moment);
-                self.registry.sweep(u64::from(moment));
-            }
-            Change::Reload(moment, rules) => {
-                self.clock = self.now(moment);
-                self.registry.sweep(u64::from(moment));
-                self.rules = rules;
-            }
-        }
+        self.drop_dead(change.moment());
+        self.make(change);
+    }
+
+    /// Drops what is dead at a moment, in seconds, or at the clock where that is greater.
+    pub fn sweep(&mut self, moment: u32)
+        ensures made { self.new ≡ state_made (Sweeps (max moment self.old.clock)) self.old }
+        ensures fold { (o : Opening) (h : History) (c : Event) → Fold o h self.old → IsLegal o (c ∷ h)
+            → StandsFor h (Sweeps (max moment self.old.clock)) c → Fold o (c ∷ h) self.new }
+    {
+        let now = self.now(moment);
+        self.apply(Change::Sweep(now));
+    }
+
+    /// From a moment on, in seconds, or from the clock on where that is greater, these rules decide.
+    pub fn reload(&mut self, moment: u32, rules: Arc<Rules>)
+        ensures made { self.new ≡ state_made (Reloads (max moment self.old.clock) (arc_value rules)) self.old }
+        ensures fold { (o : Opening) (h : History) (c : Event) → Fold o h self.old → IsLegal o (c ∷ h)
+            → StandsFor h (Reloads (max moment self.old.clock) (arc_value rules)) c → Fold o (c ∷ h) self.new }
+    {
+        let now = self.now(moment);
+        self.apply(Change::Reload(now, rules));
     }
 
     /// Whether the site supports one of these scopes.
     pub fn supports(&self, scopes: &ScopeList) -> bool
         ensures { result ≡ list_any (supports self.now.site) scopes.now }
     {
-        self.viewer(0, Addr(0)).supports(scopes)
+        !Asked::of(&self.site, scopes).is_empty()
     }
 
-    // Who asks, and what decides on what is open.
-    fn viewer(&self, moment: u32, asker: Addr) -> Viewer<'_>
-        ensures asker { result.asker ≡ asker }
-        ensures moment { result.moment ≡ max moment self.now.clock }
-        ensures rules { result.rules.now ≡ self.now.rules }
-        ensures site { result.site.now ≡ self.now.site }
+    // Who asks, in which scopes, and what decides on what is open; none where no scope is supported.
+    fn viewer(&self, moment: u32, asker: Addr, scopes: &ScopeList) -> Option<Viewer<'_>>
+        ensures none { IfNone result (list_any (supports self.now.site) scopes.now ≡ false) }
+        ensures some { IfSome result (λ _. IsTrue (list_any (supports self.now.site) scopes.now)) }
+        ensures sees { IfSome result (λ v. (e : spec.Entry) → is_seen v e ≡ is_open self.now.rules (max moment self.now.clock) asker (asked_scopes self.now.site scopes.now) e) }
     {
-        Viewer {
+        let asked = Asked::of(&self.site, scopes);
+        if asked.is_empty() {
+            return None;
+        }
+        Some(Viewer {
             asker,
             moment: u64::from(self.now(moment)),
             rules: &self.rules,
-            site: &self.site,
-        }
+            asked,
+        })
     }
 
     // Finds what answers a question, and keeps of it what there is room for.
@@ -223,10 +250,10 @@ impl<R: Registry> Directory<R> {
         ensures items { (o : Opening) (h : History) → Fold o h self.now → IsLegal o h
             → IfOk result (λ kept. (all : List UrlDeadline) × AreServices o h moment asker query.now (map (item_at (max moment self.now.clock)) all) × (kept.latest ≡ cut_in room all)) }
     {
-        let search = Search {
-            query,
-            viewer: self.viewer(moment, asker),
+        let Some(viewer) = self.viewer(moment, asker, &query.scopes) else {
+            return Err(QueryFault::Scope);
         };
+        let search = Search { query, viewer };
         Shortlist::search(alloc, &self.registry, &search, room)
     }
 
@@ -287,14 +314,12 @@ impl<R: Registry> Directory<R> {
         ensures found { (o : Opening) (h : History) → Fold o h self.now
             → IfOk result (λ v. (e : spec.Entry) → IsIn (entries_lent v.items) e ↔ IsAskedAbout (IsOpenNow o h moment asker query.now.scopes) query.now e) }
     {
-        let viewer = self.viewer(moment, asker);
-        if !viewer.supports(&query.scopes) {
+        let Some(viewer) = self.viewer(moment, asker, &query.scopes) else {
             return Err(QueryFault::Scope);
-        }
-        let (registry, scopes) = (&self.registry, &query.scopes);
+        };
         match &query.target {
-            Target::Kind(kind) => Ok(viewer.gather(alloc, registry, scopes, Some(kind))?),
-            Target::Place(url) => Ok(viewer.gather_url(alloc, registry, scopes, url)?),
+            Target::Kind(kind) => Ok(viewer.gather(alloc, &self.registry, Some(kind))?),
+            Target::Place(url) => Ok(viewer.gather_url(alloc, &self.registry, url)?),
         }
     }
 
@@ -351,11 +376,10 @@ impl<R: Registry> Directory<R> {
         ensures types { (o : Opening) (h : History) → Fold o h self.now → IsLegal o h
             → IfOk result (λ v. AreTypesOf o h moment asker query.now (map (λ e. e.kind) (entries_lent v.items))) }
     {
-        let viewer = self.viewer(moment, asker);
-        if !viewer.supports(&query.scopes) {
+        let Some(viewer) = self.viewer(moment, asker, &query.scopes) else {
             return Err(QueryFault::Scope);
-        }
-        let found = viewer.gather(alloc, &self.registry, &query.scopes, None)?;
+        };
+        let found = viewer.gather(alloc, &self.registry, None)?;
         Ok(name_types(found, query))
     }
 

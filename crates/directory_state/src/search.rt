@@ -1,9 +1,7 @@
-ghost use Rattle.std.specs.Prelude.{◌≡◌, ◌≢◌, ◌+◌, ◌-◌, ◌<◌, ◌↔◌, [], ◌∷◌, ℕ, List, false, length, map, filter, take, IfOk, IfErr, IsErrOf, IfSome, IfNone, MatchOption, OnErr, IsTrue, slice_get, Some, is_some, MatchResult};
-ghost use Rattle.std.specs.List.{list_any};
-ghost use Rattle.registry_core.specs.Entries.{is_at_place, IsListing};
-ghost use Rattle.directory_judge.specs.Judgements.{supports};
+ghost use Rattle.std.specs.Prelude.{◌≡◌, ◌≢◌, ◌+◌, ◌-◌, ◌<◌, ◌↔◌, [], ◌∷◌, ℕ, List, length, map, filter, take, IfOk, IfErr, IsErrOf, IfSome, IfNone, MatchOption, IsTrue, Some, is_some, MatchResult};
+ghost use Rattle.registry_core.specs.Entries.{is_kind, IsListing};
 ghost use Rattle.directory_state.specs.Deadlines.{UrlDeadline, with_deadline, total_cost};
-ghost use Rattle.directory_state.specs.Searches.{deadlines_with, found_entries, is_found, is_seen, seen_entries, spoken_of, item_at, cost_in, bytes_in, cut_in, shortlist_with, IsBound, IsCounted, IsSmall, IsKept};
+ghost use Rattle.directory_state.specs.Searches.{deadlines_with, is_found, is_seen, joined, spoken_of, item_at, cost_in, bytes_in, cut_in, shortlist_with, IsBound, IsCounted, IsSmall, IsKept};
 ghost use Rattle.directory_state.specs.Fronts.{IsFront, items_in};
 ghost use Rattle.directory_state.specs.declared.search.Spoken.TheVariants as spoken_is;
 
@@ -13,7 +11,7 @@ use directory_answers::{QueryFault, ServiceQuery};
 use registry_core::{Entry, Registry};
 use service_url::Url;
 use slp_messages::UrlEntry;
-use slp_text::{Key, NoMemory, Text};
+use slp_text::{NoMemory, Text};
 use std::alloc::Global;
 
 /// How many bytes there are for what is found, and how many each item takes beside its URL.
@@ -35,7 +33,7 @@ pub struct FoundItems<'a> {
 }
 
 /// What is asked, and by whom.
-#[derive(Clone, Copy)]
+#[derive(Drop)]
 pub struct Search<'q> {
     pub query: &'q ServiceQuery,
     pub viewer: Viewer<'q>,
@@ -51,44 +49,21 @@ pub enum Spoken {
     Asked,
 }
 
-impl Search<'_> {
-    // What is seen in a scope, by its language.
-    fn spoken_in<R: Registry>(&self, registry: &R, scope: &Key) -> Spoken
-        ensures spoken { result ≡ spoken_of self.now.query.now (filter (is_seen self.now.viewer.rules.now self.now.viewer.moment self.now.viewer.asker scope.now) (R.rest_at registry.now scope.now (Some self.now.query.now.kind) 0)) }
-        ensures listing { IsListing (is_at_place scope.now (Some self.now.query.now.kind)) (R.contents registry.now) (R.rest_at registry.now scope.now (Some self.now.query.now.kind) 0) }
+impl Spoken {
+    // With one more entry that is seen.
+    fn with_entry(self, query: &ServiceQuery, entry: &Entry) -> Spoken
+        ensures { result ≡ joined self (spoken_of query.now (entry.now ∷ [])) }
     {
-        let mut spoken = Spoken::Nothing;
-        let mut from = 0;
-        while let Some((entry, next)) = registry.by_place(scope, Some(&self.query.kind), from) {
-            if self.viewer.sees(entry, scope) {
-                if entry.language == self.query.language {
-                    return Spoken::Asked;
-                }
-                spoken = Spoken::Others;
-            }
-            from = next;
-        }
-        spoken
-    }
-
-    // What is seen in the scopes that the site supports, by its language.
-    fn spoken<R: Registry>(&self, registry: &R) -> Spoken
-        ensures { result ≡ spoken_of self.now.query.now (seen_entries (λ s. R.rest_at registry.now s (Some self.now.query.now.kind) 0) self.now.viewer.rules.now self.now.viewer.site.now self.now.viewer.moment self.now.viewer.asker self.now.query.now.scopes) }
-    {
-        let mut spoken = Spoken::Nothing;
-        let scopes = &self.query.scopes;
-        for place in 0..scopes.len() {
-            if let Some(scope) = scopes.at(place)
-                && self.viewer.site.scopes().has(scope)
-            {
-                match self.spoken_in(registry, scope) {
-                    Spoken::Asked => return Spoken::Asked,
-                    Spoken::Others => spoken = Spoken::Others,
-                    Spoken::Nothing => {}
+        match self {
+            Spoken::Asked => Spoken::Asked,
+            _ => {
+                if entry.language == query.language {
+                    Spoken::Asked
+                } else {
+                    Spoken::Others
                 }
             }
         }
-        spoken
     }
 }
 
@@ -168,19 +143,29 @@ impl<'a> Shortlist<'a> {
         }
     }
 
-    // An entry of the scope is found. The rules are asked where it may be kept.
-    fn look(&mut self, entry: &'a Entry, question: &Search<'_>, scope: &Key) -> Result<(), NoMemory>
+    // An entry is looked at, once for all scopes. The rules are asked where it may be kept. What was seen before,
+    // by its language, is counted while nothing is kept.
+    fn look(
+        &mut self,
+        entry: &'a Entry,
+        question: &Search<'_>,
+        before: Spoken,
+    ) -> Result<Spoken, NoMemory>
         requires { IsKept self.old }
         ensures room { self.new.room ≡ self.old.room }
         ensures kept { IfOk result (λ _. IsKept self.new) }
-        ensures found { IfOk result (λ _. self.new.latest ≡ cut_in self.old.room (deadlines_with (filter (is_found question.now.query.now question.now.viewer.rules.now question.now.viewer.moment question.now.viewer.asker scope.now) (entry.now ∷ [])) self.old.latest)) }
+        ensures found { IfOk result (λ _. self.new.latest ≡ cut_in self.old.room (deadlines_with (filter (is_found question.now) (entry.now ∷ [])) self.old.latest)) }
+        ensures spoken { IfOk result (λ s. self.new.latest ≡ [] → s ≡ joined before (spoken_of question.now.query.now (filter (is_seen question.now.viewer) (entry.now ∷ [])))) }
     {
-        if !question.viewer.sees(entry, scope) || !question.query.wants(entry) {
-            return Ok(());
+        if question.viewer.view(entry).is_none() {
+            return Ok(before);
         }
-        self.put(&entry.url, entry.deadline)?;
-        self.shrink();
-        Ok(())
+        if question.query.wants(entry) {
+            self.put(&entry.url, entry.deadline)?;
+            self.shrink();
+            return Ok(before);
+        }
+        Ok(before.with_entry(question.query, entry))
     }
 
     // The URL after which nothing is kept, where there is no room for more.
@@ -195,77 +180,52 @@ impl<'a> Shortlist<'a> {
         Some(bound)
     }
 
-    // The next entry of a place that may be kept, with the number to go on from.
+    // The next entry of the type that may be kept, with the number to go on from.
     fn next<R: Registry>(
         &self,
         registry: &'a R,
         question: &Search<'_>,
-        scope: &Key,
         from: usize,
     ) -> Option<(&'a Entry, usize)>
         requires { IsKept self.now }
-        ensures next { let rest = R.rest_at registry.now scope.now (Some question.now.query.now.kind) in
-            MatchOption result (shortlist_with self.now question.now scope.now (rest from) ≡ self.now.latest)
-            (λ p. shortlist_with self.now question.now scope.now (rest from) ≡ shortlist_with self.now question.now scope.now (p.0.now ∷ rest p.1)) }
-        ensures whole { IsListing (is_at_place scope.now (Some question.now.query.now.kind)) (R.contents registry.now) (R.rest_at registry.now scope.now (Some question.now.query.now.kind) 0) }
+        ensures next { let rest = R.rest_of_kind registry.now (Some question.now.query.now.kind) in
+            MatchOption result (shortlist_with self.now question.now (rest from) ≡ self.now.latest)
+            (λ p. shortlist_with self.now question.now (rest from) ≡ shortlist_with self.now question.now (p.0.now ∷ rest p.1)) }
+        ensures open { self.now.latest ≡ [] → MatchOption result (R.rest_of_kind registry.now (Some question.now.query.now.kind) from ≡ [])
+            (λ p. R.rest_of_kind registry.now (Some question.now.query.now.kind) from ≡ p.0.now ∷ R.rest_of_kind registry.now (Some question.now.query.now.kind) p.1) }
+        ensures whole { IsListing (is_kind (Some question.now.query.now.kind)) (R.contents registry.now) (R.rest_of_kind registry.now (Some question.now.query.now.kind) 0) }
         ensures onward { IfSome result (λ p. from < p.1) }
     {
         let kind = Some(&question.query.kind);
         match self.bound() {
-            Some(bound) => registry.by_place_within(scope, kind, bound, from),
-            None => registry.by_place(scope, kind, from),
+            Some(bound) => registry.by_kind_within(kind, bound, from),
+            None => registry.by_kind(kind, from),
         }
     }
 
-    // Finds the entries of a scope that are live now, of a type that is covered, and open to the asker there.
+    // Finds the entries that are live now, of a type that is covered, and open to the asker. Where nothing is found,
+    // it says what was seen, by its language.
     // A function of its own in the machine's code as well, so that its loop keeps its registers.
     #[inline(never)]
     fn collect<R: Registry>(
         &mut self,
         registry: &'a R,
         question: &Search<'_>,
-        scope: &Key,
-    ) -> Result<(), NoMemory>
+    ) -> Result<Spoken, NoMemory>
         requires { IsKept self.old }
         ensures room { self.new.room ≡ self.old.room }
         ensures kept { IfOk result (λ _. IsKept self.new) }
-        ensures found { IfOk result (λ _. self.new.latest ≡ cut_in self.old.room (deadlines_with (filter (is_found question.now.query.now question.now.viewer.rules.now question.now.viewer.moment question.now.viewer.asker scope.now) (R.rest_at registry.now scope.now (Some question.now.query.now.kind) 0)) self.old.latest)) }
-        ensures listing { IfOk result (λ _. IsListing (is_at_place scope.now (Some question.now.query.now.kind)) (R.contents registry.now) (R.rest_at registry.now scope.now (Some question.now.query.now.kind) 0)) }
+        ensures found { IfOk result (λ _. self.new.latest ≡ cut_in self.old.room (deadlines_with (filter (is_found question.now) (R.rest_of_kind registry.now (Some question.now.query.now.kind) 0)) self.old.latest)) }
+        ensures spoken { IfOk result (λ s. self.new.latest ≡ [] → s ≡ spoken_of question.now.query.now (filter (is_seen question.now.viewer) (R.rest_of_kind registry.now (Some question.now.query.now.kind) 0))) }
+        ensures listing { IfOk result (λ _. IsListing (is_kind (Some question.now.query.now.kind)) (R.contents registry.now) (R.rest_of_kind registry.now (Some question.now.query.now.kind) 0)) }
     {
+        let mut spoken = Spoken::Nothing;
         let mut from = 0;
-        while let Some((entry, next)) = self.next(registry, question, scope, from) {
-            self.look(entry, question, scope)?;
+        while let Some((entry, next)) = self.next(registry, question, from) {
+            spoken = self.look(entry, question, spoken)?;
             from = next;
         }
-        Ok(())
-    }
-
-    // Finds what is asked for in those of its scopes that the site supports. Whether there is one.
-    fn gather<R: Registry>(
-        &mut self,
-        registry: &'a R,
-        question: &Search<'_>,
-    ) -> Result<bool, NoMemory>
-        requires { IsKept self.old }
-        ensures room { self.new.room ≡ self.old.room }
-        ensures kept { IfOk result (λ _. IsKept self.new) }
-        ensures found { IfOk result (λ _. self.new.latest ≡ cut_in self.old.room (deadlines_with (found_entries (λ s. R.rest_at registry.now s (Some question.now.query.now.kind) 0) question.now.viewer.rules.now question.now.viewer.site.now question.now.viewer.moment question.now.viewer.asker question.now.query.now) self.old.latest)) }
-        ensures listings { IfOk result (λ _. (k : ℕ) (s : List ℕ) → slice_get question.now.query.now.scopes k ≡ Some s → IsTrue (supports question.now.viewer.site.now s)
-            → IsListing (is_at_place s (Some question.now.query.now.kind)) (R.contents registry.now) (R.rest_at registry.now s (Some question.now.query.now.kind) 0)) }
-        ensures supported { IfOk result (λ is. is ≡ list_any (supports question.now.viewer.site.now) question.now.query.now.scopes) }
-        ensures err { OnErr result (IsTrue (list_any (supports question.now.viewer.site.now) question.now.query.now.scopes)) }
-    {
-        let mut is_supported = false;
-        let scopes = &question.query.scopes;
-        for place in 0..scopes.len() {
-            if let Some(scope) = scopes.at(place)
-                && question.viewer.site.scopes().has(scope)
-            {
-                is_supported = true;
-                self.collect(registry, question, scope)?;
-            }
-        }
-        Ok(is_supported)
+        Ok(spoken)
     }
 
     /// Finds what answers a question, and keeps of it what there is room for.
@@ -276,25 +236,24 @@ impl<'a> Shortlist<'a> {
         room: Option<Room>,
     ) -> Result<Shortlist<'a>, QueryFault>
         requires { IsSmall room }
-        ensures scope { IsErrOf result QueryFault.Scope ↔ (list_any (supports question.now.viewer.site.now) question.now.query.now.scopes ≡ false) }
-        ensures language { IsErrOf result QueryFault.Language → IsTrue (is_some question.now.query.now.filter) × (spoken_of question.now.query.now (seen_entries (λ s. R.rest_at registry.now s (Some question.now.query.now.kind) 0) question.now.viewer.rules.now question.now.viewer.site.now question.now.viewer.moment question.now.viewer.asker question.now.query.now.scopes) ≡ spoken_is.Others) }
-        ensures spoken { IfOk result (λ _. IsTrue (is_some question.now.query.now.filter) → spoken_of question.now.query.now (seen_entries (λ s. R.rest_at registry.now s (Some question.now.query.now.kind) 0) question.now.viewer.rules.now question.now.viewer.site.now question.now.viewer.moment question.now.viewer.asker question.now.query.now.scopes) ≢ spoken_is.Others) }
+        ensures scope { IsErrOf result QueryFault.Scope → ⊥ }
+        ensures language { IsErrOf result QueryFault.Language → IsTrue (is_some question.now.query.now.filter) × (spoken_of question.now.query.now (filter (is_seen question.now.viewer) (R.rest_of_kind registry.now (Some question.now.query.now.kind) 0)) ≡ spoken_is.Others) }
+        ensures spoken { IfOk result (λ _. IsTrue (is_some question.now.query.now.filter) → spoken_of question.now.query.now (filter (is_seen question.now.viewer) (R.rest_of_kind registry.now (Some question.now.query.now.kind) 0)) ≢ spoken_is.Others) }
         ensures room { IfOk result (λ kept. kept.room ≡ room) }
         ensures kept { IfOk result (λ kept. IsKept kept) }
-        ensures found { IfOk result (λ kept. kept.latest ≡ cut_in room (deadlines_with (found_entries (λ s. R.rest_at registry.now s (Some question.now.query.now.kind) 0) question.now.viewer.rules.now question.now.viewer.site.now question.now.viewer.moment question.now.viewer.asker question.now.query.now) [])) }
-        ensures listings { MatchResult result (λ _. (k : ℕ) (s : List ℕ) → slice_get question.now.query.now.scopes k ≡ Some s → IsTrue (supports question.now.viewer.site.now s) → IsListing (is_at_place s (Some question.now.query.now.kind)) (R.contents registry.now) (R.rest_at registry.now s (Some question.now.query.now.kind) 0)) (λ e. e ≡ QueryFault.Language → (k : ℕ) (s : List ℕ) → slice_get question.now.query.now.scopes k ≡ Some s → IsTrue (supports question.now.viewer.site.now s) → IsListing (is_at_place s (Some question.now.query.now.kind)) (R.contents registry.now) (R.rest_at registry.now s (Some question.now.query.now.kind) 0)) }
+        ensures found { IfOk result (λ kept. kept.latest ≡ cut_in room (deadlines_with (filter (is_found question.now) (R.rest_of_kind registry.now (Some question.now.query.now.kind) 0)) [])) }
+        ensures listing { MatchResult result (λ _. IsListing (is_kind (Some question.now.query.now.kind)) (R.contents registry.now) (R.rest_of_kind registry.now (Some question.now.query.now.kind) 0))
+            (λ e. e ≡ QueryFault.Language → IsListing (is_kind (Some question.now.query.now.kind)) (R.contents registry.now) (R.rest_of_kind registry.now (Some question.now.query.now.kind) 0)) }
     {
         let mut kept = Shortlist {
             latest: Deadlines::new(alloc),
             used: 0,
             room,
         };
-        if !kept.gather(registry, question)? {
-            return Err(QueryFault::Scope);
-        }
+        let spoken = kept.collect(registry, question)?;
         if question.query.filter.is_some()
             && kept.latest.is_empty()
-            && matches!(question.spoken(registry), Spoken::Others)
+            && matches!(spoken, Spoken::Others)
         {
             return Err(QueryFault::Language);
         }

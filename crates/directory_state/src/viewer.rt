@@ -1,134 +1,109 @@
 //! What is open to who asks.
-ghost use Rattle.std.specs.Prelude.{◌≡◌, ◌++◌, ◌&&◌, ℕ, List, Some, map, filter, slice_get, IfOk, IsTrue};
-ghost use Rattle.std.specs.List.{list_any};
+ghost use Rattle.std.specs.Prelude.{◌≡◌, ◌+◌, ◌∷◌, [], drop, filter, get_or, is_some, IfOk, IfSome, MatchOption};
 ghost use Rattle.std.specs.Option.{option_copied};
-ghost use Rattle.registry_core.specs.Entries.{has_scope, is_at_place, is_of_url, IsListing};
-ghost use Rattle.directory_judge.specs.Judgements.{supports};
-ghost use Rattle.directory_state.specs.Searches.{entries_lent, is_seen, is_seen_in, seen_entries};
+ghost use Rattle.registry_core.specs.Entries.{is_kind, is_of_url, IsListing};
+ghost use Rattle.directory_state.specs.Searches.{entries_lent, is_open_in, is_seen, open_scopes};
 
+use crate::asked::Asked;
 use access_rules::{Action, Addr, Rules};
-use directory_judge::Site;
 use registry_core::{Entry, Registry};
 use service_url::{ServiceType, Url};
-use slp_text::{Key, NoMemory, ScopeList};
+use slp_text::{Key, NoMemory};
 use std::alloc::Global;
 
-/// Who asks at which moment, in seconds, and what decides on what is open there.
-#[derive(Clone, Copy)]
+/// Who asks, at which moment, in seconds, and in which scopes, and what decides on what is open there.
+#[derive(Drop)]
 pub struct Viewer<'q> {
     pub asker: Addr,
     pub moment: u64,
     pub rules: &'q Rules,
-    pub site: &'q Site,
+    pub asked: Asked<'q>,
+}
+
+/// What is seen of an entry: it is open in a scope at this place of those that are asked for, and in none before it. In which others
+/// it is open is asked where it is wanted (`Viewer::next_open`).
+#[derive(Clone, Copy)]
+pub struct Sight {
+    pub first: usize,
 }
 
 impl Viewer<'_> {
-    /// Whether an entry is live, and open to the asker in a scope.
-    pub fn sees(&self, entry: &Entry, scope: &Key) -> bool
-        ensures { result ≡ is_seen self.now.rules.now self.now.moment self.now.asker scope.now entry.now }
+    // Whether an entry stands in a scope in which the asker may see its type.
+    fn is_open_in(&self, entry: &Entry, scope: &Key) -> bool
+        ensures { result ≡ is_open_in self.now.rules.now self.now.asker entry.now scope.now }
     {
-        entry.deadline > self.moment
-            && self
-                .rules
+        let rules = self.rules;
+        entry.scopes.has(scope)
+            && rules
                 .decide(self.asker, Action::See, &entry.kind, scope)
                 .allow
     }
 
-    /// Whether the site supports one of these scopes.
-    pub fn supports(&self, scopes: &ScopeList) -> bool
-        ensures { result ≡ list_any (supports self.now.site.now) scopes.now }
+    /// The place from another one on, counted from 0, of the first scope in which an entry is open, of those that are asked for.
+    /// Takes no memory.
+    pub fn next_open(&self, entry: &Entry, from: usize) -> Option<usize>
+        ensures { let opened = filter (is_open_in self.now.rules.now self.now.asker entry.now) in
+            MatchOption result (opened (drop from self.now.asked) ≡ [])
+            (λ place. opened (drop from self.now.asked) ≡ get_or self.now.asked place [] ∷ opened (drop (place + 1) self.now.asked)) }
     {
-        for place in 0..scopes.len() {
-            if let Some(scope) = scopes.at(place)
-                && self.site.scopes().has(scope)
+        for place in from..self.asked.len() {
+            if let Some(scope) = self.asked.at(place)
+                && self.is_open_in(entry, scope)
             {
-                return true;
+                return Some(place);
             }
         }
-        false
+        None
     }
 
-    // Whether an entry is live, and open in a scope, in which it stands and which the site supports.
-    fn sees_there(&self, entry: &Entry, scope: &Key) -> bool
-        ensures { result ≡ (supports self.now.site.now scope.now && (has_scope scope.now entry.now && is_seen self.now.rules.now self.now.moment self.now.asker scope.now entry.now)) }
+    /// What is seen of an entry: it is live, and open to the asker in one of the scopes that are asked for. Each of these is asked
+    /// once, up to the first in which it is open. Takes no memory.
+    pub fn view(&self, entry: &Entry) -> Option<Sight>
+        ensures seen { is_some result ≡ is_seen self.now entry.now }
+        ensures scopes { IfSome result (λ s. open_scopes self.now entry.now ≡ get_or self.now.asked s.first [] ∷ filter (is_open_in self.now.rules.now self.now.asker entry.now) (drop (s.first + 1) self.now.asked)) }
     {
-        self.site.scopes().has(scope) && entry.scopes.has(scope) && self.sees(entry, scope)
-    }
-
-    // Whether it is in one of these scopes.
-    fn sees_in(&self, entry: &Entry, scopes: &ScopeList) -> bool
-        ensures { result ≡ is_seen_in self.now.rules.now self.now.site.now self.now.moment self.now.asker scopes.now entry.now }
-    {
-        for place in 0..scopes.len() {
-            if let Some(scope) = scopes.at(place)
-                && self.sees_there(entry, scope)
-            {
-                return true;
-            }
+        if entry.deadline <= self.moment {
+            return None;
         }
-        false
+        let first = self.next_open(entry, 0)?;
+        Some(Sight { first })
     }
 
-    // Adds what is open in a scope, of the types that one covers, or of all.
-    fn collect<'a, R: Registry>(
-        &self,
-        registry: &'a R,
-        kind: Option<&ServiceType>,
-        scope: &Key,
-        found: &mut Vec<&'a Entry>,
-    ) -> Result<(), NoMemory>
-        ensures found { IfOk result (λ _. entries_lent found.new.items ≡ entries_lent found.old.items ++ filter (is_seen self.now.rules.now self.now.moment self.now.asker scope.now) (R.rest_at registry.now scope.now (option_copied kind.entry) 0)) }
-        ensures listing { IfOk result (λ _. IsListing (is_at_place scope.now (option_copied kind.entry)) (R.contents registry.now) (R.rest_at registry.now scope.now (option_copied kind.entry) 0)) }
-    {
-        let mut from = 0;
-        while let Some((entry, next)) = registry.by_place(scope, kind, from) {
-            if self.sees(entry, scope) {
-                found.push(entry)?;
-            }
-            from = next;
-        }
-        Ok(())
-    }
-
-    /// What is open in those of the scopes that the site supports, scope by scope, of the types that one
-    /// covers, or of all.
+    /// What is open of the types that one covers, or of all.
     pub fn gather<'a, R: Registry>(
         &self,
         alloc: Global,
         registry: &'a R,
-        scopes: &ScopeList,
         kind: Option<&ServiceType>,
     ) -> Result<Vec<&'a Entry>, NoMemory>
-        ensures found { IfOk result (λ v. entries_lent v.items ≡ seen_entries (λ s. R.rest_at registry.now s (option_copied kind.entry) 0) self.now.rules.now self.now.site.now self.now.moment self.now.asker scopes.now) }
-        ensures listings { IfOk result (λ _. (k : ℕ) (s : List ℕ) → slice_get scopes.now k ≡ Some s → IsTrue (supports self.now.site.now s)
-            → IsListing (is_at_place s (option_copied kind.entry)) (R.contents registry.now) (R.rest_at registry.now s (option_copied kind.entry) 0)) }
+        ensures found { IfOk result (λ v. entries_lent v.items ≡ filter (is_seen self.now) (R.rest_of_kind registry.now (option_copied kind.entry) 0)) }
+        ensures listing { IfOk result (λ _. IsListing (is_kind (option_copied kind.entry)) (R.contents registry.now) (R.rest_of_kind registry.now (option_copied kind.entry) 0)) }
     {
         let mut found = Vec::new(alloc);
-        for place in 0..scopes.len() {
-            if let Some(scope) = scopes.at(place)
-                && self.site.scopes().has(scope)
-            {
-                self.collect(registry, kind, scope, &mut found)?;
+        let mut from = 0;
+        while let Some((entry, next)) = registry.by_kind(kind, from) {
+            if self.view(entry).is_some() {
+                found.push(entry)?;
             }
+            from = next;
         }
         Ok(found)
     }
 
-    /// What is open of a URL, in one of these scopes.
+    /// What is open of a URL.
     pub fn gather_url<'a, R: Registry>(
         &self,
         alloc: Global,
         registry: &'a R,
-        scopes: &ScopeList,
         url: &Url,
     ) -> Result<Vec<&'a Entry>, NoMemory>
-        ensures found { IfOk result (λ v. entries_lent v.items ≡ filter (is_seen_in self.now.rules.now self.now.site.now self.now.moment self.now.asker scopes.now) (R.rest_of_url registry.now url.now 0)) }
+        ensures found { IfOk result (λ v. entries_lent v.items ≡ filter (is_seen self.now) (R.rest_of_url registry.now url.now 0)) }
         ensures listing { IfOk result (λ _. IsListing (is_of_url url.now) (R.contents registry.now) (R.rest_of_url registry.now url.now 0)) }
     {
         let mut found = Vec::new(alloc);
         let mut from = 0;
         while let Some((entry, next)) = registry.by_url(url, from) {
-            if self.sees_in(entry, scopes) {
+            if self.view(entry).is_some() {
                 found.push(entry)?;
             }
             from = next;

@@ -1,6 +1,8 @@
-use Rattle.std.proofs.Common.{refl}
+use Rattle.std.proofs.Common.{max, refl}
 use Rattle.directory_program.proofs.Operations.{IsAgent-swept_world}
 use Rattle.directory_program.proofs.agent.Agent.tidy.Goals as goal
 
 pub returns : goal.returns
-returns c = λ w h. IsAgent-swept_world w c.args.self.now _ c.now-now.result h c.now-now.ensures c.apply.ensures.fold refl refl refl refl
+returns c =
+    let agent = c.args.self.now in
+    λ w h. IsAgent-swept_world w agent _ (max agent.moment agent.directory.clock) h refl c.sweep.ensures.fold refl refl refl refl
