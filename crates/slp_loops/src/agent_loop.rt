@@ -101,6 +101,58 @@ fn receive<N: Net>(net: &N, registry: &Registry, address: SocketAddr) -> io::Res
     Ok(socket)
 }
 
+// The streams of an address, with places for so many.
+fn streams_at<N: Net>(
+    net: &N,
+    alloc: Global,
+    registry: &Registry,
+    address: SocketAddr,
+    connections: usize,
+) -> Result<Streams, LoopFault>
+    ensures { IfOk result (λ s. s ≡ record { limit = connections; held = 0 }) }
+{
+    let listener = listen(net, registry, address)?;
+    Ok(Streams::new(alloc, listener, connections)?)
+}
+
+// The datagrams of an address.
+fn datagrams_at<N: Net>(
+    net: &N,
+    alloc: Global,
+    registry: &Registry,
+    address: SocketAddr,
+) -> Result<Datagrams, LoopFault> {
+    let socket = receive(net, registry, address)?;
+    Ok(Datagrams::new(alloc, socket)?)
+}
+
+// The datagrams and the streams of an address, with places for so many streams.
+fn sockets_at<N: Net>(
+    net: &N,
+    alloc: Global,
+    registry: &Registry,
+    address: SocketAddr,
+    connections: usize,
+) -> Result<(Datagrams, Streams), LoopFault>
+    ensures { IfOk result (λ p. p.1 ≡ record { limit = connections; held = 0 }) }
+{
+    let streams = streams_at(net, alloc, registry, address, connections)?;
+    let address = streams.address()?;
+    match datagrams_at(net, alloc, registry, address) {
+        Ok(datagrams) => Ok((datagrams, streams)),
+        Err(fault) => {
+            drop(streams);
+            Err(fault)
+        }
+    }
+}
+
+// What waits for sockets, and what tells of those that are ready.
+fn poll_with<N: Net>(net: &N, alloc: Global) -> Result<(Poll, Events), LoopFault> {
+    let events = Events::with_capacity(alloc, EVENTS)?;
+    Ok((Poll::new(net)?, events))
+}
+
 // The parts of a loop at an address, with places for so many streams.
 fn parts_at<N: Net>(
     net: &N,
@@ -110,16 +162,20 @@ fn parts_at<N: Net>(
 ) -> Result<Parts, LoopFault>
     ensures { IfOk result (λ p. p.streams ≡ record { limit = connections; held = 0 }) }
 {
-    let poll = Poll::new(net)?;
-    let listener = listen(net, poll.registry(), address)?;
-    let streams = Streams::new(alloc, listener, connections)?;
-    let socket = receive(net, poll.registry(), streams.address()?)?;
-    Ok(Parts {
-        poll,
-        datagrams: Datagrams::new(alloc, socket)?,
-        events: Events::with_capacity(alloc, EVENTS)?,
-        streams,
-    })
+    let (poll, events) = poll_with(net, alloc)?;
+    match sockets_at(net, alloc, poll.registry(), address, connections) {
+        Ok((datagrams, streams)) => Ok(Parts {
+            poll,
+            events,
+            datagrams,
+            streams,
+        }),
+        Err(fault) => {
+            drop(poll);
+            drop(events);
+            Err(fault)
+        }
+    }
 }
 
 // The address and the port at a place of a configuration.

@@ -1,5 +1,5 @@
 ghost use Rattle.std.specs.Prelude.{◌≡◌, ◌≤◌, [], ◌++◌, None, Some, Ok, length, drop, IfSome, IfNone, MatchResult};
-ghost use Rattle.slp_loops.specs.Linking.{Link, unread, unwritten, ending_next, next_written};
+ghost use Rattle.slp_loops.specs.Linking.{Link, unread, unwritten, ending_next, next_read, next_written};
 ghost use Rattle.slp_loops.specs.Reading.{Reads, Took, Lacked};
 ghost use Rattle.slp_loops.specs.Writing.{Wrote, Writes};
 ghost use Rattle.slp_loops.specs.declared.connection.Stage.TheVariants.{Reading as Begun};
@@ -110,6 +110,17 @@ impl Connection {
         }
     }
 
+    // What is answered after bytes were read.
+    fn after_read(&self) -> Next
+        ensures { result ≡ next_read self.now.stage self.now.waiting }
+    {
+        match self.stage {
+            Stage::Reading => Next::More,
+            Stage::Ending => self.ending(),
+            Stage::Failed => Next::Closed,
+        }
+    }
+
     // What is answered with no write.
     fn unwritten(&self) -> Option<Next>
         ensures { result ≡ unwritten self.now }
@@ -154,10 +165,9 @@ impl Connection {
             &mut self.output,
         );
         match served {
-            Ok(Stage::Reading) => Ok(Next::More),
             Ok(stage) => {
                 self.stage = stage;
-                Ok(self.ending())
+                Ok(self.after_read())
             }
             Err(_) => {
                 self.stage = Stage::Failed;
