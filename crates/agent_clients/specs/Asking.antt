@@ -24,8 +24,8 @@ pub record Stepped : Type 0 where
   pub stage : Stage
 
 -- a request with more bytes is asked on a stream
-abbrev pub longest_datagram : ℕ
-longest_datagram = 1400
+abbrev pub longest_sent : ℕ
+longest_sent = 1400
 
 -- after so many seconds without a reply it gives up
 abbrev pub patience : ℕ
@@ -102,10 +102,10 @@ stepped a now event = stepped_from a.request now a.stage event
 
 -- the first step: the request is sent, unless it is too long for a datagram
 abbrev pub started : ℕ → List ℕ → Stage
-started now request = if nat_lt longest_datagram (length request) then ByStream now else ByDatagram now now
+started now request = if nat_lt longest_sent (length request) then ByStream now else ByDatagram now now
 
 abbrev pub first_step : List ℕ → Step
-first_step request = if nat_lt longest_datagram (length request) then OpenStream else Send
+first_step request = if nat_lt longest_sent (length request) then OpenStream else Send
 
 -- what was found
 abbrev pub items_of : Stage → Option Items

@@ -13,7 +13,7 @@ use std::marker::Model;
 use std::mem;
 
 /// A request with more bytes is asked on a stream.
-const LONGEST_DATAGRAM: usize = 1_400;
+const LONGEST_SENT: usize = 1_400;
 
 /// When the request is sent again, in seconds after the start.
 const AGAIN: [u64; 3] = [2, 6, 14];
@@ -123,7 +123,7 @@ impl UserAgent {
         ensures step { result ≡ first_step self.old.request }
         ensures state { self.new ≡ record self.old { stage = started now self.old.request } }
     {
-        if self.request.len() > LONGEST_DATAGRAM {
+        if self.request.len() > LONGEST_SENT {
             self.enter(Stage::ByStream { since: now });
             return Step::OpenStream;
         }
