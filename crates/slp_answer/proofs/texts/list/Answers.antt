@@ -1,4 +1,4 @@
-use Rattle.std.proofs.Common.{◌≡◌, ℕ, ◌+◌, ◌++◌, ◌<◌, ◌≤◌, List, [], length, get_or, true, false, sym, ap, subst, ◌∙◌, arith, append_assoc, refl, rules}
+use Rattle.std.proofs.Common.{◌≡◌, ℕ, ◌+◌, ◌++◌, ◌<◌, List, [], length, get_or, true, false, sym, ap, subst, ◌∙◌, arith, append_assoc, refl, rules}
 use Rattle.std.specs.Prelude.{string_bytes, IfSome}
 use Rattle.std.proofs.lemmas.List.{length-append}
 use Rattle.std.proofs.lemmas.Option.{slice_get-get_or}
