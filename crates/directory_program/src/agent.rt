@@ -18,7 +18,7 @@ ghost use Rattle.srv_template.specs.declared.fault.ParseFault.TheVariants as tem
 
 use crate::opening;
 use access_rules::{Addr, RuleFault, Rules};
-use directory_judge::{Change, Site};
+use directory_judge::Site;
 use directory_state::Directory;
 use registry_core::{ListRegistry, RegistryFault};
 use site_config::{Config, ConfigFault};
@@ -140,7 +140,7 @@ fn begin(alloc: Global, site: &Site) -> Result<Directory<ListRegistry>, NoMemory
 impl Agent {
     ghost use Rattle.directory_program.specs.Opening.{opening_agent};
     ghost use Rattle.directory_program.specs.Sessions.{IsAgent, Takes, AddsTo, ConfiguresTo, MovesTo, ReloadsTo};
-    ghost use Rattle.directory_program.specs.Worlds.{World, own_at, reloaded_world, swept_world, templates_with};
+    ghost use Rattle.directory_program.specs.Worlds.{World, configured_world, own_at, reloaded_world, swept_world, templates_with};
 
     /// The setup with which a run begins: the scope `DEFAULT`, room for 16 entries, and rules that
     /// allow everything to everyone.
@@ -155,6 +155,22 @@ impl Agent {
             moment: 0,
             asker: FIRST_ASKER,
         })
+    }
+
+    // Begins anew on the site of a configuration, with the templates that there are.
+    fn begin_on(&mut self, alloc: Global, config: Config) -> Result<(), NoMemory>
+        requires { IsWithin config }
+        ensures { (w : World) → IsAgent w self.old → IfOk result (λ _. IsAgent (configured_world config w) self.new) }
+    {
+        let templates = self.directory.site().templates().share(alloc)?;
+        let templates = Arc::new(alloc, templates)?;
+        let (site, listen) = site_of(config, templates);
+        let directory = begin(alloc, &site);
+        drop(site);
+        self.directory = directory?;
+        self.listen = listen;
+        self.loop_index = 0;
+        Ok(())
     }
 
     /// Begins anew on the site of a configuration, without entries and at clock 0. The rules are the
@@ -172,11 +188,7 @@ impl Agent {
         };
         match Config::from_text(alloc, text) {
             Ok(config) => {
-                let templates = self.directory.site().templates().share(alloc)?;
-                let (site, listen) = site_of(config, Arc::new(alloc, templates)?);
-                self.directory = begin(alloc, &site)?;
-                self.listen = listen;
-                self.loop_index = 0;
+                self.begin_on(alloc, config)?;
                 Ok(Ok(()))
             }
             Err(ConfigFault::NoMemory) => Err(NoMemory),
@@ -232,16 +244,14 @@ impl Agent {
     pub fn tidy(&mut self)
         ensures { (w : World) → IsAgent w self.old → IsAgent (swept_world w) self.new }
     {
-        let now = self.directory.now(self.moment);
-        self.directory.apply(Change::Sweep(now));
+        self.directory.sweep(self.moment);
     }
 
     // From the moment that was set on, or from the clock on where that is greater, these rules decide.
     fn rule_by(&mut self, rules: Arc<Rules>)
         ensures { (w : World) → IsAgent w self.old → IsAgent (reloaded_world (arc_value rules) w) self.new }
     {
-        let now = self.directory.now(self.moment);
-        self.directory.apply(Change::Reload(now, rules));
+        self.directory.reload(self.moment, rules);
     }
 
     /// The rules of a rule file decide from now on; it answers how many there are. A refused text
