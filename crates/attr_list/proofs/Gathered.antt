@@ -6,7 +6,7 @@ use Rattle.std.specs.List.{AllByRecursion, list_any}
 use Rattle.std.specs.Cmp.{signed_Decides}
 use Rattle.std.specs.Ordering.{is_eq}
 use Rattle.std.specs.declared.cmp.Ordering.TheVariants.{Less, Equal, Greater}
-use Rattle.std.proofs.lemmas.Cmp.{int_eq_equiv, nat_list_eq_equiv, nat_list_cmp_total}
+use Rattle.std.proofs.lemmas.Cmp.{nat_list_eq_equiv, nat_list_cmp_total}
 use Rattle.std.proofs.lemmas.Map.Lookups.{exact_bytes}
 use Rattle.std.proofs.lemmas.Map.Text.{is_eq-slice_cmp}
 use Rattle.slp_text.specs.Keys.{key_of}
@@ -21,25 +21,6 @@ use Rattle.attr_list.specs.Texts.{AreAttributes, IsAttribute, IsHeld}
 use Rattle.attr_list.specs.declared.held.Held.{Held}
 
 -- ---- values that are the same
-
--- a value is the same as itself
-pub same-refl : (v : Value) → is_same v v ≡ true
-same-refl (value.Bool true) = refl
-same-refl (value.Bool false) = refl
-same-refl (value.Int n) = int_eq_equiv.refl n
-same-refl (value.Opaque bytes) = nat_list_eq_equiv.refl bytes
-same-refl (value.Text t) = nat_list_eq_equiv.refl (key_of t)
-
--- the order of two values does not matter
-pub same-symm : (v w : Value) → is_same v w ≡ is_same w v
-same-symm (value.Bool true) (value.Bool true) = refl
-same-symm (value.Bool true) (value.Bool false) = refl
-same-symm (value.Bool false) (value.Bool true) = refl
-same-symm (value.Bool false) (value.Bool false) = refl
-same-symm (value.Int a) (value.Int b) = int_eq_equiv.symm a b
-same-symm (value.Opaque a) (value.Opaque b) = nat_list_eq_equiv.symm a b
-same-symm (value.Text a) (value.Text b) = nat_list_eq_equiv.symm (key_of a) (key_of b)
-same-symm _ _ = refl
 
 -- two booleans that are the same are equal
 same_bools : (a b : Bool) → ((a && b) || not (a || b)) ≡ true → a ≡ b
@@ -145,11 +126,6 @@ distinct-distinct (v ∷ vs) =
 pub distinct-all : (P : Value → Type 0) (vs : List Value) → AllByRecursion P vs → AllByRecursion P (distinct_values vs)
 distinct-all P [] each = tt
 distinct-all P (v ∷ vs) each = (each.0, all_filtered P (is_other v) (distinct_values vs) (distinct-all P vs each.1))
-
--- some values have some distinct ones
-pub distinct-some : (vs : List Value) → vs ≢ [] → distinct_values vs ≢ []
-distinct-some [] some = some
-distinct-some (v ∷ vs) some = λ e. cc
 
 -- ---- what each tag holds
 

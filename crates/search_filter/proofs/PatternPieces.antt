@@ -36,13 +36,6 @@ rest_pieces (Some more) = slice_split is_star more
 abbrev pub ArePiecesSoFar : Result (List (List ℕ)) FilterFault → List (String Global) → Option (List ℕ) → Type 0
 ArePiecesSoFar all done rest = all ≡ read_map (λ ps. read_pieces done ++ ps) (read_all characters_in (rest_pieces rest))
 
-none_done : (r : Result (List (List ℕ)) FilterFault) → r ≡ read_map (λ xs. [] ++ xs) r
-none_done (Ok xs) = refl
-none_done (Err e) = refl
-
-pub pieces-begin : (all : List ℕ) (done : List (String Global)) → done ≡ [] → ArePiecesSoFar (read_all characters_in (slice_split is_star all)) done (Some all)
-pieces-begin all done none = subst (λ ps. ArePiecesSoFar (read_all characters_in (slice_split is_star all)) ps (Some all)) (sym none) (none_done (read_all characters_in (slice_split is_star all)))
-
 more_done : (done : List (List ℕ)) (x : List ℕ) (r : Result (List (List ℕ)) FilterFault) → read_map (λ xs. done ++ xs) (read_map (λ xs. x ∷ xs) r) ≡ read_map (λ xs. (done ++ x ∷ []) ++ xs) r
 more_done done x (Ok xs) = ap Ok (sym (append_assoc done (x ∷ []) xs))
 more_done done x (Err e) = refl
@@ -79,11 +72,3 @@ piece-added all done new o rest cs t s h is before after ok more =
 -- less is left after a piece
 pub pieces-less : (o rest : Option (List ℕ)) (cs : List ℕ) → o ≡ Some cs → rest ≡ part_after asterisk cs → left rest < left o
 pieces-less o rest cs is after = left-less o rest cs is (subst (λ p. IsShorter p cs) (sym after) (after-shorter asterisk cs))
-
--- all are read where nothing is left
-pub pieces-end : (all : Result (List (List ℕ)) FilterFault) (done : List (String Global)) (o : Option (List ℕ)) → ArePiecesSoFar all done o → o ≡ None → all ≡ Ok (read_pieces done)
-pieces-end all done o h none = h ∙ ap (λ p. read_map (λ ps. read_pieces done ++ ps) (read_all characters_in (rest_pieces p))) none ∙ ap Ok (all_there (read_pieces done))
-  where
-    all_there : (xs : List (List ℕ)) → xs ++ [] ≡ xs
-    all_there [] = refl
-    all_there (x ∷ xs) = ap (λ ys. x ∷ ys) (all_there xs)

@@ -17,10 +17,6 @@ use Rattle.search_filter.proofs.ReadItems.{item-read}
 
 -- ---- past white space
 
--- white space is no parenthesis
-white-no_left : (c : ℕ) → is_white c ≡ true → (c == left_parenthesis) ≡ false
-white-no_left c h = grind (arith, nat_tests)
-
 -- white space between filters is passed over
 past_between : (frames : List Frame) (ws rest : List ℕ) → AreBlank ws → read_from (Between frames) (ws ++ rest) ≡ read_from (Between frames) rest
 past_between frames [] rest h = refl
