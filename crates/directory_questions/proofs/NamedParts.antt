@@ -9,7 +9,7 @@ use Rattle.slp_text.specs.Ascii.{comma}
 use Rattle.slp_text.specs.Keys.{trimmed_text}
 use Rattle.slp_text.specs.Scopes.{is_comma}
 use Rattle.slp_text.specs.Words.{bytes_eq, Lacks}
-use Rattle.directory_answers.specs.Questions.{names}
+use Rattle.directory_questions.specs.Questions.{names}
 
 no_comma : (x : ℕ) → (x ≡ comma → ⊥) → is_comma x ≡ false
 no_comma x other = grind (arith, nat_tests)

@@ -9,8 +9,8 @@ use Rattle.slp_wire.specs.Spelling.{Spells}
 use Rattle.slp_fields.specs.declared.fault.WireFault.{WireFault}
 use Rattle.slp_fields.specs.declared.fault.WireFault.TheVariants.{NoHeader}
 use Rattle.slp_messages.specs.declared.message.Message.{Message}
-use Rattle.directory_answers.specs.Answers.{is_change_of}
-use Rattle.directory_answers.specs.Readings.{may_change, IsRead}
+use Rattle.directory_questions.specs.Answers.{is_change_of}
+use Rattle.directory_questions.specs.Readings.{may_change, IsRead}
 
 second_of_front : (n : ℕ) (bytes rest : List ℕ) (a b : ℕ) → take n bytes ≡ a ∷ b ∷ rest → slice_index bytes 1 ≡ b
 second_of_front zero bytes rest a b h = cc

@@ -21,18 +21,18 @@ use Rattle.directory_judge.specs.Judgements.{Judgement, by_step, code_by, suppor
 use Rattle.directory_judge.specs.declared.reason.Because.{Because}
 use Rattle.directory_judge.specs.Sites.{Site}
 use Rattle.directory_judge.specs.declared.reason.Decider.TheVariants as decider
-use Rattle.directory_answers.specs.Items.{Answers, AreItems, AreJoined, AreTypes, attribute_texts, IsAskedAbout, IsDescribed, IsElsewhere, IsForeign, IsNamed, IsOpenNow, kind_asked}
-use Rattle.directory_answers.specs.Calls.{Opening, Call}
-use Rattle.directory_answers.specs.Cuts.{attributes_with, IsCut, reply_header, services_with, types_with}
-use Rattle.directory_answers.specs.Outcomes.{Outcome, silence, outcome, sent_of, code_outcome, code_outcome_as, denial_outcome, fault_outcome, acknowledgement_of}
-use Rattle.directory_answers.specs.Questions.{attribute_question, service_question, type_question, unless_answered}
-use Rattle.directory_answers.specs.Verdicts.{IsVerdict, change_in}
-use Rattle.directory_answers.specs.declared.query.AttrQuery.{AttrQuery}
-use Rattle.directory_answers.specs.declared.query.ServiceQuery.{ServiceQuery}
-use Rattle.directory_answers.specs.declared.query.TypeQuery.{TypeQuery}
-use Rattle.directory_answers.specs.declared.question.Question.{Question}
-use Rattle.directory_answers.specs.declared.question.Question.TheVariants.{Silent, Unreadable, Agents}
-use Rattle.directory_answers.specs.declared.question.Question.TheVariants as question
+use Rattle.directory_questions.specs.Items.{Answers, AreItems, AreJoined, AreTypes, attribute_texts, IsAskedAbout, IsDescribed, IsElsewhere, IsForeign, IsNamed, IsOpenNow, kind_asked}
+use Rattle.directory_questions.specs.Calls.{Opening, Call}
+use Rattle.directory_questions.specs.Cuts.{attributes_with, IsCut, reply_header, services_with, types_with}
+use Rattle.directory_questions.specs.Outcomes.{Outcome, silence, outcome, sent_of, code_outcome, code_outcome_as, denial_outcome, fault_outcome, acknowledgement_of}
+use Rattle.directory_questions.specs.Questions.{attribute_question, service_question, type_question, unless_answered}
+use Rattle.directory_questions.specs.Verdicts.{IsVerdict, change_in}
+use Rattle.directory_questions.specs.declared.query.AttrQuery.{AttrQuery}
+use Rattle.directory_questions.specs.declared.query.ServiceQuery.{ServiceQuery}
+use Rattle.directory_questions.specs.declared.query.TypeQuery.{TypeQuery}
+use Rattle.directory_questions.specs.declared.question.Question.{Question}
+use Rattle.directory_questions.specs.declared.question.Question.TheVariants.{Silent, Unreadable, Agents}
+use Rattle.directory_questions.specs.declared.question.Question.TheVariants as question
 
 -- ---- which bytes ask for a change
 

@@ -2,7 +2,7 @@
 use Rattle.std.specs.Prelude.{ℕ, ◌<◌, get_or, List}
 use Rattle.access_rules.specs.Deciding.{SiteRules}
 use Rattle.directory_judge.specs.Sites.{Site}
-use Rattle.directory_answers.specs.declared.call.Call as code
+use Rattle.directory_questions.specs.declared.call.Call as code
 
 -- the rules and the site that it begins with
 pub record Opening : Type 0 where

@@ -15,14 +15,14 @@ use Rattle.slp_messages.specs.declared.message.UrlEntry.{UrlEntry}
 use Rattle.directory_judge.specs.History.{History, now}
 use Rattle.directory_judge.specs.Meaning.{Live, rules}
 use Rattle.directory_judge.specs.Sites.{Site}
-use Rattle.directory_answers.specs.Calls.{Opening}
-use Rattle.directory_answers.specs.declared.query.AttrQuery.{AttrQuery}
-use Rattle.directory_answers.specs.declared.query.Authority.{Authority}
-use Rattle.directory_answers.specs.declared.query.Authority.TheVariants as authority
-use Rattle.directory_answers.specs.declared.query.ServiceQuery.{ServiceQuery}
-use Rattle.directory_answers.specs.declared.query.Target.{Target}
-use Rattle.directory_answers.specs.declared.query.Target.TheVariants.{Kind, Place}
-use Rattle.directory_answers.specs.declared.query.TypeQuery.{TypeQuery}
+use Rattle.directory_questions.specs.Calls.{Opening}
+use Rattle.directory_questions.specs.declared.query.AttrQuery.{AttrQuery}
+use Rattle.directory_questions.specs.declared.query.Authority.{Authority}
+use Rattle.directory_questions.specs.declared.query.Authority.TheVariants as authority
+use Rattle.directory_questions.specs.declared.query.ServiceQuery.{ServiceQuery}
+use Rattle.directory_questions.specs.declared.query.Target.{Target}
+use Rattle.directory_questions.specs.declared.query.Target.TheVariants.{Kind, Place}
+use Rattle.directory_questions.specs.declared.query.TypeQuery.{TypeQuery}
 
 -- some scope of the entry, of the request and of the site is one in which the asker may see its type
 pub record Open (rs : SiteRules) (site : Site) (asker : ℕ) (asked : List (List ℕ)) (e : Entry) : Type 0 where

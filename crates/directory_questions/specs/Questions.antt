@@ -19,12 +19,12 @@ use Rattle.service_url.specs.Types.{named_authority, type_of}
 use Rattle.service_url.specs.Urls.{url_of}
 use Rattle.access_rules.specs.Addresses.{address_text}
 use Rattle.directory_judge.specs.Judgements.{is_agent}
-use Rattle.directory_answers.specs.declared.query.Authority.{Authority}
-use Rattle.directory_answers.specs.declared.query.Authority.TheVariants as authority
-use Rattle.directory_answers.specs.declared.query.Target.{Target}
-use Rattle.directory_answers.specs.declared.query.Target.TheVariants.{Kind, Place}
-use Rattle.directory_answers.specs.declared.question.Question.{Question}
-use Rattle.directory_answers.specs.declared.question.Question.TheVariants.{Silent, Unreadable, Services, Attributes, Types, Agents}
+use Rattle.directory_questions.specs.declared.query.Authority.{Authority}
+use Rattle.directory_questions.specs.declared.query.Authority.TheVariants as authority
+use Rattle.directory_questions.specs.declared.query.Target.{Target}
+use Rattle.directory_questions.specs.declared.query.Target.TheVariants.{Kind, Place}
+use Rattle.directory_questions.specs.declared.question.Question.{Question}
+use Rattle.directory_questions.specs.declared.question.Question.TheVariants.{Silent, Unreadable, Services, Attributes, Types, Agents}
 
 -- ---- who answered already
 

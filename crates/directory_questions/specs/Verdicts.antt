@@ -7,7 +7,7 @@ use Rattle.directory_judge.specs.History.{History, Event, Put, Set, Remove, With
 use Rattle.directory_judge.specs.Judgements.{Grounds, Judgement, Accepts, Ignores, Waits, Denies, judgement}
 use Rattle.directory_judge.specs.Meaning.{AreLive, rules}
 use Rattle.directory_judge.specs.declared.reason.Because.{Because}
-use Rattle.directory_answers.specs.Calls.{Opening}
+use Rattle.directory_questions.specs.Calls.{Opening}
 
 -- what a message is judged on at a history, where these are the live entries
 abbrev pub grounds : Opening → History → Entries → ℕ → ℕ → Grounds

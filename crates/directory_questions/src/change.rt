@@ -1,6 +1,6 @@
 ghost use Rattle.std.specs.Prelude.{◌≡◌};
-ghost use Rattle.directory_answers.specs.Answers as spec;
-ghost use Rattle.directory_answers.specs.Answers.{is_change_of};
+ghost use Rattle.directory_questions.specs.Answers as spec;
+ghost use Rattle.directory_questions.specs.Answers.{is_change_of};
 
 use slp_wire::{function, read_header};
 

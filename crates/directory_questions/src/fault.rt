@@ -1,5 +1,5 @@
 ghost use Rattle.std.specs.Prelude.{◌≡◌};
-ghost use Rattle.directory_answers.specs.Outcomes.{decider_of_fault};
+ghost use Rattle.directory_questions.specs.Outcomes.{decider_of_fault};
 
 use directory_judge::Decider;
 use slp_wire::WireFault;

@@ -15,4 +15,4 @@ pub use change::{is_change, is_change_function};
 pub use fault::decider_of;
 pub use query::{AgentQuery, AttrQuery, Authority, QueryFault, ServiceQuery, Target, TypeQuery};
 pub use question::{Question, asked};
-pub use reading::{asked_change, understood};
+pub use reading::asked_change;

@@ -1,7 +1,7 @@
 ghost use Rattle.std.specs.Prelude.{◌≡◌};
 ghost use Rattle.std.specs.Option.{option_copied};
-ghost use Rattle.directory_answers.specs.Items.{is_target, is_under, is_wanted, kind_asked};
-ghost use Rattle.directory_answers.specs.declared.query.QueryFault.TheVariants as fault;
+ghost use Rattle.directory_questions.specs.Items.{is_under, is_wanted, kind_asked};
+ghost use Rattle.directory_questions.specs.declared.query.QueryFault.TheVariants as fault;
 
 use registry_core::Entry;
 use search_filter::Filter;
@@ -47,16 +47,6 @@ impl Target {
         match self {
             Target::Kind(kind) => Some(kind),
             Target::Place(_) => None,
-        }
-    }
-
-    /// Whether it is about an entry. Takes no memory.
-    pub fn is_about(&self, entry: &Entry) -> bool
-        ensures { result ≡ is_target self.now entry.now }
-    {
-        match self {
-            Target::Kind(kind) => kind.covers(&entry.kind),
-            Target::Place(url) => entry.url == *url,
         }
     }
 }

@@ -5,8 +5,8 @@ ghost use Rattle.slp_headers.specs.Headers.{heading_in, heading_of};
 ghost use Rattle.slp_messages.specs.Views.{attribute_request_in, authority_in, request_in, type_request_in};
 ghost use Rattle.slp_wire.specs.Reading.{kept_header};
 ghost use Rattle.slp_text.specs.Scopes.{scopes_of};
-ghost use Rattle.directory_answers.specs.Questions.{agents_in, attribute_question, authority_asked, service_question, target_of, type_question};
-ghost use Rattle.directory_answers.specs.Readings.{IsAsked, IsUnread};
+ghost use Rattle.directory_questions.specs.Questions.{agents_in, attribute_question, authority_asked, service_question, target_of, type_question};
+ghost use Rattle.directory_questions.specs.Readings.{IsAsked, IsUnread};
 
 use crate::query::{AgentQuery, AttrQuery, Authority, ServiceQuery, Target, TypeQuery};
 use crate::responders;

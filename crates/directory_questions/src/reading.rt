@@ -1,23 +1,11 @@
 ghost use Rattle.std.specs.Prelude.{◌≡◌, true, IfOk, MatchResult, Some};
 ghost use Rattle.slp_headers.specs.Headers.{heading_in, heading_of};
 ghost use Rattle.slp_messages.specs.Views.{message_in};
-ghost use Rattle.directory_answers.specs.Answers.{is_change_of};
-ghost use Rattle.directory_answers.specs.Readings.{IsRead, IsUnread};
+ghost use Rattle.directory_questions.specs.Answers.{is_change_of};
+ghost use Rattle.directory_questions.specs.Readings.{IsRead, IsUnread};
 
 use slp_text::NoMemory;
-use slp_wire::{ChangeView, HeaderView, Message, WireFault, decode, read_change};
-use std::alloc::Global;
-
-/// What bytes are: a message that is read, or the fault for which they are none.
-pub fn understood(alloc: Global, bytes: &[u8]) -> Result<Result<Message, WireFault>, NoMemory>
-    ensures { IfOk result (λ read. MatchResult read (IsRead bytes.now) (IsUnread bytes.now)) }
-{
-    match decode(alloc, bytes) {
-        Ok(message) => Ok(Ok(message)),
-        Err(WireFault::NoMemory) => Err(NoMemory),
-        Err(fault) => Ok(Err(fault)),
-    }
-}
+use slp_wire::{ChangeView, HeaderView, WireFault, read_change};
 
 /// The change that bytes ask for, as the message that they are, lent, or the fault for which they are
 /// none. The header was read from them.

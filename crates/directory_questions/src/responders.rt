@@ -1,7 +1,7 @@
 //! Who has answered a question already (RFC 2608, section 6.3).
 ghost use Rattle.std.specs.Prelude.{◌≡◌, IfOk};
 ghost use Rattle.slp_text.specs.Keys.{is_white, trim_start, trimmed_text};
-ghost use Rattle.directory_answers.specs.Questions as spec;
+ghost use Rattle.directory_questions.specs.Questions as spec;
 
 use access_rules::Addr;
 use slp_text::{NoMemory, cut};

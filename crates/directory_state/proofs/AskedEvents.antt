@@ -6,10 +6,10 @@ use Rattle.directory_judge.specs.History.{Event, History, now}
 use Rattle.directory_judge.specs.Judgements.{Grounds, judgement}
 use Rattle.directory_judge.specs.Meaning.{rules}
 use Rattle.directory_judge.specs.Sites.{Site}
-use Rattle.directory_answers.specs.Answers.{IsAnswer, IsAnswerTo, Sense, Settled, Lists, Describes, Names, Changes, sense_of}
-use Rattle.directory_answers.specs.Calls.{Opening, Call}
-use Rattle.directory_answers.specs.Outcomes.{Outcome}
-use Rattle.directory_answers.specs.Verdicts.{change_in, grounds}
+use Rattle.directory_questions.specs.Answers.{IsAnswer, IsAnswerTo, Sense, Settled, Lists, Describes, Names, Changes, sense_of}
+use Rattle.directory_questions.specs.Calls.{Opening, Call}
+use Rattle.directory_questions.specs.Outcomes.{Outcome}
+use Rattle.directory_questions.specs.Verdicts.{change_in, grounds}
 use Rattle.directory_state.specs.Events.{call_anywhere, event_asked, event_of_sense, grounds_in}
 use Rattle.directory_state.specs.Folds.{Fold}
 use Rattle.directory_state.specs.State.{State}

@@ -15,8 +15,8 @@ use Rattle.registry_core.specs.declared.entry.Entry.{Entry}
 use Rattle.registry_core.specs.Entries.{Entries, pair_of, is_of, outlives, has_scope, IsDistinct, IsListing}
 use Rattle.registry_core.proofs.Lists.{pair_eq-true, pair_eq-same}
 use Rattle.slp_text.specs.Words.{bytes_eq}
-use Rattle.directory_answers.specs.Calls.{Opening}
-use Rattle.directory_answers.specs.Items.{IsOpenNow, Matches}
+use Rattle.directory_questions.specs.Calls.{Opening}
+use Rattle.directory_questions.specs.Items.{IsOpenNow, Matches}
 use Rattle.directory_judge.specs.History.{History, now}
 use Rattle.directory_judge.specs.Judgements.{supports}
 use Rattle.directory_judge.specs.Meaning.{rules}

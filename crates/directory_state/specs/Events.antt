@@ -3,9 +3,9 @@ use Rattle.std.specs.Prelude.{ℕ, max, List, Option, None}
 use Rattle.registry_core.specs.Entries.{outlives, passing_entries}
 use Rattle.directory_judge.specs.History.{Event}
 use Rattle.directory_judge.specs.Judgements.{Grounds, judgement}
-use Rattle.directory_answers.specs.Answers.{Sense, Settled, Lists, Describes, Names, Changes, sense_of}
-use Rattle.directory_answers.specs.Calls.{Call}
-use Rattle.directory_answers.specs.Verdicts.{change_in}
+use Rattle.directory_questions.specs.Answers.{Sense, Settled, Lists, Describes, Names, Changes, sense_of}
+use Rattle.directory_questions.specs.Calls.{Call}
+use Rattle.directory_questions.specs.Verdicts.{change_in}
 use Rattle.directory_state.specs.State.{State}
 
 -- what a message is judged on in a state

@@ -5,8 +5,8 @@ use Rattle.access_rules.specs.declared.rule.Action.TheVariants.{See}
 use Rattle.registry_core.specs.Entries.{has_scope, outlives, pair_of}
 use Rattle.registry_core.specs.declared.entry.Entry.{Entry}
 use Rattle.slp_messages.specs.declared.message.UrlEntry.{UrlEntry}
-use Rattle.directory_answers.specs.Items.{is_wanted}
-use Rattle.directory_answers.specs.declared.query.ServiceQuery.{ServiceQuery}
+use Rattle.directory_questions.specs.Items.{is_wanted}
+use Rattle.directory_questions.specs.declared.query.ServiceQuery.{ServiceQuery}
 use Rattle.directory_state.specs.Deadlines.{UrlDeadline, with_deadline, total_cost, urls_of}
 use Rattle.std.specs.List.{AllByRecursion, list_any}
 use Rattle.std.specs.Borrow.{Bor}

@@ -7,7 +7,7 @@ ghost use Rattle.directory_state.specs.declared.search.Spoken.TheVariants as spo
 
 use crate::deadlines::Deadlines;
 use crate::viewer::Viewer;
-use directory_answers::{QueryFault, ServiceQuery};
+use directory_questions::{QueryFault, ServiceQuery};
 use registry_core::{Entry, Registry};
 use service_url::Url;
 use slp_messages::UrlEntry;

@@ -1,7 +1,7 @@
 //! Replays whose reader or writer fails, and a word.
 use crate::assertion::assert_holds;
 use crate::fakes::Unflushed;
-use directory_program::{Replay, RunFault, replay_run};
+use replay_program::{Replay, RunFault, replay_run};
 use std::alloc::Global;
 use std::io;
 use std::io::{Error, ErrorKind, Read, Write};

@@ -14,8 +14,8 @@ use Rattle.srv_template.specs.Reading.{template_in}
 use Rattle.srv_template.specs.declared.fault.ParseFault.TheVariants as template
 use Rattle.srv_template.proofs.ParsedTemplates.{parsed-long}
 use Rattle.slp_script.specs.Lines.{Line, line_bytes}
-use Rattle.directory_program.specs.Worlds.{text_of}
-use Rattle.directory_program.specs.Turns.{block_text, block_text_with}
+use Rattle.replay_program.specs.Worlds.{text_of}
+use Rattle.replay_program.specs.Turns.{block_text, block_text_with}
 
 pub text_of-snoc : (body : List Line) (l : Line) → text_of (body ++ l ∷ []) ≡ text_of body ++ line_bytes l
 text_of-snoc body l = flat_map-append line_bytes body (l ∷ []) ∙ ap (λ (v : List ℕ). text_of body ++ v) (append-nil (line_bytes l))

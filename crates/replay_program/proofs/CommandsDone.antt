@@ -1,19 +1,19 @@
 -- What each command makes of a session.
 use Rattle.std.proofs.Common.{◌≡◌, ℕ, ◌+◌, ◌-◌, Bool, true, false, List, [], ◌∷◌, ◌++◌, codes, Option, Some, None, Result, Ok, Err, refl, sym, ap, ap₂, subst, ◌∙◌, inl, inr}
 use Rattle.std.specs.Prelude.{MatchResult}
-use Rattle.directory_answers.specs.Verdicts.{history_with}
+use Rattle.directory_questions.specs.Verdicts.{history_with}
 use Rattle.slp_answer.specs.declared.answer.Sent.{Sent}
 use Rattle.slp_script.specs.Commands.{Single}
 use Rattle.slp_script.specs.declared.command.Order.TheVariants.{At, From, Loop, Udp, Open, Tcp, Sweep}
 use Rattle.slp_script.specs.declared.command.Block.TheVariants as block
-use Rattle.directory_program.specs.Sessions.{Holds, IsAgent, Takes, TakesPiece, Acts, Meets, AddsTo, ConfiguresTo, MovesTo, ReloadsTo}
+use Rattle.replay_program.specs.Sessions.{Holds, IsAgent, Takes, TakesPiece, Acts, Meets, AddsTo, ConfiguresTo, MovesTo, ReloadsTo}
 use Rattle.site_reports.specs.Reports.{config_text, rules_text, template_text}
-use Rattle.directory_program.specs.Worlds.{World, Adds, Answers, Configures, Reloads, late_text, reloaded_world, swept_world, templated_world, templates_with, no_memory_text, answer_text, new_stream, longest_reply, late_world, configured_world}
-use Rattle.directory_program.specs.Turns.{Closes, Turns, TurnsTo, TurnsOutside, TurnsInside}
-use Rattle.directory_program.specs.declared.progress.OpenBlock.{OpenBlock}
-use Rattle.directory_program.specs.declared.progress.Progress.{Progress}
-use Rattle.directory_program.specs.declared.agent.Agent.{Agent}
-use Rattle.directory_program.specs.declared.session.Session.{Session}
+use Rattle.replay_program.specs.Worlds.{World, Adds, Answers, Configures, Reloads, late_text, reloaded_world, swept_world, templated_world, templates_with, no_memory_text, answer_text, new_stream, longest_reply, late_world, configured_world}
+use Rattle.replay_program.specs.Turns.{Closes, Turns, TurnsTo, TurnsOutside, TurnsInside}
+use Rattle.replay_program.specs.declared.progress.OpenBlock.{OpenBlock}
+use Rattle.replay_program.specs.declared.progress.Progress.{Progress}
+use Rattle.replay_program.specs.declared.agent.Agent.{Agent}
+use Rattle.replay_program.specs.declared.session.Session.{Session}
 use Rattle.access_rules.specs.Deciding.{SiteRules}
 use Rattle.access_rules.specs.RuleFiles.{rules_in_text}
 use Rattle.access_rules.specs.declared.fault.RuleFault.{RuleFault}

@@ -8,8 +8,8 @@ use Rattle.access_rules.specs.Deciding.{SiteRules}
 use Rattle.access_rules.specs.RuleFiles.{IsFault, rules_in_table, rules_in_text}
 use Rattle.access_rules.specs.declared.fault.RuleFault.{RuleFault}
 use Rattle.access_rules.specs.declared.fault.RuleFault.TheVariants.{Shape, TwiceName, NoMemory, Toml}
-use Rattle.directory_program.specs.OpeningRules.{opening_rules}
-use Rattle.directory_program.specs.declared.opening.TheConstants.{OPENING_RULES}
+use Rattle.replay_program.specs.OpeningRules.{opening_rules}
+use Rattle.replay_program.specs.declared.opening.TheConstants.{OPENING_RULES}
 
 -- it reads as the opening rules
 read_opening : rules_in_text OPENING_RULES.now ≡ Ok opening_rules

@@ -3,13 +3,13 @@ use Rattle.std.proofs.Common.{◌≡◌, ℕ, ◌≤◌, max, ◌∷◌, refl, s
 use Rattle.directory_judge.specs.History.{Act, Event, History, Reload, Sweep, clock, now}
 use Rattle.access_rules.specs.Deciding.{SiteRules}
 use Rattle.directory_judge.specs.Contents.{Content, Reloads, Sweeps}
-use Rattle.directory_answers.specs.Calls.{Opening}
-use Rattle.directory_answers.specs.Verdicts.{IsGrounded, IsLegal}
+use Rattle.directory_questions.specs.Calls.{Opening}
+use Rattle.directory_questions.specs.Verdicts.{IsGrounded, IsLegal}
 use Rattle.directory_state.specs.Folds.{Fold, StandsFor}
 use Rattle.directory_state.specs.State.{State}
-use Rattle.directory_program.specs.Sessions.{IsAgent}
-use Rattle.directory_program.specs.Worlds.{World, opening_of, reloaded_world, swept_world, world_with}
-use Rattle.directory_program.specs.declared.agent.Agent.{Agent}
+use Rattle.replay_program.specs.Sessions.{IsAgent}
+use Rattle.replay_program.specs.Worlds.{World, opening_of, reloaded_world, swept_world, world_with}
+use Rattle.replay_program.specs.declared.agent.Agent.{Agent}
 
 -- what an applied change promises of the directory after it
 abbrev pub Folds : State → Content → State → Type 0

@@ -9,13 +9,13 @@ use Rattle.slp_script.specs.Lines.{Line, before_first_line, lines_of, line_bytes
 use Rattle.slp_script.specs.Commands.{order_of, longest_line}
 use Rattle.slp_script.proofs.Words.{too_long-block}
 use Rattle.slp_script.proofs.Fronts.{lines_of-last, lines_of-line_bytes, lines_of-append, All-append}
-use Rattle.directory_program.specs.Worlds.{Run, RunsUpTo, RunsPart}
-use Rattle.directory_program.specs.Turns.{TurnsTo}
-use Rattle.directory_program.specs.Reads.{StandsAfter}
-use Rattle.directory_program.specs.declared.progress.OpenBlock.{OpenBlock}
-use Rattle.directory_program.specs.declared.progress.Progress.{Progress}
-use Rattle.directory_program.specs.declared.session.Session.{Session}
-use Rattle.directory_program.proofs.ProgressByLine.{IsAtFault, Stands-turn, Stands-fault, Stands-open, Stands-closed}
+use Rattle.replay_program.specs.Worlds.{Run, RunsUpTo, RunsPart}
+use Rattle.replay_program.specs.Turns.{TurnsTo}
+use Rattle.replay_program.specs.Reads.{StandsAfter}
+use Rattle.replay_program.specs.declared.progress.OpenBlock.{OpenBlock}
+use Rattle.replay_program.specs.declared.progress.Progress.{Progress}
+use Rattle.replay_program.specs.declared.session.Session.{Session}
+use Rattle.replay_program.proofs.ProgressByLine.{IsAtFault, Stands-turn, Stands-fault, Stands-open, Stands-closed}
 use Rattle.slp_text.specs.Ascii.{line_feed}
 
 -- more of the line that is begun

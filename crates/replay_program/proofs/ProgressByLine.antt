@@ -13,17 +13,17 @@ use Rattle.site_config.specs.declared.config.Config.{Config}
 use Rattle.site_config.specs.declared.fault.ConfigFault.{ConfigFault}
 use Rattle.site_config.specs.declared.fault.ConfigFault.TheVariants.{Range}
 use Rattle.slp_script.specs.Commands.{Command, Single, Text, Reads, word_of, block_end, longest_line, block_start, IsBodyLine, AtLine, AtBody, AtEnd, StopsAt}
-use Rattle.directory_program.specs.Sessions.{Holds}
+use Rattle.replay_program.specs.Sessions.{Holds}
 use Rattle.slp_script.specs.Lines.{Line}
-use Rattle.directory_program.specs.Worlds.{World, Adds, Does, Prints, IsFirstFault, IsOutput, Configures, Reloads, opening_world, templates_with}
-use Rattle.directory_program.specs.Turns.{IsFaultOutside, IsOpen, Stands, Turns, TurnsTo, TurnFailsBy, Begins, Ends, Lengthens, block_text, block_text_with}
-use Rattle.directory_program.specs.declared.fault.RunFault.{RunFault}
-use Rattle.directory_program.specs.declared.fault.RunFault.TheVariants as fault
-use Rattle.directory_program.specs.declared.fault.RunFault.TheVariants.{Read, Write, NoMemory}
-use Rattle.directory_program.specs.declared.progress.OpenBlock.{OpenBlock}
-use Rattle.directory_program.specs.declared.progress.Progress.{Progress}
-use Rattle.directory_program.specs.declared.session.Session.{Session}
-use Rattle.directory_program.proofs.BlockTexts.{block_text_with-kept, kept-config, kept-rules, kept-template}
+use Rattle.replay_program.specs.Worlds.{World, Adds, Does, Prints, IsFirstFault, IsOutput, Configures, Reloads, opening_world, templates_with}
+use Rattle.replay_program.specs.Turns.{IsFaultOutside, IsOpen, Stands, Turns, TurnsTo, TurnFailsBy, Begins, Ends, Lengthens, block_text, block_text_with}
+use Rattle.replay_program.specs.declared.fault.RunFault.{RunFault}
+use Rattle.replay_program.specs.declared.fault.RunFault.TheVariants as fault
+use Rattle.replay_program.specs.declared.fault.RunFault.TheVariants.{Read, Write, NoMemory}
+use Rattle.replay_program.specs.declared.progress.OpenBlock.{OpenBlock}
+use Rattle.replay_program.specs.declared.progress.Progress.{Progress}
+use Rattle.replay_program.specs.declared.session.Session.{Session}
+use Rattle.replay_program.proofs.BlockTexts.{block_text_with-kept, kept-config, kept-rules, kept-template}
 use Rattle.slp_script.specs.declared.command.Block.{Block}
 use Rattle.slp_script.specs.declared.command.Block.TheVariants as block
 use Rattle.srv_template.specs.Reading.{template_in}

@@ -3,16 +3,16 @@ use Rattle.std.proofs.Common.{◌≡◌, ℕ, ◌+◌, ◌<◌, ◌≤◌, List,
 use Rattle.std.specs.Io.KnownBytes.{Appends}
 use Rattle.slp_script.specs.Lines.{HasNoLf}
 use Rattle.slp_script.specs.Commands.{longest_line}
-use Rattle.directory_program.specs.Worlds.{RunsUpTo, RunsPart}
-use Rattle.directory_program.specs.Turns.{TurnsTo}
-use Rattle.directory_program.specs.Reads.{StandsAfter, FeedFails, FeedGoesOn}
-use Rattle.directory_program.specs.declared.progress.Progress.{Progress}
-use Rattle.directory_program.specs.declared.fault.RunFault.{RunFault}
-use Rattle.directory_program.specs.declared.fault.RunFault.TheVariants as fault
-use Rattle.directory_program.specs.declared.fault.RunFault.TheVariants.{Read, Write, NoMemory}
-use Rattle.directory_program.proofs.Transfers.{Appends-append, Appends-keeps}
-use Rattle.directory_program.proofs.ProgressByLine.{FailsAs}
-use Rattle.directory_program.proofs.ProgressByBytes.{StandsAfter-more, StandsAfter-turn, StandsAfter-part, StandsAfter-fault, StandsAfter-long}
+use Rattle.replay_program.specs.Worlds.{RunsUpTo, RunsPart}
+use Rattle.replay_program.specs.Turns.{TurnsTo}
+use Rattle.replay_program.specs.Reads.{StandsAfter, FeedFails, FeedGoesOn}
+use Rattle.replay_program.specs.declared.progress.Progress.{Progress}
+use Rattle.replay_program.specs.declared.fault.RunFault.{RunFault}
+use Rattle.replay_program.specs.declared.fault.RunFault.TheVariants as fault
+use Rattle.replay_program.specs.declared.fault.RunFault.TheVariants.{Read, Write, NoMemory}
+use Rattle.replay_program.proofs.Transfers.{Appends-append, Appends-keeps}
+use Rattle.replay_program.proofs.ProgressByLine.{FailsAs}
+use Rattle.replay_program.proofs.ProgressByBytes.{StandsAfter-more, StandsAfter-turn, StandsAfter-part, StandsAfter-fault, StandsAfter-long}
 use Rattle.slp_text.specs.Ascii.{line_feed}
 
 -- where the bytes so far are the piece's first, the rest of the piece may follow

@@ -5,19 +5,19 @@ use Rattle.std.specs.Io.KnownBytes.{Appends, Keeps, Consumes, IsAtEnd}
 use Rattle.std.specs.List.{flat_map}
 use Rattle.std.proofs.lemmas.List.{append-nil}
 use Rattle.directory_state.proofs.Folds.{AreLive-nil}
-use Rattle.directory_program.specs.Sessions.{Holds}
+use Rattle.replay_program.specs.Sessions.{Holds}
 use Rattle.slp_script.specs.Lines.{Line, line_bytes}
-use Rattle.directory_program.specs.Opening.{opening_session}
-use Rattle.directory_program.specs.Worlds.{RunsUpTo, RunsWhole, IsUnfinished, opening_world}
-use Rattle.directory_program.specs.Turns.{IsOpen}
-use Rattle.directory_program.specs.Reads.{StandsAfter, FeedFails, Ends}
-use Rattle.directory_program.specs.Gives.{FaultGives, Gives, KnownFault, KnownGives}
-use Rattle.directory_program.specs.declared.progress.OpenBlock.{OpenBlock}
-use Rattle.directory_program.specs.declared.progress.Progress.{Progress}
-use Rattle.directory_program.specs.declared.fault.RunFault.{RunFault}
-use Rattle.directory_program.specs.declared.fault.RunFault.TheVariants as fault
-use Rattle.directory_program.specs.declared.fault.RunFault.TheVariants.{Read, Write, NoMemory}
-use Rattle.directory_program.proofs.Transfers.{Keeps-same, Appends-none, Appends-append, Consumes-none, Consumes-append}
+use Rattle.replay_program.specs.Opening.{opening_session}
+use Rattle.replay_program.specs.Worlds.{RunsUpTo, RunsWhole, IsUnfinished, opening_world}
+use Rattle.replay_program.specs.Turns.{IsOpen}
+use Rattle.replay_program.specs.Reads.{StandsAfter, FeedFails, Ends}
+use Rattle.replay_program.specs.Gives.{FaultGives, Gives, KnownFault, KnownGives}
+use Rattle.replay_program.specs.declared.progress.OpenBlock.{OpenBlock}
+use Rattle.replay_program.specs.declared.progress.Progress.{Progress}
+use Rattle.replay_program.specs.declared.fault.RunFault.{RunFault}
+use Rattle.replay_program.specs.declared.fault.RunFault.TheVariants as fault
+use Rattle.replay_program.specs.declared.fault.RunFault.TheVariants.{Read, Write, NoMemory}
+use Rattle.replay_program.proofs.Transfers.{Keeps-same, Appends-none, Appends-append, Consumes-none, Consumes-append}
 
 -- nothing happened in the setup with which a run begins
 pub Holds-opening : Holds opening_world opening_session

@@ -8,11 +8,11 @@ use Rattle.slp_stream.specs.Framing.{Frames, Refuses, answer_at, next_answer, fr
 use Rattle.slp_stream.specs.declared.fault.FrameFault.{FrameFault}
 use Rattle.slp_stream.specs.declared.fault.FrameFault.TheVariants.{NoMemory}
 use Rattle.slp_stream.proofs.FramerAnswers.{Leads, gave_message, gave_none, leads_on, leads_to_end}
-use Rattle.directory_program.specs.Sessions.{IsAgent, TakesPiece, Meets, Drains}
-use Rattle.directory_program.specs.Worlds.{World, Answers, AnswersAll, Pieces, bad_length_text, closed_text, end_text, end_refused, longest_on_stream}
-use Rattle.directory_program.specs.declared.agent.Agent.{Agent}
-use Rattle.directory_program.specs.declared.session.Session.{Session}
-use Rattle.directory_program.proofs.CommandsDone.{Answers-beside, IsAgent-beside}
+use Rattle.replay_program.specs.Sessions.{IsAgent, TakesPiece, Meets, Drains}
+use Rattle.replay_program.specs.Worlds.{World, Answers, AnswersAll, Pieces, bad_length_text, closed_text, end_text, end_refused, longest_on_stream}
+use Rattle.replay_program.specs.declared.agent.Agent.{Agent}
+use Rattle.replay_program.specs.declared.session.Session.{Session}
+use Rattle.replay_program.proofs.CommandsDone.{Answers-beside, IsAgent-beside}
 
 AnswersAll-snoc : (w : World) (ms : List (List ℕ)) (said : List ℕ) (u : World) (m now : List ℕ) (v : World) → AnswersAll w ms said u → Answers longest_on_stream u m now v → AnswersAll w (ms ++ m ∷ []) (said ++ now) v
 AnswersAll-snoc w [] said u m now v h a =

@@ -1,10 +1,10 @@
 -- What a run promises of what it read and wrote.
 use Rattle.std.specs.Prelude.{◌⊎◌, ℕ, List, ◌++◌, Option, IfSome, Result, MatchResult, ⊤}
 use Rattle.std.specs.Io.KnownBytes.{Appends, Consumes, IsAtEnd}
-use Rattle.directory_program.specs.Worlds.{Run, RunsUpTo, RunsPart, RunsWhole}
-use Rattle.directory_program.specs.declared.fault.RunFault.{RunFault}
-use Rattle.directory_program.specs.declared.fault.RunFault.TheVariants as fault
-use Rattle.directory_program.specs.declared.fault.RunFault.TheVariants.{Read, Write, NoMemory}
+use Rattle.replay_program.specs.Worlds.{Run, RunsUpTo, RunsPart, RunsWhole}
+use Rattle.replay_program.specs.declared.fault.RunFault.{RunFault}
+use Rattle.replay_program.specs.declared.fault.RunFault.TheVariants as fault
+use Rattle.replay_program.specs.declared.fault.RunFault.TheVariants.{Read, Write, NoMemory}
 
 -- r and r' are what the reader has left before and after, w and w' what the writer holds
 abbrev pub FaultGives : Option (List ℕ) → Option (List ℕ) → Option (List ℕ) → Option (List ℕ) → RunFault → Type 0

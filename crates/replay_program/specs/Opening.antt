@@ -1,11 +1,11 @@
 -- The setup with which a run begins.
 use Rattle.std.specs.Prelude.{false}
-use Rattle.directory_program.specs.OpeningRules.{opening_rules}
+use Rattle.replay_program.specs.OpeningRules.{opening_rules}
 use Rattle.directory_state.specs.State.{opening_state}
-use Rattle.directory_program.specs.Worlds.{new_stream, opening_listen}
-use Rattle.directory_program.specs.Sites.{first_site}
-use Rattle.directory_program.specs.declared.agent.Agent.{Agent}
-use Rattle.directory_program.specs.declared.session.Session.{Session}
+use Rattle.replay_program.specs.Worlds.{new_stream, opening_listen}
+use Rattle.replay_program.specs.Sites.{first_site}
+use Rattle.replay_program.specs.declared.agent.Agent.{Agent}
+use Rattle.replay_program.specs.declared.session.Session.{Session}
 
 -- nothing has happened, it is moment 0, and messages come from 10.0.0.1 to the first loop
 abbrev pub opening_agent : Agent

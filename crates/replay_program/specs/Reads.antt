@@ -4,12 +4,12 @@ use Rattle.std.specs.List.{AllByRecursion, flat_map}
 use Rattle.std.specs.Io.KnownBytes.{Appends}
 use Rattle.slp_script.specs.Commands.{longest_line}
 use Rattle.slp_script.specs.Lines.{Line, line_bytes, HasNoLf}
-use Rattle.directory_program.specs.Worlds.{Run, RunsUpTo, RunsPart}
-use Rattle.directory_program.specs.Turns.{Stands}
-use Rattle.directory_program.specs.declared.progress.Progress.{Progress}
-use Rattle.directory_program.specs.declared.fault.RunFault.{RunFault}
-use Rattle.directory_program.specs.declared.fault.RunFault.TheVariants as fault
-use Rattle.directory_program.specs.declared.fault.RunFault.TheVariants.{Read, Write, NoMemory}
+use Rattle.replay_program.specs.Worlds.{Run, RunsUpTo, RunsPart}
+use Rattle.replay_program.specs.Turns.{Stands}
+use Rattle.replay_program.specs.declared.progress.Progress.{Progress}
+use Rattle.replay_program.specs.declared.fault.RunFault.{RunFault}
+use Rattle.replay_program.specs.declared.fault.RunFault.TheVariants as fault
+use Rattle.replay_program.specs.declared.fault.RunFault.TheVariants.{Read, Write, NoMemory}
 
 -- the bytes that were read brought the run here, with a line begun, and this was written
 pub record StandsAfter (read out line : List ℕ) (p : Progress) : Type 0 where

@@ -2,9 +2,9 @@
 use Rattle.std.specs.Prelude.{◌≡◌, ℕ, List, [], ◌∷◌, ◌++◌, Option, codes}
 use Rattle.std.specs.Fmt.{decimal}
 use Rattle.std.specs.Io.KnownBytes.{Appends}
-use Rattle.directory_program.specs.Gives.{FaultGives, Whole}
-use Rattle.directory_program.specs.declared.fault.RunFault.TheVariants as fault
-use Rattle.directory_program.specs.declared.fault.RunFault.TheVariants.{Read, NoMemory}
+use Rattle.replay_program.specs.Gives.{FaultGives, Whole}
+use Rattle.replay_program.specs.declared.fault.RunFault.TheVariants as fault
+use Rattle.replay_program.specs.declared.fault.RunFault.TheVariants.{Read, NoMemory}
 use Rattle.slp_text.specs.Ascii.{line_feed}
 
 -- what is written for a line at fault

@@ -1,27 +1,27 @@
 -- Which history an agent and a session stand for, and what a datagram does to it.
 use Rattle.std.specs.Prelude.{◌≡◌, ℕ, ◌-◌, Bool, true, false, IsTrue, List, ◌++◌, length, Option, MatchOption, Result, Ok, Err}
-use Rattle.directory_program.specs.OpeningRules.{opening_rules}
+use Rattle.replay_program.specs.OpeningRules.{opening_rules}
 use Rattle.access_rules.specs.Deciding.{SiteRules}
 use Rattle.access_rules.specs.declared.fault.RuleFault.{RuleFault}
 use Rattle.slp_headers.specs.Headers.{heading_of}
 use Rattle.directory_judge.specs.History.{Event}
 use Rattle.directory_state.specs.Folds.{Fold}
 use Rattle.directory_judge.specs.Meaning.{rules}
-use Rattle.directory_answers.specs.Answers.{IsAnswer}
-use Rattle.directory_answers.specs.Outcomes.{Outcome}
-use Rattle.directory_answers.specs.Verdicts.{IsLegal, history_with}
+use Rattle.directory_questions.specs.Answers.{IsAnswer}
+use Rattle.directory_questions.specs.Outcomes.{Outcome}
+use Rattle.directory_questions.specs.Verdicts.{IsLegal, history_with}
 use Rattle.slp_answer.specs.Answers.{Tells}
 use Rattle.slp_answer.specs.declared.answer.Sent.{Sent}
 use Rattle.slp_stream.specs.Cutting.{front_of, IsCut}
 use Rattle.slp_stream.specs.Framing.{Frames}
 use Rattle.slp_script.specs.Commands.{Command}
-use Rattle.directory_program.specs.Worlds.{World, opening_of, call_of, Answers, AnswersAll, Pieces, Does, closed_text, configured_world, is_loop, templated_world, end_text, end_refused, longest_on_stream, reloaded_world}
+use Rattle.replay_program.specs.Worlds.{World, opening_of, call_of, Answers, AnswersAll, Pieces, Does, closed_text, configured_world, is_loop, templated_world, end_text, end_refused, longest_on_stream, reloaded_world}
 use Rattle.srv_template.specs.Conformity.{SiteTemplates}
 use Rattle.srv_template.specs.declared.fault.ParseFault.{ParseFault}
 use Rattle.site_config.specs.declared.config.Config.{Config}
 use Rattle.site_config.specs.declared.fault.ConfigFault.{ConfigFault}
-use Rattle.directory_program.specs.declared.agent.Agent.{Agent}
-use Rattle.directory_program.specs.declared.session.Session.{Session}
+use Rattle.replay_program.specs.declared.agent.Agent.{Agent}
+use Rattle.replay_program.specs.declared.session.Session.{Session}
 
 -- the agent is one to which this happened
 pub record IsAgent (w : World) (a : Agent) : Type 0 where

@@ -11,17 +11,17 @@ use Rattle.slp_script.specs.declared.command.Block.{Block}
 use Rattle.slp_script.specs.declared.command.Block.TheVariants as block
 use Rattle.slp_script.specs.declared.command.Order.{Order}
 use Rattle.slp_script.specs.declared.command.Order.TheVariants as order
-use Rattle.directory_program.specs.Sessions.{Holds, Acts}
+use Rattle.replay_program.specs.Sessions.{Holds, Acts}
 use Rattle.slp_script.specs.Lines.{Line, line_bytes}
 use Rattle.srv_template.specs.Reading.{template_in}
 use Rattle.srv_template.specs.declared.fault.ParseFault.TheVariants as template
-use Rattle.directory_program.specs.Worlds.{World, Prints, Configures, Adds, Reloads, is_loop, opening_world, templates_with, text_of}
-use Rattle.directory_program.specs.declared.progress.OpenBlock.{OpenBlock}
-use Rattle.directory_program.specs.declared.progress.Progress.{Progress}
-use Rattle.directory_program.specs.declared.session.Session.{Session}
-use Rattle.directory_program.specs.declared.fault.RunFault.{RunFault}
-use Rattle.directory_program.specs.declared.fault.RunFault.TheVariants as fault
-use Rattle.directory_program.specs.declared.fault.RunFault.TheVariants.{Read, Write, NoMemory}
+use Rattle.replay_program.specs.Worlds.{World, Prints, Configures, Adds, Reloads, is_loop, opening_world, templates_with, text_of}
+use Rattle.replay_program.specs.declared.progress.OpenBlock.{OpenBlock}
+use Rattle.replay_program.specs.declared.progress.Progress.{Progress}
+use Rattle.replay_program.specs.declared.session.Session.{Session}
+use Rattle.replay_program.specs.declared.fault.RunFault.{RunFault}
+use Rattle.replay_program.specs.declared.fault.RunFault.TheVariants as fault
+use Rattle.replay_program.specs.declared.fault.RunFault.TheVariants.{Read, Write, NoMemory}
 
 -- what is kept of the text of a block: nothing where it is longer than a configuration, a template or a rule file may be
 abbrev pub block_text : List Line → Option (List ℕ)

@@ -9,10 +9,10 @@ use Rattle.access_rules.specs.RuleFiles.{rules_in_text}
 use Rattle.access_rules.specs.declared.fault.RuleFault.{RuleFault}
 use Rattle.directory_judge.specs.History.{History, Event, Act, Sweep, Reload, now}
 use Rattle.directory_judge.specs.Meaning.{rules}
-use Rattle.directory_answers.specs.Answers.{IsAnswer}
-use Rattle.directory_answers.specs.Calls.{Opening, Call}
-use Rattle.directory_answers.specs.Outcomes.{Outcome, refusal_outcome}
-use Rattle.directory_answers.specs.Verdicts.{history_with}
+use Rattle.directory_questions.specs.Answers.{IsAnswer}
+use Rattle.directory_questions.specs.Calls.{Opening, Call}
+use Rattle.directory_questions.specs.Outcomes.{Outcome, refusal_outcome}
+use Rattle.directory_questions.specs.Verdicts.{history_with}
 use Rattle.site_reports.specs.Reports.{configured_text, config_fault_text, added_text, template_fault_text, ruled_text, rule_fault_text}
 use Rattle.slp_answer.specs.Answers.{line_of}
 use Rattle.slp_stream.specs.Cutting.{Front, Wanting, Whole, Bad, front_of, IsCut}
@@ -29,8 +29,8 @@ use Rattle.srv_template.specs.Reading.{template_in}
 use Rattle.srv_template.specs.Templates.{Template, added_to}
 use Rattle.srv_template.specs.declared.fault.ParseFault.{ParseFault}
 use Rattle.slp_script.specs.Lines.{Line, lines_of, line_bytes, HasNoLf}
-use Rattle.directory_program.specs.OpeningRules.{opening_rules}
-use Rattle.directory_program.specs.Sites.{first_site}
+use Rattle.replay_program.specs.OpeningRules.{opening_rules}
+use Rattle.replay_program.specs.Sites.{first_site}
 use Rattle.site_config.specs.Configurations.{config_of}
 use Rattle.site_config.specs.declared.config.Config.{Config}
 use Rattle.site_config.specs.declared.fault.ConfigFault.{ConfigFault}

@@ -6,11 +6,11 @@ ghost use Rattle.access_rules.specs.RuleFiles.{rules_in_text};
 ghost use Rattle.access_rules.specs.declared.fault.RuleFault.TheVariants as rule_fault;
 ghost use Rattle.directory_state.specs.Folds.{Fold};
 ghost use Rattle.directory_state.specs.State.{opening_state};
-ghost use Rattle.directory_program.specs.Worlds.{opening_listen, site_in};
+ghost use Rattle.replay_program.specs.Worlds.{opening_listen, site_in};
 ghost use Rattle.site_config.specs.Configurations.{config_of, IsWithin};
 ghost use Rattle.site_config.specs.declared.fault.ConfigFault.TheVariants.{Range};
-ghost use Rattle.directory_program.specs.OpeningRules.{opening_rules};
-ghost use Rattle.directory_program.specs.Sites.{first_site};
+ghost use Rattle.replay_program.specs.OpeningRules.{opening_rules};
+ghost use Rattle.replay_program.specs.Sites.{first_site};
 ghost use Rattle.slp_text.specs.Reading.{read_then};
 ghost use Rattle.srv_template.specs.Reading.{template_in};
 ghost use Rattle.srv_template.specs.Templates.{added_to, IsReading};
@@ -138,9 +138,9 @@ fn begin(alloc: Global, site: &Site) -> Result<Directory<ListRegistry>, NoMemory
 }
 
 impl Agent {
-    ghost use Rattle.directory_program.specs.Opening.{opening_agent};
-    ghost use Rattle.directory_program.specs.Sessions.{IsAgent, Takes, AddsTo, ConfiguresTo, MovesTo, ReloadsTo};
-    ghost use Rattle.directory_program.specs.Worlds.{World, configured_world, own_at, reloaded_world, swept_world, templates_with};
+    ghost use Rattle.replay_program.specs.Opening.{opening_agent};
+    ghost use Rattle.replay_program.specs.Sessions.{IsAgent, Takes, AddsTo, ConfiguresTo, MovesTo, ReloadsTo};
+    ghost use Rattle.replay_program.specs.Worlds.{World, configured_world, own_at, reloaded_world, swept_world, templates_with};
 
     /// The setup with which a run begins: the scope `DEFAULT`, room for 16 entries, and rules that
     /// allow everything to everyone.

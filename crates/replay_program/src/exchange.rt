@@ -1,7 +1,7 @@
 ghost use Rattle.std.specs.Prelude.{◌≡◌, ◌≤◌, ℕ, List, MatchResult};
 ghost use Rattle.std.specs.Io.KnownBytes.{Appends};
-ghost use Rattle.directory_program.specs.Sessions.{Meets};
-ghost use Rattle.directory_program.specs.declared.fault.RunFault.TheVariants as fault;
+ghost use Rattle.replay_program.specs.Sessions.{Meets};
+ghost use Rattle.replay_program.specs.declared.fault.RunFault.TheVariants as fault;
 
 use crate::agent::Agent;
 use crate::fault::RunFault;

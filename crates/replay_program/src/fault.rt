@@ -1,5 +1,5 @@
 ghost use Rattle.std.specs.Prelude.{◌≡◌};
-ghost use Rattle.directory_program.specs.declared.fault.RunFault.TheVariants as fault;
+ghost use Rattle.replay_program.specs.declared.fault.RunFault.TheVariants as fault;
 
 use slp_text::NoMemory;
 use std::alloc::AllocError;

@@ -1,7 +1,7 @@
 ghost use Rattle.std.specs.Prelude.{◌≡◌, ◌≤◌, ◌<◌, ◌+◌, ◌^◌, ◌++◌, ◌⊎◌, ℕ, List, length, vec_len, MatchOption, OnOk, IfErr};
 ghost use Rattle.slp_script.specs.Commands.{longest_line};
-ghost use Rattle.directory_program.specs.Reads.{StandsAfter, Feeds, Ends};
-ghost use Rattle.directory_program.specs.declared.fault.RunFault.TheVariants as fault;
+ghost use Rattle.replay_program.specs.Reads.{StandsAfter, Feeds, Ends};
+ghost use Rattle.replay_program.specs.declared.fault.RunFault.TheVariants as fault;
 
 use crate::fault::RunFault;
 use crate::progress::Progress;

@@ -1,6 +1,6 @@
 //! The rules with which a run begins.
 ghost use Rattle.std.specs.Prelude.{◌≡◌, IfOk};
-ghost use Rattle.directory_program.specs.OpeningRules.{opening_rules};
+ghost use Rattle.replay_program.specs.OpeningRules.{opening_rules};
 
 use access_rules::{RuleFault, Rules};
 use slp_text::NoMemory;

@@ -1,7 +1,7 @@
 ghost use Rattle.std.specs.Prelude.{◌≡◌, ◌<◌, ◌≤◌, length, slice_index, OnOk};
 ghost use Rattle.std.specs.Io.KnownBytes.{Appends};
 ghost use Rattle.hex.specs.Hex.{encode_lower, lower_digits};
-ghost use Rattle.directory_program.specs.Worlds.{no_memory_text, answer_text};
+ghost use Rattle.replay_program.specs.Worlds.{no_memory_text, answer_text};
 
 use access_rules::Addr;
 use slp_answer::refusal;

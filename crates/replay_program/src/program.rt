@@ -1,6 +1,6 @@
 ghost use Rattle.std.specs.Prelude.{◌≡◌, ◌<◌, ◌⊎◌, ◌++◌, ◌∷◌, [], codes, length, IfOk};
 ghost use Rattle.std.specs.Io.KnownBytes.{Appends};
-ghost use Rattle.directory_program.specs.Reports.{Reports};
+ghost use Rattle.replay_program.specs.Reports.{Reports};
 
 use crate::fault::RunFault;
 use crate::replay::Replay;

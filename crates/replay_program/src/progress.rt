@@ -4,9 +4,9 @@ ghost use Rattle.std.specs.Option.{option_map, option_copied};
 ghost use Rattle.slp_script.specs.Commands.{longest_line, Single};
 ghost use Rattle.slp_script.specs.declared.command.Block.TheVariants as block;
 ghost use Rattle.slp_script.specs.declared.command.Order.TheVariants as order;
-ghost use Rattle.directory_program.specs.Sessions.{Acts};
-ghost use Rattle.directory_program.specs.Turns.{Closes, block_text_with, LacksLoop, TurnsOutside, TurnsInside, OrderFails, OutsideFails, InsideFails, TurnsTo, TurnFails};
-ghost use Rattle.directory_program.specs.declared.fault.RunFault.TheVariants as fault;
+ghost use Rattle.replay_program.specs.Sessions.{Acts};
+ghost use Rattle.replay_program.specs.Turns.{Closes, block_text_with, LacksLoop, TurnsOutside, TurnsInside, OrderFails, OutsideFails, InsideFails, TurnsTo, TurnFails};
+ghost use Rattle.replay_program.specs.declared.fault.RunFault.TheVariants as fault;
 
 use crate::exchange::meet;
 use crate::fault::RunFault;

@@ -1,6 +1,6 @@
 ghost use Rattle.std.specs.Prelude.{◌≤◌, ◌<◌, [], length};
-ghost use Rattle.directory_program.specs.Reads.{StandsAfter};
-ghost use Rattle.directory_program.specs.Gives.{Gives};
+ghost use Rattle.replay_program.specs.Reads.{StandsAfter};
+ghost use Rattle.replay_program.specs.Gives.{Gives};
 
 use crate::fault::RunFault;
 use crate::line_input::{feed, finish};
@@ -54,7 +54,7 @@ fn run_through<R: Read, W: Write>(
 }
 
 impl Replay {
-    ghost use Rattle.directory_program.specs.Gives.{Gives, KnownGives};
+    ghost use Rattle.replay_program.specs.Gives.{Gives, KnownGives};
 
     /// A replay.
     pub fn new(alloc: Global) -> Replay {

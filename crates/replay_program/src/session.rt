@@ -22,7 +22,7 @@ pub struct Session {
 }
 
 impl Session {
-    ghost use Rattle.directory_program.specs.Opening.{opening_session};
+    ghost use Rattle.replay_program.specs.Opening.{opening_session};
 
     /// The session with which a run begins.
     pub fn open(alloc: Global) -> Result<Session, NoMemory>

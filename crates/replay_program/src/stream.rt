@@ -1,8 +1,8 @@
 ghost use Rattle.std.specs.Prelude.{◌≡◌, ◌⊎◌, ℕ, List, None, MatchResult, OnOk};
 ghost use Rattle.std.specs.Io.KnownBytes.{Appends, Keeps};
-ghost use Rattle.directory_program.specs.Sessions.{TakesPiece, Drains};
-ghost use Rattle.directory_program.specs.Worlds.{bad_length_text};
-ghost use Rattle.directory_program.specs.declared.fault.RunFault.TheVariants as fault;
+ghost use Rattle.replay_program.specs.Sessions.{TakesPiece, Drains};
+ghost use Rattle.replay_program.specs.Worlds.{bad_length_text};
+ghost use Rattle.replay_program.specs.declared.fault.RunFault.TheVariants as fault;
 
 use crate::agent::Agent;
 use crate::exchange::meet;

@@ -9,8 +9,8 @@
 
 mod expansion;
 
-use directory_program::replay_run;
 use expansion::push_expanded;
+use replay_program::replay_run;
 use std::alloc::{AllocError, Global};
 use std::io::{self, BufWriter, Read, Write};
 use std::process::ExitCode;

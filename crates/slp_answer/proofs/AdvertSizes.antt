@@ -11,8 +11,8 @@ use Rattle.slp_messages.specs.declared.message.Message.{Message}
 use Rattle.slp_messages.specs.declared.message.Message.TheVariants as message
 use Rattle.slp_text.specs.Scopes.{printed_scopes}
 use Rattle.slp_wire.specs.Spelling.{body_of, plain_bytes}
-use Rattle.directory_answers.specs.Answers.{advert_of}
-use Rattle.directory_answers.specs.Cuts.{reply_header}
+use Rattle.directory_questions.specs.Answers.{advert_of}
+use Rattle.directory_questions.specs.Cuts.{reply_header}
 use Rattle.directory_judge.specs.Sites.{Site}
 use Rattle.slp_answer.proofs.RefusalLines.{address_is_short}
 

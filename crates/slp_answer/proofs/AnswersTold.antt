@@ -21,25 +21,25 @@ use Rattle.directory_judge.specs.declared.reason.Because.{Because}
 use Rattle.directory_judge.specs.declared.change.Change.{Change}
 use Rattle.directory_judge.specs.declared.judgement.Judged.{Judged}
 use Rattle.directory_judge.specs.declared.judgement.Judged.TheVariants as judged
-use Rattle.directory_answers.specs.Answers.{Sense, Settled, Lists, Describes, Names, IsCutReply, IsListed, advert_code, advert_outcome, agents_outcome, is_agent_for, is_change_function, is_change_of, language_outcome, question_of, sense_of_reading, sense_under, sense_within, sense_of_message, sense_of_question, IsAnswerTo, IsAnswer}
-use Rattle.directory_answers.specs.Calls.{Opening, Call}
-use Rattle.directory_answers.specs.Cuts.{attributes_with, types_with}
-use Rattle.directory_answers.specs.Outcomes.{Outcome, silence, outcome, sent_of, code_outcome, code_outcome_as, decider_of_fault, denial_outcome, fault_outcome, acknowledgement_of}
+use Rattle.directory_questions.specs.Answers.{Sense, Settled, Lists, Describes, Names, IsCutReply, IsListed, advert_code, advert_outcome, agents_outcome, is_agent_for, is_change_function, is_change_of, language_outcome, question_of, sense_of_reading, sense_under, sense_within, sense_of_message, sense_of_question, IsAnswerTo, IsAnswer}
+use Rattle.directory_questions.specs.Calls.{Opening, Call}
+use Rattle.directory_questions.specs.Cuts.{attributes_with, types_with}
+use Rattle.directory_questions.specs.Outcomes.{Outcome, silence, outcome, sent_of, code_outcome, code_outcome_as, decider_of_fault, denial_outcome, fault_outcome, acknowledgement_of}
 use Rattle.attr_list.specs.Lists.{Attributes}
 use Rattle.std.specs.Option.{option_map_or}
 use Rattle.std.proofs.lemmas.Bool.Decides.{nat_tests}
 use Rattle.slp_headers.specs.Headers.{reply_function_of}
-use Rattle.directory_answers.specs.Items.{attribute_texts, kind_asked, AreAttributesOf, AreServices, AreTypesOf, IsAskedAbout, IsElsewhere, IsForeign, IsOpenNow}
-use Rattle.directory_answers.specs.declared.query.QueryFault.{QueryFault}
-use Rattle.directory_answers.specs.declared.query.QueryFault.TheVariants as query_fault
-use Rattle.directory_answers.specs.declared.query.AgentQuery.{AgentQuery}
-use Rattle.directory_answers.specs.declared.query.AttrQuery.{AttrQuery}
-use Rattle.directory_answers.specs.declared.query.ServiceQuery.{ServiceQuery}
-use Rattle.directory_answers.specs.declared.query.TypeQuery.{TypeQuery}
-use Rattle.directory_answers.specs.declared.question.Question.{Question}
-use Rattle.directory_answers.specs.declared.question.Question.TheVariants as question
-use Rattle.directory_answers.specs.Readings.{may_change, IsAsked}
-use Rattle.directory_answers.specs.Verdicts.{IsLegal, IsVerdict, change_in, history_with}
+use Rattle.directory_questions.specs.Items.{attribute_texts, kind_asked, AreAttributesOf, AreServices, AreTypesOf, IsAskedAbout, IsElsewhere, IsForeign, IsOpenNow}
+use Rattle.directory_questions.specs.declared.query.QueryFault.{QueryFault}
+use Rattle.directory_questions.specs.declared.query.QueryFault.TheVariants as query_fault
+use Rattle.directory_questions.specs.declared.query.AgentQuery.{AgentQuery}
+use Rattle.directory_questions.specs.declared.query.AttrQuery.{AttrQuery}
+use Rattle.directory_questions.specs.declared.query.ServiceQuery.{ServiceQuery}
+use Rattle.directory_questions.specs.declared.query.TypeQuery.{TypeQuery}
+use Rattle.directory_questions.specs.declared.question.Question.{Question}
+use Rattle.directory_questions.specs.declared.question.Question.TheVariants as question
+use Rattle.directory_questions.specs.Readings.{may_change, IsAsked}
+use Rattle.directory_questions.specs.Verdicts.{IsLegal, IsVerdict, change_in, history_with}
 use Rattle.directory_judge.specs.Contents.{content}
 use Rattle.directory_state.specs.Fronts.{IsFront}
 use Rattle.directory_state.specs.Folds.{Fold, StandsFor, IsJudgedAs, HandsOut}

@@ -11,7 +11,7 @@ use Rattle.directory_judge.specs.declared.reason.Decider.TheVariants.{Memory}
 use Rattle.access_rules.specs.Addresses.{address_text}
 use Rattle.slp_answer.specs.Audits.{action_text, audit_text, line_text}
 use Rattle.directory_judge.specs.Judgements.{by_step}
-use Rattle.directory_answers.specs.Outcomes.{code_outcome_as, refusal_outcome, silence}
+use Rattle.directory_questions.specs.Outcomes.{code_outcome_as, refusal_outcome, silence}
 use Rattle.slp_answer.specs.declared.audit.Audit.{Audit}
 use Rattle.slp_answer.specs.Answers.{action_of, line_by, line_of}
 use Rattle.slp_answer.proofs.AuditLines.{head_length, line_length, tail_length}

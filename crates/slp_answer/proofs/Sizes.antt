@@ -10,7 +10,7 @@ use Rattle.slp_fields.specs.Spelling.{entry_bytes}
 use Rattle.slp_wire.specs.Spelling.{plain_bytes, body_of}
 use Rattle.slp_headers.specs.Headers.{Heading}
 use Rattle.slp_messages.specs.declared.message.UrlEntry.{UrlEntry}
-use Rattle.directory_answers.specs.Cuts.{IsCut, services_with}
+use Rattle.directory_questions.specs.Cuts.{IsCut, services_with}
 use Rattle.directory_state.specs.Fronts.{IsFront, size_in}
 use Rattle.directory_state.specs.declared.search.Room.{Room}
 use Rattle.slp_answer.specs.ServiceReplies.{service_reply}

@@ -6,7 +6,7 @@ use Rattle.std.proofs.lemmas.List.{drop-drop, length-append}
 use Rattle.slp_headers.specs.Headers.{Heading, frame_bytes, word_of}
 use Rattle.slp_headers.specs.declared.flag.TheConstants as flag
 use Rattle.slp_wire.specs.Spelling.{plain_bytes}
-use Rattle.directory_answers.specs.Cuts.{reply_header}
+use Rattle.directory_questions.specs.Cuts.{reply_header}
 use Rattle.slp_answer.specs.TextLists.{form_end, form_function, head_bytes, listed_reply}
 use Rattle.slp_answer.specs.declared.text_listing.Form.{Form}
 use Rattle.slp_answer.specs.declared.text_listing.Form.TheVariants as form

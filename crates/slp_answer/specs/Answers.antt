@@ -10,10 +10,10 @@ use Rattle.directory_judge.specs.History.{History, Event}
 use Rattle.directory_judge.specs.Meaning.{rules}
 use Rattle.directory_judge.specs.declared.reason.Because.{Because}
 use Rattle.directory_judge.specs.declared.change.Change.{Change}
-use Rattle.directory_answers.specs.Answers.{IsAnswer}
-use Rattle.directory_answers.specs.Calls.{Opening, Call}
-use Rattle.directory_answers.specs.Outcomes.{Outcome, code_outcome, code_sent}
-use Rattle.directory_answers.specs.Verdicts.{IsLegal, history_with}
+use Rattle.directory_questions.specs.Answers.{IsAnswer}
+use Rattle.directory_questions.specs.Calls.{Opening, Call}
+use Rattle.directory_questions.specs.Outcomes.{Outcome, code_outcome, code_sent}
+use Rattle.directory_questions.specs.Verdicts.{IsLegal, history_with}
 use Rattle.directory_state.specs.Folds.{Fold, HandsOut}
 use Rattle.directory_state.specs.State.{State}
 use Rattle.slp_answer.specs.Audits.{audit_text}

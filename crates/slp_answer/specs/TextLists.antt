@@ -11,7 +11,7 @@ use Rattle.slp_messages.specs.declared.message.TypeReply.TheVariants as type_rep
 use Rattle.slp_text.specs.Ascii.{comma}
 use Rattle.slp_text.specs.Scopes.{comma_list}
 use Rattle.slp_wire.specs.Spelling.{plain_bytes}
-use Rattle.directory_answers.specs.Cuts.{attributes_with, reply_header, types_with}
+use Rattle.directory_questions.specs.Cuts.{attributes_with, reply_header, types_with}
 use Rattle.slp_answer.specs.declared.text_listing.Form.{Form}
 use Rattle.slp_answer.specs.declared.text_listing.Form.TheVariants as form
 

@@ -1,8 +1,8 @@
 ghost use Rattle.std.specs.Prelude.{◌≡◌, ◌==◌, ◌&&◌, ◌||◌, [], false, not, IfOk, Some, if◌then◌else◌};
 ghost use Rattle.slp_headers.specs.Headers.{heading_in, refusal_bytes};
 ghost use Rattle.directory_judge.specs.Judgements.{because_of, finding_of};
-ghost use Rattle.directory_answers.specs.Outcomes.{is_to_many, sent_of, code_outcome, fault_outcome};
-ghost use Rattle.directory_answers.specs.Answers.{advert_code};
+ghost use Rattle.directory_questions.specs.Outcomes.{is_to_many, sent_of, code_outcome, fault_outcome};
+ghost use Rattle.directory_questions.specs.Answers.{advert_code};
 ghost use Rattle.slp_answer.specs.Audits.{audit_text};
 ghost use Rattle.slp_answer.specs.Answers.{audit_in, Tells};
 ghost use Rattle.slp_answer.specs.declared.answer.Sent.TheVariants as sent;
@@ -11,8 +11,8 @@ use crate::answer::{Answer, Sent};
 use crate::audit::{AuditView, put_line};
 use crate::refusals::action_in;
 use access_rules::{Addr, Rules};
-use directory_answers::{Call, decider_of};
 use directory_judge::Finding;
+use directory_questions::{Call, decider_of};
 use slp_text::NoMemory;
 use slp_wire::{HeaderView, WireFault, code, error_reply, flag, function, reply_function};
 

@@ -19,7 +19,7 @@ mod texts;
 pub use acknowledgements::acknowledge;
 pub use answer::{Answer, Sent};
 pub use audit::{Audit, audit_line};
-pub use directory_answers::{Call, is_change};
+pub use directory_questions::{Call, is_change};
 pub use refusals::refusal;
 pub use replies::reply;
 pub use steps::step;

@@ -4,7 +4,7 @@ ghost use Rattle.slp_messages.specs.declared.code.TheConstants.{INTERNAL_ERROR};
 ghost use Rattle.directory_judge.specs.Judgements.{by_step};
 ghost use Rattle.directory_judge.specs.declared.reason.Decider.TheVariants.{Memory};
 ghost use Rattle.slp_answer.specs.Audits.{audit_text};
-ghost use Rattle.directory_answers.specs.Outcomes.{refusal_outcome, sent_of};
+ghost use Rattle.directory_questions.specs.Outcomes.{refusal_outcome, sent_of};
 ghost use Rattle.slp_answer.specs.Answers.{action_of, line_of};
 
 use crate::audit::{AuditView, write_line};

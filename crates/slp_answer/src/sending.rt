@@ -5,8 +5,8 @@ ghost use Rattle.slp_headers.specs.Headers.{heading_in};
 ghost use Rattle.slp_wire.specs.Spelling.{plain_bytes};
 ghost use Rattle.directory_judge.specs.Judgements.{by_step};
 ghost use Rattle.directory_judge.specs.declared.reason.Decider.TheVariants as decider;
-ghost use Rattle.directory_answers.specs.Cuts as spec;
-ghost use Rattle.directory_answers.specs.Outcomes.{is_to_many, outcome, sent_of};
+ghost use Rattle.directory_questions.specs.Cuts as spec;
+ghost use Rattle.directory_questions.specs.Outcomes.{is_to_many, outcome, sent_of};
 ghost use Rattle.slp_answer.specs.Answers.{Tells};
 ghost use Rattle.slp_answer.specs.declared.answer.Sent.TheVariants as sent;
 

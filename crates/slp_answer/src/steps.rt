@@ -1,14 +1,14 @@
 ghost use Rattle.std.specs.Prelude.{◌≡◌, ◌≤◌, [], IfOk, OnErr};
 ghost use Rattle.directory_judge.specs.History.{History};
-ghost use Rattle.directory_answers.specs.Calls.{Opening, call_in};
-ghost use Rattle.directory_answers.specs.Verdicts.{IsLegal};
+ghost use Rattle.directory_questions.specs.Calls.{Opening, call_in};
+ghost use Rattle.directory_questions.specs.Verdicts.{IsLegal};
 ghost use Rattle.directory_state.specs.Folds.{Fold};
 ghost use Rattle.slp_answer.specs.Answers.{Steps};
 
 use crate::acknowledgements::acknowledge;
 use crate::answer::{Answer, Sent};
 use crate::replies::reply;
-use directory_answers::{Call, is_change};
+use directory_questions::{Call, is_change};
 use directory_state::Directory;
 use registry_core::Registry;
 use slp_text::NoMemory;

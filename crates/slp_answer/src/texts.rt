@@ -32,7 +32,7 @@ pub struct AttributeTexts<'u, 'a> {
 }
 
 impl Texts for AttributeTexts<'_, '_> {
-    ghost use Rattle.directory_answers.specs.Items.{attribute_texts};
+    ghost use Rattle.directory_questions.specs.Items.{attribute_texts};
 
     ghost texts = { λ a. attribute_texts a.attributes.now };
 

@@ -2,7 +2,7 @@
 use Rattle.std.specs.Prelude.{◌≡◌, ℕ, List, [], ◌∷◌, ◌++◌, Result, MatchResult}
 use Rattle.slp_headers.specs.Headers.{heading_of}
 use Rattle.slp_text.specs.declared.faults.NoMemory.{NoMemory}
-use Rattle.directory_answers.specs.Outcomes.{refusal_outcome}
+use Rattle.directory_questions.specs.Outcomes.{refusal_outcome}
 use Rattle.slp_answer.specs.declared.answer.Answer.{Answer}
 use Rattle.slp_answer.specs.declared.answer.Sent.{Sent}
 

@@ -4,9 +4,9 @@
 ghost use Rattle.std.specs.Prelude.{◌≡◌, ◌<◌, ◌⊎◌, ◌++◌, ◌∷◌, [], codes, length};
 ghost use Rattle.std.specs.Io.KnownBytes.{Appends};
 ghost use Rattle.std.specs.Process.{exit_status};
-ghost use Rattle.directory_program.specs.Reports.{Reports};
+ghost use Rattle.replay_program.specs.Reports.{Reports};
 
-use directory_program::replay_run;
+use replay_program::replay_run;
 use std::alloc::Global;
 use std::env;
 use std::io::{self, BufWriter, Read, Write};

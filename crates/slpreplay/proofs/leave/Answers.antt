@@ -1,5 +1,5 @@
 use Rattle.std.proofs.Common.{ℕ, sym, subst}
-use Rattle.directory_program.specs.Reports.{Reports}
+use Rattle.replay_program.specs.Reports.{Reports}
 use Rattle.slpreplay.proofs.leave.Goals as goal
 
 -- the status that is left with is the one that was answered

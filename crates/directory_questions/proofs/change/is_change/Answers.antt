@@ -2,8 +2,8 @@ use Rattle.std.proofs.Common.{ap, sym, ◌∙◌, false}
 use Rattle.std.specs.Prelude.{◌==◌, ◌||◌}
 use Rattle.std.specs.Option.{option_map_or}
 use Rattle.slp_headers.specs.Headers.{Heading}
-use Rattle.directory_answers.specs.Answers.{is_change_of}
-use Rattle.directory_answers.proofs.change.is_change.Goals as goal
+use Rattle.directory_questions.specs.Answers.{is_change_of}
+use Rattle.directory_questions.proofs.change.is_change.Goals as goal
 
 pub returns-in-Some : goal.returns-in-Some
 unfolding is_change_of

@@ -5,9 +5,9 @@ use Rattle.std.proofs.lemmas.Bool.Decides.{nat_tests}
 use Rattle.slp_messages.specs.Views.{message_in}
 use Rattle.slp_headers.specs.Headers.{Heading}
 use Rattle.slp_wire.proofs.Messages.{answer_is_found}
-use Rattle.directory_answers.specs.Answers.{is_change_of}
-use Rattle.directory_answers.proofs.Readings.{is_read}
-use Rattle.directory_answers.proofs.reading.asked_change.Goals as goal
+use Rattle.directory_questions.specs.Answers.{is_change_of}
+use Rattle.directory_questions.proofs.Readings.{is_read}
+use Rattle.directory_questions.proofs.reading.asked_change.Goals as goal
 
 is_number : (f n : ℕ) → (f == n) ≡ true → f ≡ n
 is_number f n h = grind (arith, nat_tests)

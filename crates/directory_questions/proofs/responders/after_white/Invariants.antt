@@ -1,6 +1,6 @@
 use Rattle.std.proofs.Common.{◌≡◌, length}
 use Rattle.slp_text.specs.Keys.{trim_start}
-use Rattle.directory_answers.proofs.responders.after_white.Given as goal
+use Rattle.directory_questions.proofs.responders.after_white.Given as goal
 
 abbrev pub invariant-loop-first : goal.invariant-loop-first
 invariant-loop-first l = trim_start l.rest ≡ trim_start l.text

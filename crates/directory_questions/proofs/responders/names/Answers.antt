@@ -1,8 +1,8 @@
 use Rattle.std.proofs.Common.{◌≡◌, true, false, sym, ◌∙◌, rules}
 use Rattle.slp_text.specs.Keys.{trimmed_text}
 use Rattle.slp_text.specs.Words.{bytes_eq}
-use Rattle.directory_answers.proofs.NamedParts.{names-cut, names-last, or-true, or-other}
-use Rattle.directory_answers.proofs.responders.names.Goals as goal
+use Rattle.directory_questions.proofs.NamedParts.{names-cut, names-last, or-true, or-other}
+use Rattle.directory_questions.proofs.responders.names.Goals as goal
 
 pub returns-then-eq : goal.returns-then-eq
 returns-then-eq c =

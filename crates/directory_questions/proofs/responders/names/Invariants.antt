@@ -1,6 +1,6 @@
 use Rattle.std.proofs.Common.{◌≡◌, length}
-use Rattle.directory_answers.specs.Questions.{names}
-use Rattle.directory_answers.proofs.responders.names.Given as goal
+use Rattle.directory_questions.specs.Questions.{names}
+use Rattle.directory_questions.proofs.responders.names.Given as goal
 
 abbrev pub invariant-loop-part : goal.invariant-loop-part
 invariant-loop-part l = names l.rest l.text ≡ names l.responders l.text

@@ -7,7 +7,7 @@ use Rattle.slp_text.specs.Scopes.{printed_scopes, scopes_of}
 use Rattle.slp_text.specs.declared.faults.TextFault.{TextFault}
 use Rattle.slp_text.specs.declared.faults.TextFault.TheVariants.{BadEscape, Reserved, NotUtf8, NoMemory}
 use Rattle.slp_text.proofs.KeyRows.{default_length, default_scopes}
-use Rattle.directory_program.proofs.agent.opening_site.Goals as goal
+use Rattle.replay_program.proofs.agent.opening_site.Goals as goal
 
 -- `DEFAULT` reads as one scope
 read_one : (ks : List (List ℕ)) → scopes_of (codes "DEFAULT") ≡ Ok ks → ks ≡ key_of (codes "DEFAULT") ∷ []

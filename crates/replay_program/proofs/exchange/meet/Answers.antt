@@ -1,10 +1,10 @@
 use Rattle.std.proofs.Common.{sym, ◌∙◌}
 use Rattle.std.specs.Io.KnownBytes.{Appends}
-use Rattle.directory_program.specs.Sessions.{IsAgent}
-use Rattle.directory_program.specs.Worlds.{World, no_memory_text, answer_text}
-use Rattle.directory_program.proofs.CommandsDone.{Meets-answered, Meets-refused}
-use Rattle.directory_program.proofs.exchange.meet.Goals as goal
-use Rattle.directory_program.proofs.exchange.meet.Goals.{in-Ok, in-Err}
+use Rattle.replay_program.specs.Sessions.{IsAgent}
+use Rattle.replay_program.specs.Worlds.{World, no_memory_text, answer_text}
+use Rattle.replay_program.proofs.CommandsDone.{Meets-answered, Meets-refused}
+use Rattle.replay_program.proofs.exchange.meet.Goals as goal
+use Rattle.replay_program.proofs.exchange.meet.Goals.{in-Ok, in-Err}
 
 pub returns-in-Ok-written : goal.returns-in-Ok-written
 returns-in-Ok-written g c = elim c.match-take.branch [

@@ -4,15 +4,15 @@ use Rattle.std.proofs.lemmas.List.{append-nil}
 use Rattle.std.proofs.lemmas.Result.{err_from_is_err_and}
 use Rattle.slp_script.specs.Lines.{HasNoLf}
 use Rattle.slp_script.specs.Commands.{longest_line}
-use Rattle.directory_program.specs.declared.fault.RunFault.{RunFault}
-use Rattle.directory_program.specs.declared.fault.RunFault.TheVariants as fault
-use Rattle.directory_program.specs.declared.fault.RunFault.TheVariants.{NoMemory}
-use Rattle.directory_program.specs.declared.progress.Progress.{Progress}
-use Rattle.directory_program.specs.Reads.{FeedGoesOn, FeedFails}
-use Rattle.directory_program.proofs.Transfers.{Appends-none}
-use Rattle.directory_program.proofs.ScriptPieces.{FeedGoesOn-long, FeedGoesOn-memory, FeedGoesOn-turn_fails, FeedGoesOn-turned, FeedGoesOn-rest}
-use Rattle.directory_program.proofs.ProgressByLine.{fails_as}
-use Rattle.directory_program.proofs.line_input.feed.Goals as goal
+use Rattle.replay_program.specs.declared.fault.RunFault.{RunFault}
+use Rattle.replay_program.specs.declared.fault.RunFault.TheVariants as fault
+use Rattle.replay_program.specs.declared.fault.RunFault.TheVariants.{NoMemory}
+use Rattle.replay_program.specs.declared.progress.Progress.{Progress}
+use Rattle.replay_program.specs.Reads.{FeedGoesOn, FeedFails}
+use Rattle.replay_program.proofs.Transfers.{Appends-none}
+use Rattle.replay_program.proofs.ScriptPieces.{FeedGoesOn-long, FeedGoesOn-memory, FeedGoesOn-turn_fails, FeedGoesOn-turned, FeedGoesOn-rest}
+use Rattle.replay_program.proofs.ProgressByLine.{fails_as}
+use Rattle.replay_program.proofs.line_input.feed.Goals as goal
 use Rattle.slp_text.specs.Ascii.{line_feed}
 
 lengthen_fails : (w v : Option (List ℕ)) (read out line : List ℕ) (p : Progress) (done xs tail piece : List ℕ) (e : RunFault) → FeedGoesOn w v (read ++ done) out line p → piece ≡ done ++ (xs ++ tail) → HasNoLf xs → (e ≡ NoMemory) ⊎ ((e ≡ fault.Line (p.number + 1)) × (longest_line < length (line ++ xs))) → FeedFails w v (read ++ piece) out e

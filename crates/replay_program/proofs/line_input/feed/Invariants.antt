@@ -1,7 +1,7 @@
 use Rattle.std.proofs.Common.{◌≡◌, ◌+◌, ◌≤◌, List, ℕ, ◌++◌, length, vec_len}
 use Rattle.slp_script.specs.Commands.{longest_line}
-use Rattle.directory_program.specs.Reads.{StandsAfter, FeedGoesOn}
-use Rattle.directory_program.proofs.line_input.feed.Given as goal
+use Rattle.replay_program.specs.Reads.{StandsAfter, FeedGoesOn}
+use Rattle.replay_program.proofs.line_input.feed.Given as goal
 
 abbrev pub invariant-loop-front : goal.invariant-loop-front
 invariant-loop-front g l = record {

@@ -1,24 +1,24 @@
 use Rattle.std.proofs.Common.{arith, ◌≡◌, ◌<◌, ◌+◌, ◌++◌, ◌∷◌, [], ℕ, List, Option, Some, None, Result, Ok, Err, length, refl, sym, subst, ◌∙◌}
 use Rattle.std.proofs.lemmas.Result.{err_from_is_err_and}
-use Rattle.directory_program.specs.declared.fault.RunFault.{RunFault}
-use Rattle.directory_program.specs.declared.fault.RunFault.TheVariants as fault
-use Rattle.directory_program.specs.declared.fault.RunFault.TheVariants.{Read, Write, NoMemory}
-use Rattle.directory_program.specs.declared.progress.OpenBlock.{OpenBlock}
-use Rattle.directory_program.specs.declared.progress.Progress.{Progress}
+use Rattle.replay_program.specs.declared.fault.RunFault.{RunFault}
+use Rattle.replay_program.specs.declared.fault.RunFault.TheVariants as fault
+use Rattle.replay_program.specs.declared.fault.RunFault.TheVariants.{Read, Write, NoMemory}
+use Rattle.replay_program.specs.declared.progress.OpenBlock.{OpenBlock}
+use Rattle.replay_program.specs.declared.progress.Progress.{Progress}
 use Rattle.std.specs.Prelude.{MatchOption, ◌==◌}
 use Rattle.std.proofs.Common.{Bool, true, false}
 use Rattle.std.proofs.lemmas.Bool.{eqb-true}
 use Rattle.std.proofs.lemmas.Bool.Decides.{nat_tests}
 use Rattle.std.specs.Io.KnownBytes.{Appends}
-use Rattle.directory_program.specs.Worlds.{RunsPart}
-use Rattle.directory_program.specs.Turns.{TurnsTo}
-use Rattle.directory_program.specs.Reads.{StandsAfter}
-use Rattle.directory_program.specs.Reads.{Ends, EndFails}
+use Rattle.replay_program.specs.Worlds.{RunsPart}
+use Rattle.replay_program.specs.Turns.{TurnsTo}
+use Rattle.replay_program.specs.Reads.{StandsAfter}
+use Rattle.replay_program.specs.Reads.{Ends, EndFails}
 use Rattle.std.proofs.lemmas.List.{append-nil}
-use Rattle.directory_program.proofs.Transfers.{Appends-none, Appends-keeps}
-use Rattle.directory_program.proofs.ProgressByLine.{FailsAs, fails_as}
-use Rattle.directory_program.proofs.ProgressByBytes.{StandsAfter-part, StandsAfter-closed, StandsAfter-open, StandsAfter-closed_last, StandsAfter-open_last, StandsAfter-fault_last}
-use Rattle.directory_program.proofs.line_input.finish.Goals as goal
+use Rattle.replay_program.proofs.Transfers.{Appends-none, Appends-keeps}
+use Rattle.replay_program.proofs.ProgressByLine.{FailsAs, fails_as}
+use Rattle.replay_program.proofs.ProgressByBytes.{StandsAfter-part, StandsAfter-closed, StandsAfter-open, StandsAfter-closed_last, StandsAfter-open_last, StandsAfter-fault_last}
+use Rattle.replay_program.proofs.line_input.finish.Goals as goal
 
 is_some : (l : List ℕ) (b : Bool) → b ≡ (length l == 0) → b ≡ false → 0 < length l
 is_some l b e f = grind (arith, nat_tests)

@@ -1,6 +1,6 @@
 use Rattle.std.proofs.Common.{rules}
-use Rattle.directory_program.proofs.OpeningTexts.{are_opening, no_fault}
-use Rattle.directory_program.proofs.opening.rules.Goals as goal
+use Rattle.replay_program.proofs.OpeningTexts.{are_opening, no_fault}
+use Rattle.replay_program.proofs.opening.rules.Goals as goal
 
 pub unreachable-requires : goal.unreachable-requires
 unreachable-requires c = no_fault c.in-Err-Shape.field-0 (search rules) c.in-Err-Shape.ensures

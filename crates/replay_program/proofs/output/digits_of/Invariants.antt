@@ -1,6 +1,6 @@
 use Rattle.std.proofs.Common.{◌≡◌, ℕ, ◌<◌, ◌*◌, ◌/◌, ◌%◌, ◌++◌, take, drop, length, slice_index}
 use Rattle.hex.specs.Hex.{encode_lower, lower_digits}
-use Rattle.directory_program.proofs.output.digits_of.Given as goal
+use Rattle.replay_program.proofs.output.digits_of.Given as goal
 
 -- the first and the second digit of each byte so far
 abbrev pub invariant-loop-i : goal.invariant-loop-i

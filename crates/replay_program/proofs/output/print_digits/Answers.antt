@@ -2,9 +2,9 @@ use Rattle.std.proofs.Common.{List, ℕ, [], ◌++◌, refl, sym, ap, subst, ◌
 use Rattle.std.proofs.lemmas.Result.{on_ok_weaker}
 use Rattle.std.specs.Io.KnownBytes.{Appends}
 use Rattle.hex.specs.Hex.{encode_lower, encode_with, lower_digits}
-use Rattle.directory_program.proofs.Digits.{encoded-append}
-use Rattle.directory_program.proofs.Transfers.{Appends-none, Appends-append}
-use Rattle.directory_program.proofs.output.print_digits.Goals as goal
+use Rattle.replay_program.proofs.Digits.{encoded-append}
+use Rattle.replay_program.proofs.Transfers.{Appends-none, Appends-append}
+use Rattle.replay_program.proofs.output.print_digits.Goals as goal
 
 pub loop-rest-init : goal.loop-rest-init
 unfolding encode_with

@@ -1,7 +1,7 @@
 use Rattle.std.proofs.Common.{◌≡◌, ◌++◌, List, ℕ, length}
 use Rattle.std.specs.Io.KnownBytes.{Appends}
 use Rattle.hex.specs.Hex.{encode_lower}
-use Rattle.directory_program.proofs.output.print_digits.Given as goal
+use Rattle.replay_program.proofs.output.print_digits.Given as goal
 
 -- the digits of what is in front of the rest are written
 abbrev pub invariant-loop-rest : goal.invariant-loop-rest

@@ -1,5 +1,5 @@
-use Rattle.directory_program.proofs.Digits.{encoded-front}
-use Rattle.directory_program.proofs.output.print_piece.Goals as goal
+use Rattle.replay_program.proofs.Digits.{encoded-front}
+use Rattle.replay_program.proofs.output.print_piece.Goals as goal
 
 pub returns : goal.returns
 returns g c =

@@ -1,6 +1,6 @@
 use Rattle.std.proofs.Common.{refl}
-use Rattle.directory_program.specs.Reports.{AtFault}
-use Rattle.directory_program.proofs.program.replay.Goals as goal
+use Rattle.replay_program.specs.Reports.{AtFault}
+use Rattle.replay_program.proofs.program.replay.Goals as goal
 
 pub returns-in-Err-Line : goal.returns-in-Err-Line
 returns-in-Err-Line g c =

@@ -2,10 +2,10 @@ use Rattle.std.proofs.Common.{arith, ◌≡◌, ℕ, Bool, false, List, Option, 
 use Rattle.std.specs.Prelude.{◌==◌}
 use Rattle.std.specs.Io.KnownBytes.{Keeps}
 use Rattle.std.proofs.lemmas.Bool.Decides.{nat_tests}
-use Rattle.directory_program.specs.Reports.{Reports, Done, Unread, Unwritten, AtFault, Lacks}
-use Rattle.directory_program.proofs.Transfers.{Appends-keeps}
-use Rattle.directory_program.proofs.program.replay_run.Goals as goal
-use Rattle.directory_program.proofs.program.replay_run.Goals.{then-is_empty, else-is_empty+in-Ok, else-is_empty+in-Err}
+use Rattle.replay_program.specs.Reports.{Reports, Done, Unread, Unwritten, AtFault, Lacks}
+use Rattle.replay_program.proofs.Transfers.{Appends-keeps}
+use Rattle.replay_program.proofs.program.replay_run.Goals as goal
+use Rattle.replay_program.proofs.program.replay_run.Goals.{then-is_empty, else-is_empty+in-Ok, else-is_empty+in-Err}
 
 -- what was reported stays so when the writer is flushed
 Reports-keeps : (r n w v u : Option (List ℕ)) (status : ℕ) → Reports r n w v status → Keeps v u → Reports r n w u status

@@ -3,11 +3,11 @@ use Rattle.slp_stream.specs.Framing.{Frames}
 use Rattle.slp_script.specs.Commands.{Single}
 use Rattle.slp_script.specs.declared.command.Order.{Order}
 use Rattle.slp_script.specs.declared.command.Order.TheVariants.{Blank, At, From, Loop, Udp, Open, Tcp, Sweep}
-use Rattle.directory_program.specs.Sessions.{Acts}
-use Rattle.directory_program.specs.declared.session.Session.{Session}
-use Rattle.directory_program.proofs.Transfers.{Appends-none}
-use Rattle.directory_program.proofs.CommandsDone.{Acts-at, Acts-from, Acts-open}
-use Rattle.directory_program.proofs.progress.carry_out.Goals as goal
+use Rattle.replay_program.specs.Sessions.{Acts}
+use Rattle.replay_program.specs.declared.session.Session.{Session}
+use Rattle.replay_program.proofs.Transfers.{Appends-none}
+use Rattle.replay_program.proofs.CommandsDone.{Acts-at, Acts-from, Acts-open}
+use Rattle.replay_program.proofs.progress.carry_out.Goals as goal
 
 Acts-order : (s : Session) (o p : Order) (now : List ℕ) (t : Session) → o ≡ p → Acts s (Single p) now t → Acts s (Single o) now t
 Acts-order s o p now t is h = subst (λ x. Acts s (Single x) now t) (sym is) h

@@ -1,4 +1,4 @@
-use Rattle.directory_program.proofs.progress.close.Goals as goal
+use Rattle.replay_program.proofs.progress.close.Goals as goal
 
 pub returns-in-Config : goal.returns-in-Config
 returns-in-Config g c = rw c.in-Config.is c.close_config.ensures

@@ -2,14 +2,14 @@ use Rattle.std.proofs.Common.{ℕ, List, [], ◌∷◌, ◌++◌, codes, sym, su
 use Rattle.std.specs.Io.KnownBytes.{Appends}
 use Rattle.std.specs.Option.{option_copied}
 use Rattle.slp_script.specs.declared.command.Block.TheVariants as block
-use Rattle.directory_program.specs.Sessions.{IsAgent}
+use Rattle.replay_program.specs.Sessions.{IsAgent}
 use Rattle.site_reports.specs.Reports.{config_text}
-use Rattle.directory_program.specs.Worlds.{World}
-use Rattle.directory_program.specs.Turns.{Closes}
-use Rattle.directory_program.specs.declared.session.Session.{Session}
-use Rattle.directory_program.proofs.CommandsDone.{Closes-late, Closes-told}
-use Rattle.directory_program.proofs.progress.close_config.Goals as goal
-use Rattle.directory_program.proofs.progress.close_config.Goals.{then-session, else-session+in_ok-configure}
+use Rattle.replay_program.specs.Worlds.{World}
+use Rattle.replay_program.specs.Turns.{Closes}
+use Rattle.replay_program.specs.declared.session.Session.{Session}
+use Rattle.replay_program.proofs.CommandsDone.{Closes-late, Closes-told}
+use Rattle.replay_program.proofs.progress.close_config.Goals as goal
+use Rattle.replay_program.proofs.progress.close_config.Goals.{then-session, else-session+in_ok-configure}
 use Rattle.slp_text.specs.Ascii.{line_feed}
 
 late_line : List ℕ

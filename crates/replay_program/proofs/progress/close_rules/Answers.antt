@@ -1,9 +1,9 @@
 use Rattle.std.specs.Option.{option_copied}
-use Rattle.directory_program.specs.Sessions.{IsAgent}
+use Rattle.replay_program.specs.Sessions.{IsAgent}
 use Rattle.site_reports.specs.Reports.{rules_text}
-use Rattle.directory_program.specs.Worlds.{World}
-use Rattle.directory_program.proofs.CommandsDone.{Closes-ruled}
-use Rattle.directory_program.proofs.progress.close_rules.Goals as goal
+use Rattle.replay_program.specs.Worlds.{World}
+use Rattle.replay_program.proofs.CommandsDone.{Closes-ruled}
+use Rattle.replay_program.proofs.progress.close_rules.Goals as goal
 
 pub returns-in-Ok : goal.returns-in-Ok
 returns-in-Ok g c =

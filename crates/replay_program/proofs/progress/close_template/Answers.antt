@@ -2,14 +2,14 @@ use Rattle.std.proofs.Common.{sym, subst, ◌∙◌}
 use Rattle.std.specs.Io.KnownBytes.{Appends}
 use Rattle.std.specs.Option.{option_copied}
 use Rattle.slp_script.specs.declared.command.Block.TheVariants as block
-use Rattle.directory_program.specs.Sessions.{IsAgent}
+use Rattle.replay_program.specs.Sessions.{IsAgent}
 use Rattle.site_reports.specs.Reports.{template_text}
-use Rattle.directory_program.specs.Worlds.{World, late_text}
-use Rattle.directory_program.specs.Turns.{Closes}
-use Rattle.directory_program.specs.declared.session.Session.{Session}
-use Rattle.directory_program.proofs.CommandsDone.{Closes-added, Closes-added_late}
-use Rattle.directory_program.proofs.progress.close_template.Goals as goal
-use Rattle.directory_program.proofs.progress.close_template.Goals.{then-session, else-session+in_ok-add_template}
+use Rattle.replay_program.specs.Worlds.{World, late_text}
+use Rattle.replay_program.specs.Turns.{Closes}
+use Rattle.replay_program.specs.declared.session.Session.{Session}
+use Rattle.replay_program.proofs.CommandsDone.{Closes-added, Closes-added_late}
+use Rattle.replay_program.proofs.progress.close_template.Goals as goal
+use Rattle.replay_program.proofs.progress.close_template.Goals.{then-session, else-session+in_ok-add_template}
 
 pub returns-in-Ok : goal.returns-in-Ok
 returns-in-Ok g c = elim c.if-session.branch [

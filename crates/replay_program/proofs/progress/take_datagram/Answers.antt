@@ -1,5 +1,5 @@
-use Rattle.directory_program.proofs.CommandsDone.{Acts-udp, MatchResult-more}
-use Rattle.directory_program.proofs.progress.take_datagram.Goals as goal
+use Rattle.replay_program.proofs.CommandsDone.{Acts-udp, MatchResult-more}
+use Rattle.replay_program.proofs.progress.take_datagram.Goals as goal
 
 pub returns : goal.returns
 returns g c =

@@ -1,5 +1,5 @@
-use Rattle.directory_program.proofs.CommandsDone.{Acts-tcp, MatchResult-more}
-use Rattle.directory_program.proofs.progress.take_stream.Goals as goal
+use Rattle.replay_program.proofs.CommandsDone.{Acts-tcp, MatchResult-more}
+use Rattle.replay_program.proofs.progress.take_stream.Goals as goal
 
 pub returns : goal.returns
 returns g c =

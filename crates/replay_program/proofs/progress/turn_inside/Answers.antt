@@ -2,8 +2,8 @@ use Rattle.std.proofs.Common.{◌≡◌, inl, refl, rules, subst}
 use Rattle.std.specs.Prelude.{string_bytes}
 use Rattle.std.specs.Option.{option_copied, option_map}
 use Rattle.slp_script.specs.Commands.{block_end}
-use Rattle.directory_program.specs.Turns.{Closes}
-use Rattle.directory_program.proofs.progress.turn_inside.Goals as goal
+use Rattle.replay_program.specs.Turns.{Closes}
+use Rattle.replay_program.proofs.progress.turn_inside.Goals as goal
 
 pub returns-then-eq : goal.returns-then-eq
 returns-then-eq g c =

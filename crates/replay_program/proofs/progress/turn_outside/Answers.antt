@@ -4,13 +4,13 @@ use Rattle.slp_script.specs.Commands.{order_of}
 use Rattle.slp_script.specs.Lines.{Line}
 use Rattle.slp_script.specs.declared.command.Order.{Order}
 use Rattle.slp_script.specs.Readings.{IsReading}
-use Rattle.directory_program.specs.Turns.{OrderFails, OutsideFails}
-use Rattle.directory_program.specs.declared.fault.RunFault.{RunFault}
-use Rattle.directory_program.specs.declared.fault.RunFault.TheVariants as fault
-use Rattle.directory_program.specs.declared.fault.RunFault.TheVariants.{Read, Write, NoMemory}
-use Rattle.directory_program.specs.declared.session.Session.{Session}
-use Rattle.directory_program.proofs.Transfers.{Keeps-same, Appends-none}
-use Rattle.directory_program.proofs.progress.turn_outside.Goals as goal
+use Rattle.replay_program.specs.Turns.{OrderFails, OutsideFails}
+use Rattle.replay_program.specs.declared.fault.RunFault.{RunFault}
+use Rattle.replay_program.specs.declared.fault.RunFault.TheVariants as fault
+use Rattle.replay_program.specs.declared.fault.RunFault.TheVariants.{Read, Write, NoMemory}
+use Rattle.replay_program.specs.declared.session.Session.{Session}
+use Rattle.replay_program.proofs.Transfers.{Keeps-same, Appends-none}
+use Rattle.replay_program.proofs.progress.turn_outside.Goals as goal
 
 pub returns-in_ok-carry_out-in-Order : goal.returns-in_ok-carry_out-in-Order
 unfolding IsReading

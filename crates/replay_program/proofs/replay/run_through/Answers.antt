@@ -1,11 +1,11 @@
 use Rattle.std.proofs.Common.{arith, ◌≤◌, ◌+◌, ◌*◌, ◌++◌, [], ℕ, List, take, length}
 use Rattle.std.proofs.lemmas.Grind.{common_steps}
 use Rattle.std.proofs.lemmas.Result.{err_from_is_err_and}
-use Rattle.directory_program.specs.Reads.{StandsAfter}
-use Rattle.directory_program.proofs.Transfers.{Keeps-same, Appends-none, Appends-append, Appends-keeps, Consumes-none, Consumes-append}
-use Rattle.directory_program.proofs.ScriptReads.{StandsAfter-new, Consumes-keeps, Consumes-end, Gives-ends, Gives-failed, Gives-read}
-use Rattle.directory_program.proofs.replay.run_through.Goals as goal
-use Rattle.directory_program.proofs.replay.run_through.Goals.{in-Ok+in_ok-feed-in-Ok, in-Err+else-ne}
+use Rattle.replay_program.specs.Reads.{StandsAfter}
+use Rattle.replay_program.proofs.Transfers.{Keeps-same, Appends-none, Appends-append, Appends-keeps, Consumes-none, Consumes-append}
+use Rattle.replay_program.proofs.ScriptReads.{StandsAfter-new, Consumes-keeps, Consumes-end, Gives-ends, Gives-failed, Gives-read}
+use Rattle.replay_program.proofs.replay.run_through.Goals as goal
+use Rattle.replay_program.proofs.replay.run_through.Goals.{in-Ok+in_ok-feed-in-Ok, in-Err+else-ne}
 
 grown : (p q t n : ℕ) → q ≤ p + n → n ≤ 65536 → p ≤ t * 65536 → q ≤ (t + 1) * 65536
 grown p q t n more few low = omega arith

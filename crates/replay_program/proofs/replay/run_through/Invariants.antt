@@ -1,8 +1,8 @@
 use Rattle.std.proofs.Common.{◌*◌, ◌≤◌, List, ℕ, vec_len}
 use Rattle.std.specs.Io.KnownBytes.{Appends, Consumes}
 use Rattle.slp_script.specs.Commands.{longest_line}
-use Rattle.directory_program.specs.Reads.{StandsAfter}
-use Rattle.directory_program.proofs.replay.run_through.Given as goal
+use Rattle.replay_program.specs.Reads.{StandsAfter}
+use Rattle.replay_program.proofs.replay.run_through.Given as goal
 
 abbrev pub invariant-loop-turn : goal.invariant-loop-turn
 invariant-loop-turn g l = record {

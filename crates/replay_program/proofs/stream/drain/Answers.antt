@@ -1,9 +1,9 @@
 use Rattle.std.proofs.Common.{◌≡◌, ◌∷◌, ◌++◌, [], List, ℕ, Some, None, Ok, Err, sym, ap, ◌∙◌}
 use Rattle.slp_stream.specs.Framing.{Frames, next_answer, answer_in}
-use Rattle.directory_program.specs.Worlds.{bad_length_text}
-use Rattle.directory_program.proofs.Transfers.{Appends-none, Appends-append}
-use Rattle.directory_program.proofs.StreamMessages.{Drained-begin, Drained-more, Drained-wants, Drained-bad}
-use Rattle.directory_program.proofs.stream.drain.Goals as goal
+use Rattle.replay_program.specs.Worlds.{bad_length_text}
+use Rattle.replay_program.proofs.Transfers.{Appends-none, Appends-append}
+use Rattle.replay_program.proofs.StreamMessages.{Drained-begin, Drained-more, Drained-wants, Drained-bad}
+use Rattle.replay_program.proofs.stream.drain.Goals as goal
 
 pub loop-next-init : goal.loop-next-init
 loop-next-init g c = ([], [], Appends-none _, Drained-begin c.args.agent.now c.args.stream.now c.requires.going)

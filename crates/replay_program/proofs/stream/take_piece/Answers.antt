@@ -2,12 +2,12 @@ use Rattle.std.proofs.Common.{◌≡◌, Option, None, Some, Result, Ok, Err, in
 use Rattle.std.specs.Prelude.{◌⊎◌, MatchResult}
 use Rattle.slp_stream.specs.Framing.{Frames, Refuses}
 use Rattle.slp_stream.specs.declared.fault.FrameFault.{FrameFault}
-use Rattle.directory_program.specs.declared.fault.RunFault.{RunFault}
-use Rattle.directory_program.specs.declared.fault.RunFault.TheVariants.{Write, NoMemory}
+use Rattle.replay_program.specs.declared.fault.RunFault.{RunFault}
+use Rattle.replay_program.specs.declared.fault.RunFault.TheVariants.{Write, NoMemory}
 use Rattle.std.proofs.Common.{rules}
-use Rattle.directory_program.specs.Worlds.{closed_text}
-use Rattle.directory_program.proofs.StreamMessages.{TakesPiece-closed, TakesPiece-fed}
-use Rattle.directory_program.proofs.stream.take_piece.Goals as goal
+use Rattle.replay_program.specs.Worlds.{closed_text}
+use Rattle.replay_program.proofs.StreamMessages.{TakesPiece-closed, TakesPiece-fed}
+use Rattle.replay_program.proofs.stream.take_piece.Goals as goal
 
 unrefused : (f : Frames) (refused : Option FrameFault) → f.refused ≡ refused → Refuses f (Ok tt) → f.refused ≡ None
 unrefused f None is h = is

@@ -3,7 +3,7 @@ use Rattle.std.specs.Prelude.{MatchResult}
 use Rattle.std.proofs.lemmas.Result.{IfOk-weaker}
 use Rattle.slp_messages.specs.Views.{message_in}
 use Rattle.slp_headers.specs.Headers.{heading_in}
-use Rattle.directory_answers.specs.Readings.{IsRead, IsUnread}
+use Rattle.directory_questions.specs.Readings.{IsRead, IsUnread}
 use Rattle.slp_answer.proofs.AnswersTold.{may-change, told-acknowledges, fault-acknowledges, unheaded-acknowledges}
 use Rattle.slp_answer.proofs.acknowledgements.acknowledge_bytes.Goals as goal
 

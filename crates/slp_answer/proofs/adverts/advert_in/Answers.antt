@@ -3,7 +3,7 @@ use Rattle.slp_headers.specs.Headers.{heading_in}
 use Rattle.slp_text.specs.Scopes.{printed_scopes}
 use Rattle.access_rules.specs.Addresses.{address_text}
 use Rattle.slp_wire.specs.Spelling.{plain_bytes}
-use Rattle.directory_answers.specs.Answers.{advert_of}
+use Rattle.directory_questions.specs.Answers.{advert_of}
 use Rattle.slp_answer.proofs.AdvertSizes.{advert_size, parts_size}
 use Rattle.slp_answer.proofs.adverts.advert_in.Goals as goal
 

@@ -5,8 +5,8 @@ use Rattle.std.proofs.lemmas.Result.{IfOk-weaker}
 use Rattle.slp_headers.specs.Headers.{heading_in}
 use Rattle.directory_judge.specs.Judgements.{supports}
 use Rattle.directory_judge.specs.Sites.{Site}
-use Rattle.directory_answers.specs.Answers.{advert_outcome, is_agent_for}
-use Rattle.directory_answers.specs.Calls.{call_in}
+use Rattle.directory_questions.specs.Answers.{advert_outcome, is_agent_for}
+use Rattle.directory_questions.specs.Calls.{call_in}
 use Rattle.slp_answer.specs.Answers.{Tells}
 use Rattle.slp_answer.proofs.AnswersTold.{agent-for, agents-answer}
 use Rattle.slp_answer.proofs.adverts.answer_agents.Goals as goal

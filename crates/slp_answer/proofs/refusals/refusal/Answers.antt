@@ -1,6 +1,6 @@
 use Rattle.std.proofs.Common.{[], Option, take, sym, ap, ◌∙◌}
 use Rattle.slp_headers.specs.Headers.{Heading, heading_in}
-use Rattle.directory_answers.specs.Outcomes.{refusal_outcome}
+use Rattle.directory_questions.specs.Outcomes.{refusal_outcome}
 use Rattle.slp_answer.specs.Answers.{line_of}
 use Rattle.slp_answer.proofs.RefusalLines.{line_is_refused}
 use Rattle.slp_answer.proofs.refusals.refusal.Goals as goal

@@ -1,6 +1,6 @@
 use Rattle.std.proofs.Common.{rules}
 use Rattle.slp_headers.specs.Headers.{heading_in}
-use Rattle.directory_answers.specs.Calls.{call_in}
+use Rattle.directory_questions.specs.Calls.{call_in}
 use Rattle.slp_answer.proofs.AnswersTold.{quiet-replies, unheaded-replies}
 use Rattle.slp_answer.proofs.replies.answer_bytes.Goals as goal
 

@@ -1,10 +1,10 @@
 use Rattle.std.proofs.Common.{Some, None, refl, sym, subst}
 use Rattle.std.specs.Prelude.{IfOk}
 use Rattle.slp_headers.specs.Headers.{heading_in}
-use Rattle.directory_answers.specs.Answers.{sense_of_question, IsAnswerTo}
-use Rattle.directory_answers.specs.Calls.{call_in}
-use Rattle.directory_answers.specs.Outcomes.{Outcome, silence}
-use Rattle.directory_answers.specs.declared.question.Question.{Question}
+use Rattle.directory_questions.specs.Answers.{sense_of_question, IsAnswerTo}
+use Rattle.directory_questions.specs.Calls.{call_in}
+use Rattle.directory_questions.specs.Outcomes.{Outcome, silence}
+use Rattle.directory_questions.specs.declared.question.Question.{Question}
 use Rattle.slp_answer.specs.Answers.{Tells}
 use Rattle.slp_answer.proofs.AnswersTold.{silence-tells}
 use Rattle.slp_answer.proofs.replies.answer_question.Goals as goal

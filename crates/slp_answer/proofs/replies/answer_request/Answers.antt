@@ -2,8 +2,8 @@ use Rattle.std.proofs.Common.{List, ℕ, subst, ◌∙◌}
 use Rattle.std.specs.Prelude.{MatchResult}
 use Rattle.std.proofs.lemmas.Result.{IfOk-weaker}
 use Rattle.slp_headers.specs.Headers.{heading_in}
-use Rattle.directory_answers.specs.Calls.{call_in}
-use Rattle.directory_answers.specs.Readings.{IsAsked, IsUnread}
+use Rattle.directory_questions.specs.Calls.{call_in}
+use Rattle.directory_questions.specs.Readings.{IsAsked, IsUnread}
 use Rattle.slp_answer.proofs.AnswersTold.{asked-replies, fault-replies}
 use Rattle.slp_answer.proofs.replies.answer_request.Goals as goal
 

@@ -4,8 +4,8 @@ use Rattle.std.proofs.lemmas.Result.{IfOk-weaker}
 use Rattle.slp_headers.specs.Headers.{heading_in}
 use Rattle.directory_judge.specs.Judgements.{supports}
 use Rattle.directory_judge.specs.Sites.{Site}
-use Rattle.directory_answers.specs.Answers.{language_outcome}
-use Rattle.directory_answers.specs.Calls.{call_in}
+use Rattle.directory_questions.specs.Answers.{language_outcome}
+use Rattle.directory_questions.specs.Calls.{call_in}
 use Rattle.directory_state.specs.Fronts.{items_in}
 use Rattle.slp_answer.proofs.Sizes.{room-short}
 use Rattle.slp_answer.proofs.AnswersTold.{listed-answer, foreign-answer, found-supported, refused-supported}

@@ -5,7 +5,7 @@ use Rattle.slp_headers.specs.Headers.{heading_in}
 use Rattle.directory_judge.specs.Judgements.{by_step}
 use Rattle.directory_judge.specs.declared.reason.Because.{Because}
 use Rattle.directory_judge.specs.declared.reason.Decider.TheVariants as decider
-use Rattle.directory_answers.specs.Outcomes.{code_sent, is_to_many, outcome}
+use Rattle.directory_questions.specs.Outcomes.{code_sent, is_to_many, outcome}
 use Rattle.slp_answer.specs.Answers.{code_of}
 use Rattle.slp_answer.specs.declared.answer.Sent.TheVariants as sent
 use Rattle.slp_answer.proofs.sending.send_written.Goals as goal

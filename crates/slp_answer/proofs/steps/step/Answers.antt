@@ -1,4 +1,4 @@
-use Rattle.directory_answers.specs.Calls.{call_in}
+use Rattle.directory_questions.specs.Calls.{call_in}
 use Rattle.slp_answer.proofs.AnswersTold.{changed-steps}
 use Rattle.slp_answer.proofs.steps.step.Goals as goal
 

@@ -5,10 +5,10 @@ use Rattle.slp_headers.specs.Headers.{heading_in}
 use Rattle.directory_judge.specs.Judgements.{by_step, supports}
 use Rattle.directory_judge.specs.Sites.{Site}
 use Rattle.directory_judge.specs.declared.reason.Decider.TheVariants as decider
-use Rattle.directory_answers.specs.Answers.{language_outcome, IsCutReply}
-use Rattle.directory_answers.specs.Calls.{call_in}
-use Rattle.directory_answers.specs.Cuts.{attributes_with}
-use Rattle.directory_answers.specs.Items.{attribute_texts, kind_asked}
+use Rattle.directory_questions.specs.Answers.{language_outcome, IsCutReply}
+use Rattle.directory_questions.specs.Calls.{call_in}
+use Rattle.directory_questions.specs.Cuts.{attributes_with}
+use Rattle.directory_questions.specs.Items.{attribute_texts, kind_asked}
 use Rattle.slp_answer.proofs.AnswersTold.{described-answer, elsewhere-answer, found-supported, refused-supported}
 use Rattle.slp_answer.proofs.text_replies.answer_attributes.Goals as goal
 

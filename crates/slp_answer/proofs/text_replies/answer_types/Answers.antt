@@ -4,8 +4,8 @@ use Rattle.std.proofs.lemmas.Result.{IfOk-weaker}
 use Rattle.slp_headers.specs.Headers.{heading_in}
 use Rattle.directory_judge.specs.Judgements.{supports}
 use Rattle.directory_judge.specs.Sites.{Site}
-use Rattle.directory_answers.specs.Calls.{call_in}
-use Rattle.directory_answers.specs.Items.{AreTypesOf}
+use Rattle.directory_questions.specs.Calls.{call_in}
+use Rattle.directory_questions.specs.Items.{AreTypesOf}
 use Rattle.directory_state.specs.Searches.{entries_lent}
 use Rattle.slp_answer.proofs.AnswersTold.{found-supported, named-answer}
 use Rattle.slp_answer.proofs.text_replies.answer_types.Goals as goal

@@ -4,7 +4,7 @@ use Rattle.std.proofs.lemmas.Result.{IfOk-weaker}
 use Rattle.slp_headers.specs.Headers.{heading_in}
 use Rattle.directory_judge.specs.Judgements.{by_step}
 use Rattle.directory_judge.specs.declared.reason.Decider.TheVariants as decider
-use Rattle.directory_answers.specs.Outcomes.{Outcome, outcome, sent_of}
+use Rattle.directory_questions.specs.Outcomes.{Outcome, outcome, sent_of}
 use Rattle.slp_answer.proofs.TextFronts.{listed-cut, listed-some}
 use Rattle.slp_answer.proofs.text_replies.send_texts.Goals as goal
 

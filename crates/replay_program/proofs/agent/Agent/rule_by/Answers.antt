@@ -1,7 +1,7 @@
 use Rattle.std.proofs.Common.{max, refl}
 use Rattle.std.specs.Arc.{arc_value}
-use Rattle.directory_program.proofs.Operations.{IsAgent-reloaded_world}
-use Rattle.directory_program.proofs.agent.Agent.rule_by.Goals as goal
+use Rattle.replay_program.proofs.Operations.{IsAgent-reloaded_world}
+use Rattle.replay_program.proofs.agent.Agent.rule_by.Goals as goal
 
 pub returns : goal.returns
 returns c =

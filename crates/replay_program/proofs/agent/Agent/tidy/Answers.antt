@@ -1,6 +1,6 @@
 use Rattle.std.proofs.Common.{max, refl}
-use Rattle.directory_program.proofs.Operations.{IsAgent-swept_world}
-use Rattle.directory_program.proofs.agent.Agent.tidy.Goals as goal
+use Rattle.replay_program.proofs.Operations.{IsAgent-swept_world}
+use Rattle.replay_program.proofs.agent.Agent.tidy.Goals as goal
 
 pub returns : goal.returns
 returns c =

@@ -1,8 +1,8 @@
 use Rattle.std.proofs.Common.{refl, sym, ap, ◌∙◌}
-use Rattle.directory_program.specs.declared.progress.Progress.{Progress}
-use Rattle.directory_program.proofs.CommandsDone.{TurnsTo-outside, TurnsTo-inside}
-use Rattle.directory_program.proofs.progress.Progress.turn.Goals as goal
-use Rattle.directory_program.proofs.progress.Progress.turn.Goals.{in-None+in_ok-turn_outside-in-None, in-Some+in_ok-self-in-Some}
+use Rattle.replay_program.specs.declared.progress.Progress.{Progress}
+use Rattle.replay_program.proofs.CommandsDone.{TurnsTo-outside, TurnsTo-inside}
+use Rattle.replay_program.proofs.progress.Progress.turn.Goals as goal
+use Rattle.replay_program.proofs.progress.Progress.turn.Goals.{in-None+in_ok-turn_outside-in-None, in-Some+in_ok-self-in-Some}
 
 pub returns : goal.returns
 returns g c = elim c.match-take.branch [

@@ -1,7 +1,7 @@
 use Rattle.std.proofs.Common.{refl}
 use Rattle.std.proofs.lemmas.Result.{err_from_is_err_and}
-use Rattle.directory_program.proofs.ScriptReads.{StandsAfter-begin, Gives-lacks, Gives-known, KnownGives-lacks}
-use Rattle.directory_program.proofs.replay.Replay.run.Goals as goal
+use Rattle.replay_program.proofs.ScriptReads.{StandsAfter-begin, Gives-lacks, Gives-known, KnownGives-lacks}
+use Rattle.replay_program.proofs.replay.Replay.run.Goals as goal
 
 pub returns-in_err-chunk-clause-gives : goal.returns-in_err-chunk-clause-gives
 returns-in_err-chunk-clause-gives g c =
