@@ -16,7 +16,7 @@ use std::rt::Files;
 use std::sync::atomic::AtomicBool;
 use std::sync::{Mutex, Wait};
 use std::thread;
-use std::thread::Threads;
+use std::thread::{Scope, Threads};
 use std::time::Clock;
 
 /// The status of a call with words that are not understood.
@@ -33,8 +33,34 @@ fn end_status(told: Result<(), LoopFault>) -> u8
     }
 }
 
-// Has the loop run on a thread of its own while the words on standard input last, and answers the status. It is `ready` once
-// that thread runs; where none can be made, memory is wanting.
+// Has the loop run on a thread of a scope while the words on standard input last, and answers the status. It is `ready` once that
+// thread runs; where none can be made, memory is wanting.
+fn serve_in<'s, E, R, S, I, W>(
+    rt: &'s R,
+    scope: &Scope<'s, E>,
+    stopping: &'s AtomicBool,
+    agent: AgentLoop<S>,
+    console: Console<'_, '_, R, I, W>,
+) -> Result<u8, StartFault>
+where
+    R: Threads + Wait + Clock + Files + Sync,
+    S: Serve + Drop + Send + 's,
+    I: Read + Send,
+    W: Write + Send,
+{
+    let mut console = console;
+    let run = move || {
+        let mut agent = agent;
+        agent.run(rt, stopping)
+    };
+    let Ok(served) = scope.spawn(run) else {
+        return Err(StartFault::NoMemory);
+    };
+    console.run(stopping);
+    Ok(end_status(served.join(rt)))
+}
+
+// Serves on threads that have ended when it answers.
 fn serve<R, S, I, W>(
     rt: &R,
     agent: AgentLoop<S>,
@@ -49,16 +75,7 @@ where
     let stop = AtomicBool::new(false);
     let stopping = &stop;
     thread::scope(thread::scope_env(), rt, move |scope| {
-        let mut console = console;
-        let run = move || {
-            let mut agent = agent;
-            agent.run(rt, stopping)
-        };
-        let Ok(served) = scope.spawn(run) else {
-            return Err(StartFault::NoMemory);
-        };
-        console.run(stopping);
-        Ok(end_status(served.join(rt)))
+        serve_in(rt, scope, stopping, agent, console)
     })
 }
 
