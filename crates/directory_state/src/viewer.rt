@@ -29,6 +29,7 @@ pub struct Sight {
 
 impl Viewer<'_> {
     // Whether an entry stands in a scope in which the asker may see its type.
+    #[inline(always)]
     fn is_open_in(&self, entry: &Entry, scope: &Key) -> bool
         ensures { result ≡ is_open_in self.now.rules.now self.now.asker entry.now scope.now }
     {
@@ -41,15 +42,14 @@ impl Viewer<'_> {
 
     /// The place from another one on, counted from 0, of the first scope in which an entry is open, of those that are asked for.
     /// Takes no memory.
+    #[inline(always)]
     pub fn next_open(&self, entry: &Entry, from: usize) -> Option<usize>
         ensures { let opened = filter (is_open_in self.now.rules.now self.now.asker entry.now) in
             MatchOption result (opened (drop from self.now.asked) ≡ [])
             (λ place. opened (drop from self.now.asked) ≡ get_or self.now.asked place [] ∷ opened (drop (place + 1) self.now.asked)) }
     {
         for place in from..self.asked.len() {
-            if let Some(scope) = self.asked.at(place)
-                && self.is_open_in(entry, scope)
-            {
+            if self.is_open_in(entry, self.asked.at(place)) {
                 return Some(place);
             }
         }
@@ -58,6 +58,7 @@ impl Viewer<'_> {
 
     /// What is seen of an entry: it is live, and open to the asker in one of the scopes that are asked for. Each of these is asked
     /// once, up to the first in which it is open. Takes no memory.
+    #[inline(always)]
     pub fn view(&self, entry: &Entry) -> Option<Sight>
         ensures seen { is_some result ≡ is_seen self.now entry.now }
         ensures scopes { IfSome result (λ s. open_scopes self.now entry.now ≡ get_or self.now.asked s.first [] ∷ filter (is_open_in self.now.rules.now self.now.asker entry.now) (drop (s.first + 1) self.now.asked)) }
