@@ -1,11 +1,12 @@
 -- Which rule decides.
-use Rattle.std.specs.Prelude.{ℕ, Bool, true, false, ◌-◌, ◌/◌, ◌^◌, ◌==◌, ◌&&◌, nat_le, List, position, slice_get, Option, Some, None}
+use Rattle.std.specs.Prelude.{ℕ, Bool, true, false, ◌-◌, ◌/◌, ◌^◌, ◌==◌, ◌&&◌, nat_le, List, [], length, position, slice_get, Option, Some, None}
 use Rattle.std.specs.List.{list_any}
 use Rattle.std.specs.Option.{option_map_or}
 use Rattle.slp_text.specs.Words.{bytes_eq}
 use Rattle.service_url.specs.Types.{covers}
 use Rattle.access_rules.specs.declared.rule.Action.{Action}
 use Rattle.access_rules.specs.declared.rule.Action.TheVariants.{Register, Withdraw, See}
+use Rattle.access_rules.specs.declared.rule.Deed as code
 use Rattle.access_rules.specs.declared.rule.Prefix.{Prefix}
 use Rattle.access_rules.specs.declared.rule.Rule.{Rule}
 use Rattle.access_rules.specs.declared.rules.Verdict.{Verdict}
@@ -35,20 +36,44 @@ abbrev pub allows_scope : Option (List (List ℕ)) → List ℕ → Bool
 allows_scope None scope = true
 allows_scope (Some named) scope = list_any (λ s. bytes_eq s scope) named
 
--- a rule fits a question: who asks, what for, of which type, in which scope
-abbrev pub fits : ℕ → Action → List ℕ → List ℕ → Rule → Bool
-fits asker action kind scope r =
-    list_any (λ p. holds p asker) r.from && action_eq r.action action && allows_kind r.kind kind && allows_scope r.scopes scope
+-- what is asked of the rules, but for the scope: who asks, to do what, and of which type
+pub record Deed : Type 0 where
+  pub asker : ℕ
+  pub action : Action
+  pub kind : List ℕ
+
+abbrev pub deed : ℕ → Action → List ℕ → Deed
+deed asker action kind = record { asker = asker; action = action; kind = kind }
+
+-- the same, wherever its type lies
+abbrev pub deed_in : code.Deed → Deed
+deed_in d = deed d.asker d.action d.kind.now
+
+-- a rule fits a deed in a scope
+abbrev pub fits : Deed → List ℕ → Rule → Bool
+fits d scope r = list_any (λ p. holds p d.asker) r.from && action_eq r.action d.action && allows_kind r.kind d.kind && allows_scope r.scopes scope
 
 -- what decides for a site: its rules, in their order
 abbrev pub SiteRules : Type 0
 SiteRules = List Rule
 
+-- those of a site
+abbrev pub rules_in : SiteRules → List Rule
+rules_in rules = rules
+
+-- how many there are
+abbrev pub number : SiteRules → ℕ
+number rules = length (rules_in rules)
+
+-- a site without any
+abbrev pub no_rules : SiteRules
+no_rules = []
+
 -- what the rule at an index says, if there is one; without a rule all is denied
 abbrev pub verdict_at : SiteRules → Option ℕ → Verdict
 verdict_at rules None = record { allow = false; rule = None }
-verdict_at rules (Some index) = record { allow = option_map_or (λ r. r.allow) (slice_get rules index) false; rule = Some index }
+verdict_at rules (Some index) = record { allow = option_map_or (λ r. r.allow) (slice_get (rules_in rules) index) false; rule = Some index }
 
 -- The first rule that fits decides.
-abbrev pub deciding : SiteRules → ℕ → Action → List ℕ → List ℕ → Verdict
-deciding rules asker action kind scope = verdict_at rules (position (fits asker action kind scope) rules)
+abbrev pub deciding : SiteRules → Deed → List ℕ → Verdict
+deciding rules d scope = verdict_at rules (position (fits d scope) (rules_in rules))

@@ -12,5 +12,5 @@ mod rules;
 
 pub use address::{Addr, number};
 pub use fault::RuleFault;
-pub use rule::{Action, Prefix, Rule};
+pub use rule::{Action, Deed, Prefix, Rule};
 pub use rules::{Rules, Verdict};

@@ -2,7 +2,7 @@ ghost use Rattle.std.specs.Prelude.{◌≡◌};
 ghost use Rattle.std.specs.List.{list_any};
 ghost use Rattle.access_rules.specs.Addresses.{bits_of, prefix_of};
 ghost use Rattle.access_rules.specs.Deciding as spec;
-ghost use Rattle.access_rules.specs.Deciding.{action_eq, allows_kind, allows_scope};
+ghost use Rattle.access_rules.specs.Deciding.{action_eq, allows_kind, allows_scope, deed_in};
 
 use crate::address::{Addr, number};
 use service_url::ServiceType;
@@ -14,6 +14,14 @@ pub enum Action {
     Register,
     Withdraw,
     See,
+}
+
+/// What is asked of the rules, but for the scope: who asks, to do what, and of which type.
+#[derive(Clone, Copy)]
+pub struct Deed<'a> {
+    pub asker: Addr,
+    pub action: Action,
+    pub kind: &'a ServiceType,
 }
 
 /// The addresses whose first bits are these, as in `10.0.0.0/8`.
@@ -109,13 +117,13 @@ impl Rule {
         }
     }
 
-    /// Whether the rule is about this question.
-    pub(crate) fn fits(&self, asker: Addr, action: Action, kind: &ServiceType, scope: &Key) -> bool
-        ensures { result ≡ spec.fits asker action kind.now scope.now self.now }
+    /// Whether the rule is about a deed in a scope.
+    pub(crate) fn fits(&self, deed: &Deed<'_>, scope: &Key) -> bool
+        ensures { result ≡ spec.fits (deed_in deed.now) scope.now self.now }
     {
-        is_same(self.action, action)
-            && self.is_from(asker)
-            && self.is_of_kind(kind)
+        is_same(self.action, deed.action)
+            && self.is_from(deed.asker)
+            && self.is_of_kind(deed.kind)
             && self.is_in_scope(scope)
     }
 }

@@ -1,9 +1,9 @@
-ghost use Rattle.std.specs.Prelude.{◌≡◌, ◌<◌, length, position, slice_get, Some, IfSome};
+ghost use Rattle.std.specs.Prelude.{◌≡◌, ◌<◌, position, slice_get, Some, IfSome};
 ghost use Rattle.std.specs.Option.{option_map};
-ghost use Rattle.access_rules.specs.Deciding.{deciding, fits};
+ghost use Rattle.access_rules.specs.Deciding.{deciding, deed, deed_in, fits, number, rules_in};
 
 use crate::address::Addr;
-use crate::rule::{Action, Rule};
+use crate::rule::{Action, Deed, Rule};
 use service_url::ServiceType;
 use slp_text::Key;
 use std::marker::Model;
@@ -42,25 +42,25 @@ impl Rules {
 
     /// How many rules there are. Takes no memory.
     pub fn len(&self) -> usize
-        ensures { result ≡ length self.now }
+        ensures { result ≡ number self.now }
     {
         self.rules.len()
     }
 
     /// The name of the rule at a place. Takes no memory.
     pub fn name(&self, place: usize) -> &str
-        requires { place < length self.now }
-        ensures { option_map (λ r. r.name) (slice_get self.now place) ≡ Some result.now }
+        requires { place < number self.now }
+        ensures { option_map (λ r. r.name) (slice_get (rules_in self.now) place) ≡ Some result.now }
     {
         self.rules[place].name.as_str()
     }
 
-    /// The verdict of the first rule that fits, else a denial by default. Takes no memory.
-    pub fn decide(&self, asker: Addr, action: Action, kind: &ServiceType, scope: &Key) -> Verdict
-        ensures value { result ≡ deciding self.now asker action kind.now scope.now }
-        ensures within { IfSome result.rule (λ place. place < length self.now) }
+    /// The verdict of the first rule that fits a deed in a scope, else a denial by default. Takes no memory.
+    pub fn verdict(&self, deed: &Deed<'_>, scope: &Key) -> Verdict
+        ensures value { result ≡ deciding self.now (deed_in deed.now) scope.now }
+        ensures within { IfSome result.rule (λ place. place < number self.now) }
     {
-        match self.first_fitting(asker, action, kind, scope) {
+        match self.first_fitting(deed, scope) {
             Some(place) => Verdict {
                 allow: self.rules[place].allow,
                 rule: Some(place),
@@ -72,17 +72,24 @@ impl Rules {
         }
     }
 
-    fn first_fitting(
-        &self,
-        asker: Addr,
-        action: Action,
-        kind: &ServiceType,
-        scope: &Key,
-    ) -> Option<usize>
-        ensures { result ≡ position (fits asker action kind.now scope.now) self.now }
+    /// The same, where what is asked comes in parts.
+    pub fn decide(&self, asker: Addr, action: Action, kind: &ServiceType, scope: &Key) -> Verdict
+        ensures value { result ≡ deciding self.now (deed asker action kind.now) scope.now }
+        ensures within { IfSome result.rule (λ place. place < number self.now) }
     {
-        self.rules
-            .iter()
-            .position(|r| r.fits(asker, action, kind, scope))
+        self.verdict(
+            &Deed {
+                asker,
+                action,
+                kind,
+            },
+            scope,
+        )
+    }
+
+    fn first_fitting(&self, deed: &Deed<'_>, scope: &Key) -> Option<usize>
+        ensures { result ≡ position (fits (deed_in deed.now) scope.now) (rules_in self.now) }
+    {
+        self.rules.iter().position(|r| r.fits(deed, scope))
     }
 }

@@ -1,7 +1,7 @@
 -- What an agent starts with.
 use Rattle.std.specs.Prelude.{◌≡◌, ℕ, Option, Some, None, Result, Ok, List, [], ◌∷◌, length}
 use Rattle.std.specs.FinMap as fin
-use Rattle.access_rules.specs.Deciding.{SiteRules}
+use Rattle.access_rules.specs.Deciding.{SiteRules, no_rules}
 use Rattle.access_rules.specs.RuleFiles.{rules_in_text}
 use Rattle.directory_judge.specs.Sites.{Site}
 use Rattle.directory_state.specs.State.{State, opening_state}
@@ -14,7 +14,7 @@ use Rattle.srv_template.specs.declared.fault.ParseFault.{ParseFault}
 
 -- those that the text of a rule file reads as, or none where no file is named
 abbrev pub AreRules : {P : Type 0} → Option P → SiteRules → Type 0
-AreRules None rules = rules ≡ []
+AreRules None rules = rules ≡ no_rules
 AreRules (Some path) rules = (text : List ℕ) × (rules_in_text text ≡ Ok rules)
 
 -- the templates with the one that a text reads as, if it is read and may be added

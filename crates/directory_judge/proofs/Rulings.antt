@@ -9,9 +9,8 @@ use Rattle.std.proofs.lemmas.List.{drop_all}
 use Rattle.std.proofs.lemmas.Option.{none-some, same_Some}
 use Rattle.directory_judge.proofs.ConcernedEntries.{or_true}
 use Rattle.slp_text.specs.Words.{bytes_cmp, texts_eq}
-use Rattle.access_rules.specs.declared.rule.Action.{Action}
 use Rattle.access_rules.specs.declared.rule.Action.TheVariants.{Withdraw}
-use Rattle.access_rules.specs.Deciding.{SiteRules, deciding}
+use Rattle.access_rules.specs.Deciding.{Deed, SiteRules, deciding, deed}
 use Rattle.access_rules.specs.declared.rules.Verdict.{Verdict}
 use Rattle.registry_core.specs.declared.entry.Entry.{Entry}
 use Rattle.registry_core.specs.Entries.{outlives}
@@ -76,28 +75,28 @@ module _ (by : List ℕ → Because) where
   either-none None (Some s) is = absurd (none-some _ (sym is))
   either-none None None is = (refl, refl)
 
-module _ (rules : SiteRules) (asker : ℕ) (action : Action) (kind : List ℕ) (scopes : List (List ℕ)) where
-  pub ruling-none : ruling_on rules asker action kind scopes ≡ None → (denial_of rules asker action kind scopes ≡ None) × (slice_get scopes 0 ≡ None)
+module _ (rules : SiteRules) (d : Deed) (scopes : List (List ℕ)) where
+  pub ruling-none : ruling_on rules d scopes ≡ None → (denial_of rules d scopes ≡ None) × (slice_get scopes 0 ≡ None)
   unfolding either
-  ruling-none is = either-none (by_rule rules asker action kind) (denial_of rules asker action kind scopes) (slice_get scopes 0) is
+  ruling-none is = either-none (by_rule rules d) (denial_of rules d scopes) (slice_get scopes 0) is
 
-  module _ (r : Ruling) (is : ruling_on rules asker action kind scopes ≡ Some (ruling_in r)) where
-    pub ruling-denied : r.verdict.allow ≡ false → denial_of rules asker action kind scopes ≡ Some (because_in r)
+  module _ (r : Ruling) (is : ruling_on rules d scopes ≡ Some (ruling_in r)) where
+    pub ruling-denied : r.verdict.allow ≡ false → denial_of rules d scopes ≡ Some (because_in r)
     unfolding either
     ruling-denied h =
-        either-denied (by_rule rules asker action kind) (denial_of rules asker action kind scopes) (slice_get scopes 0) (ruling_in r) is (allows_of-ruling r ∙ h) ∙ ap Some (because_of-ruling r)
+        either-denied (by_rule rules d) (denial_of rules d scopes) (slice_get scopes 0) (ruling_in r) is (allows_of-ruling r ∙ h) ∙ ap Some (because_of-ruling r)
 
-    pub ruling-allowed : r.verdict.allow ≡ true → denial_of rules asker action kind scopes ≡ None
+    pub ruling-allowed : r.verdict.allow ≡ true → denial_of rules d scopes ≡ None
     unfolding either
-    ruling-allowed h = either-allowed (by_rule rules asker action kind) (denial_of rules asker action kind scopes) (slice_get scopes 0) (ruling_in r) is (allows_of-ruling r ∙ h)
+    ruling-allowed h = either-allowed (by_rule rules d) (denial_of rules d scopes) (slice_get scopes 0) (ruling_in r) is (allows_of-ruling r ∙ h)
 
-    pub ruling-first : denial_of rules asker action kind scopes ≡ None → because_in r ≡ by_rule rules asker action kind (unwrap_or (slice_get scopes 0) [])
+    pub ruling-first : denial_of rules d scopes ≡ None → because_in r ≡ by_rule rules d (unwrap_or (slice_get scopes 0) [])
     unfolding either
-    ruling-first none = sym (because_of-ruling r) ∙ either-first (by_rule rules asker action kind) (denial_of rules asker action kind scopes) (slice_get scopes 0) (ruling_in r) is none
+    ruling-first none = sym (because_of-ruling r) ∙ either-first (by_rule rules d) (denial_of rules d scopes) (slice_get scopes 0) (ruling_in r) is none
 
-pub ruling_on-some : (rules : SiteRules) (asker : ℕ) (action : Action) (kind : List ℕ) (scopes : List (List ℕ)) (x : Result Because Because) → ruling_on rules asker action kind scopes ≡ Some x → 0 < length scopes
-ruling_on-some rules asker action kind [] x is = absurd (none-some x is)
-ruling_on-some rules asker action kind (s ∷ ss) x is = omega arith
+pub ruling_on-some : (rules : SiteRules) (d : Deed) (scopes : List (List ℕ)) (x : Result Because Because) → ruling_on rules d scopes ≡ Some x → 0 < length scopes
+ruling_on-some rules d [] x is = absurd (none-some x is)
+ruling_on-some rules d (s ∷ ss) x is = omega arith
 
 pub no-scopes : (scopes : List (List ℕ)) → slice_get scopes 0 ≡ None → length scopes ≡ 0
 no-scopes [] is = refl
@@ -106,9 +105,9 @@ no-scopes (s ∷ ss) is = absurd (none-some s (sym is))
 -- ---- the scopes asked one by one
 
 -- nothing was denied so far, and the first that was ruled on is the first of all
-pub record IsAsked (rules : SiteRules) (asker : ℕ) (action : Action) (kind : List ℕ) (scopes : List (List ℕ)) (held : Option Ruling) (place : ℕ) : Type 0 where
-  pub denied : find (is_denied rules asker action kind) scopes ≡ find (is_denied rules asker action kind) (drop place scopes)
-  pub first : option_or (option_map ruling_in held) (option_map (λ s. Ok (by_rule rules asker action kind s)) (slice_get (drop place scopes) 0)) ≡ option_map (λ s. Ok (by_rule rules asker action kind s)) (slice_get scopes 0)
+pub record IsAsked (rules : SiteRules) (d : Deed) (scopes : List (List ℕ)) (held : Option Ruling) (place : ℕ) : Type 0 where
+  pub denied : find (is_denied rules d) scopes ≡ find (is_denied rules d) (drop place scopes)
+  pub first : option_or (option_map ruling_in held) (option_map (λ s. Ok (by_rule rules d s)) (slice_get (drop place scopes) 0)) ≡ option_map (λ s. Ok (by_rule rules d s)) (slice_get scopes 0)
 
 or-none : {A : Type 0} (o : Option A) → option_or o None ≡ o
 or-none None = refl
@@ -118,35 +117,35 @@ or-some : (o : Option Ruling) (r : Ruling) (x : Option (Result Because Because))
 or-some None r x = refl
 or-some (Some f) r x = refl
 
-module _ (rules : SiteRules) (asker : ℕ) (action : Action) (kind : List ℕ) (scopes : List (List ℕ)) (first : Option Ruling) (place : ℕ) (so_far : IsAsked rules asker action kind scopes first place) where
-  pub ruled-all : length scopes ≤ place → option_map ruling_in first ≡ ruling_on rules asker action kind scopes
+module _ (rules : SiteRules) (d : Deed) (scopes : List (List ℕ)) (first : Option Ruling) (place : ℕ) (so_far : IsAsked rules d scopes first place) where
+  pub ruled-all : length scopes ≤ place → option_map ruling_in first ≡ ruling_on rules d scopes
   ruled-all all =
       let none : drop place scopes ≡ [] = drop_all place scopes all in
-      sym (or-none (option_map ruling_in first)) ∙ ap (λ xs. option_or (option_map ruling_in first) (option_map (λ s. Ok (by_rule rules asker action kind s)) (slice_get xs 0))) (sym none) ∙ so_far.first
-      ∙ ap (λ o. option_or (option_map Err (option_map (by_rule rules asker action kind) o)) (option_map (λ s. Ok (by_rule rules asker action kind s)) (slice_get scopes 0)))
-      (sym (so_far.denied ∙ ap (find (is_denied rules asker action kind)) none))
+      sym (or-none (option_map ruling_in first)) ∙ ap (λ xs. option_or (option_map ruling_in first) (option_map (λ s. Ok (by_rule rules d s)) (slice_get xs 0))) (sym none) ∙ so_far.first
+      ∙ ap (λ o. option_or (option_map Err (option_map (by_rule rules d) o)) (option_map (λ s. Ok (by_rule rules d s)) (slice_get scopes 0)))
+      (sym (so_far.denied ∙ ap (find (is_denied rules d)) none))
 
-  module _ (r : Ruling) (there : slice_get scopes place ≡ Some r.scope.now) (of_kind : r.kind.now ≡ kind) (decided : r.verdict ≡ deciding rules asker action kind r.scope.now) where
-    by-ruling : because_in r ≡ by_rule rules asker action kind r.scope.now
+  module _ (r : Ruling) (there : slice_get scopes place ≡ Some r.scope.now) (of_kind : r.kind.now ≡ d.kind) (decided : r.verdict ≡ deciding rules d r.scope.now) where
+    by-ruling : because_in r ≡ by_rule rules d r.scope.now
     by-ruling = λ i. record { decider = decider_of (decided i); kind = Some (of_kind i); scope = Some r.scope.now }
 
-    pub ruled-here : r.verdict.allow ≡ false → Some (ruling_in r) ≡ ruling_on rules asker action kind scopes
+    pub ruled-here : r.verdict.allow ≡ false → Some (ruling_in r) ≡ ruling_on rules d scopes
     ruled-here h =
-        let found : find (is_denied rules asker action kind) scopes ≡ Some r.scope.now =
-        so_far.denied ∙ find-drop (is_denied rules asker action kind) scopes place r.scope.now there
-        ∙ ap (λ b. cond b (Some r.scope.now) (find (is_denied rules asker action kind) (drop (place + 1) scopes))) (ap (λ (v : Verdict). not v.allow) (sym decided) ∙ ap not h) in
+        let found : find (is_denied rules d) scopes ≡ Some r.scope.now =
+        so_far.denied ∙ find-drop (is_denied rules d) scopes place r.scope.now there
+        ∙ ap (λ b. cond b (Some r.scope.now) (find (is_denied rules d) (drop (place + 1) scopes))) (ap (λ (v : Verdict). not v.allow) (sym decided) ∙ ap not h) in
         ap (λ b. Some (cond b (Ok (because_in r)) (Err (because_in r)))) h ∙ ap (λ b. Some (Err b)) by-ruling
-        ∙ ap (λ o. option_or (option_map Err (option_map (by_rule rules asker action kind) o)) (option_map (λ s. Ok (by_rule rules asker action kind s)) (slice_get scopes 0))) (sym found)
+        ∙ ap (λ o. option_or (option_map Err (option_map (by_rule rules d) o)) (option_map (λ s. Ok (by_rule rules d s)) (slice_get scopes 0))) (sym found)
 
-    pub IsAsked-more : r.verdict.allow ≡ true → IsAsked rules asker action kind scopes (option_or first (Some r)) (place + 1)
+    pub IsAsked-more : r.verdict.allow ≡ true → IsAsked rules d scopes (option_or first (Some r)) (place + 1)
     IsAsked-more h = record {
       denied =
-          so_far.denied ∙ find-drop (is_denied rules asker action kind) scopes place r.scope.now there
-          ∙ ap (λ b. cond b (Some r.scope.now) (find (is_denied rules asker action kind) (drop (place + 1) scopes))) (ap (λ (v : Verdict). not v.allow) (sym decided) ∙ ap not h);
+          so_far.denied ∙ find-drop (is_denied rules d) scopes place r.scope.now there
+          ∙ ap (λ b. cond b (Some r.scope.now) (find (is_denied rules d) (drop (place + 1) scopes))) (ap (λ (v : Verdict). not v.allow) (sym decided) ∙ ap not h);
       first =
           or-some first r _ ∙ ap (λ b. option_or (option_map ruling_in first) (Some (cond b (Ok (because_in r)) (Err (because_in r))))) h
           ∙ ap (λ b. option_or (option_map ruling_in first) (Some (Ok b))) by-ruling
-          ∙ ap (λ o. option_or (option_map ruling_in first) (option_map (λ s. Ok (by_rule rules asker action kind s)) o)) (sym (get-front scopes place r.scope.now there)) ∙ so_far.first;
+          ∙ ap (λ o. option_or (option_map ruling_in first) (option_map (λ s. Ok (by_rule rules d s)) o)) (sym (get-front scopes place r.scope.now there)) ∙ so_far.first;
     }
 
 -- ---- what may not be withdrawn
@@ -159,24 +158,24 @@ is_some-map : {A B : Type 0} (f : A → B) (o : Option A) → is_some (option_ma
 is_some-map f None = refl
 is_some-map f (Some x) = refl
 
-pub is_kept-denial : (rules : SiteRules) (asker : ℕ) (e : Entry) → is_kept rules asker e ≡ is_some (denial_of rules asker Withdraw e.kind e.scopes)
+pub is_kept-denial : (rules : SiteRules) (asker : ℕ) (e : Entry) → is_kept rules asker e ≡ is_some (denial_of rules (deed asker Withdraw e.kind) e.scopes)
 is_kept-denial rules asker e =
-    sym (is_some-map (by_rule rules asker Withdraw e.kind) (find (is_denied rules asker Withdraw e.kind) e.scopes) ∙ is_some-find (is_denied rules asker Withdraw e.kind) e.scopes)
+    sym (is_some-map (by_rule rules (deed asker Withdraw e.kind)) (find (is_denied rules (deed asker Withdraw e.kind)) e.scopes) ∙ is_some-find (is_denied rules (deed asker Withdraw e.kind)) e.scopes)
 
 none-of : (o : Option Because) → is_some o ≡ false → o ≡ None
 none-of None h = refl
 none-of (Some b) h = cc
 
-pub not-kept : (rules : SiteRules) (asker : ℕ) (e : Entry) → is_kept rules asker e ≡ false → denial_of rules asker Withdraw e.kind e.scopes ≡ None
-not-kept rules asker e h = none-of (denial_of rules asker Withdraw e.kind e.scopes) (sym (is_kept-denial rules asker e) ∙ h)
+pub not-kept : (rules : SiteRules) (asker : ℕ) (e : Entry) → is_kept rules asker e ≡ false → denial_of rules (deed asker Withdraw e.kind) e.scopes ≡ None
+not-kept rules asker e h = none-of (denial_of rules (deed asker Withdraw e.kind) e.scopes) (sym (is_kept-denial rules asker e) ∙ h)
 
 -- an entry's ruling says whether it may be withdrawn
 kept-ruling_on : (g : Grounds) (r : RuledEntry) → IsRuling g r → is_kept g.rules g.asker (entry_in r) ≡ not r.ruling.verdict.allow
 kept-ruling_on g r is =
     is_kept-denial g.rules g.asker (entry_in r)
-    ∙ (elim (r.ruling.verdict.allow) as (λ b. r.ruling.verdict.allow ≡ b → is_some (denial_of g.rules g.asker Withdraw (entry_in r).kind (entry_in r).scopes) ≡ not b) [
-      | true ↦ λ t. ap is_some (ruling-allowed g.rules g.asker Withdraw (entry_in r).kind (entry_in r).scopes r.ruling is t)
-      | false ↦ λ t. ap is_some (ruling-denied g.rules g.asker Withdraw (entry_in r).kind (entry_in r).scopes r.ruling is t)
+    ∙ (elim (r.ruling.verdict.allow) as (λ b. r.ruling.verdict.allow ≡ b → is_some (denial_of g.rules (deed g.asker Withdraw (entry_in r).kind) (entry_in r).scopes) ≡ not b) [
+      | true ↦ λ t. ap is_some (ruling-allowed g.rules (deed g.asker Withdraw (entry_in r).kind) (entry_in r).scopes r.ruling is t)
+      | false ↦ λ t. ap is_some (ruling-denied g.rules (deed g.asker Withdraw (entry_in r).kind) (entry_in r).scopes r.ruling is t)
     ] refl)
 
 -- ---- a walk with one more
@@ -234,6 +233,6 @@ module _ (g : Grounds) (scopes : List (List ℕ)) (walk : Walk) where
       first = earlier_entry-meets (IsRuling g) walk.first r ruling_on.first is;
       kept = elim (r.ruling.verdict.allow) as (λ b. r.ruling.verdict.allow ≡ b → IfSome (cond b walk.kept (Some (earlier_ruling walk.kept r))) (IsDenial g)) [
         | true ↦ λ t. ruling_on.kept
-        | false ↦ λ t. earlier_entry-meets (IsDenial g) walk.kept r ruling_on.kept (ruling-denied g.rules g.asker Withdraw (entry_in r).kind (entry_in r).scopes r.ruling is t)
+        | false ↦ λ t. earlier_entry-meets (IsDenial g) walk.kept r ruling_on.kept (ruling-denied g.rules (deed g.asker Withdraw (entry_in r).kind) (entry_in r).scopes r.ruling is t)
       ] refl;
     }

@@ -8,6 +8,7 @@ use Rattle.std.proofs.lemmas.Bool.Decides.{nat_tests}
 use Rattle.std.proofs.lemmas.Option.{none-some, same_Some}
 use Rattle.slp_text.specs.Keys.{key_of}
 use Rattle.slp_text.specs.Tags.{Part}
+use Rattle.access_rules.specs.Deciding.{deed}
 use Rattle.attr_list.specs.Lists.{Attributes}
 use Rattle.attr_list.specs.Maps.{attributes_without}
 use Rattle.srv_template.specs.Conformity.{template_fault}
@@ -24,7 +25,7 @@ use Rattle.directory_judge.specs.Judgements.{Grounds, Judgement, Accepts, Ignore
 use Rattle.directory_judge.specs.NamedEntries.{particulars_named, IsActOf, IsJudgedNamed}
 use Rattle.directory_judge.specs.declared.reason.Because.{Because}
 use Rattle.directory_judge.specs.declared.reason.Decider.TheVariants as decider
-use Rattle.directory_judge.specs.declared.judgement.Judged.{Judged}
+use Rattle.directory_judge.specs.declared.copies.Judged.{Judged}
 use Rattle.directory_judge.specs.declared.change.Withdrawn.{Withdrawn}
 use Rattle.directory_judge.specs.declared.particulars.Particulars.{Particulars}
 use Rattle.directory_judge.specs.Withdrawals.{withdrawal_of_texts}
@@ -60,20 +61,20 @@ module _ (g : Grounds) (h : Header) (r : Registration) (t : Particulars) where
     not_empty : (length t.scopes == 0) ≡ false
     not_empty = grind (arith, nat_tests)
 
-    judgement-allowed : denial_of g.rules g.asker Register t.kind t.scopes ≡ None → judgement_of_particulars g h r t ≡ unwrap_or by_pair accepts
+    judgement-allowed : denial_of g.rules (deed g.asker Register t.kind) t.scopes ≡ None → judgement_of_particulars g h r t ≡ unwrap_or by_pair accepts
     unfolding by_pair accepts
     judgement-allowed allowed =
         ap (λ b. unwrap_or (option_or (cond b (Some (denial (by_step decider.Scope (Some t.kind)))) None) (option_or (denial_of_new g t) by_pair)) accepts) not_empty
         ∙ ap (λ d. unwrap_or (option_or (option_map denial d) by_pair) accepts) allowed
 
-    pub judgement-denied : (b : Because) → denial_of g.rules g.asker Register t.kind t.scopes ≡ Some b → judgement_of_particulars g h r t ≡ denial b
+    pub judgement-denied : (b : Because) → denial_of g.rules (deed g.asker Register t.kind) t.scopes ≡ Some b → judgement_of_particulars g h r t ≡ denial b
     unfolding by_pair accepts
     judgement-denied b is =
         ap (λ b. unwrap_or (option_or (cond b (Some (denial (by_step decider.Scope (Some t.kind)))) None) (option_or (denial_of_new g t) by_pair)) accepts) not_empty
         ∙ ap (λ d. unwrap_or (option_or (option_map denial d) by_pair) accepts) is
 
     -- what the steps come to that look at an entry's pair
-    pub IsJudgement-named : (e : Entry) (b : Because) (j : Judged) → denial_of g.rules g.asker Register t.kind t.scopes ≡ None → t.url ≡ r.entry.url
+    pub IsJudgement-named : (e : Entry) (b : Because) (j : Judged) → denial_of g.rules (deed g.asker Register t.kind) t.scopes ≡ None → t.url ≡ r.entry.url
         → e ≡ record { url = t.url; language = key_of h.language; kind = t.kind; scopes = t.scopes; attrs = t.attrs; deadline = g.now + r.entry.lifetime }
         → b ≡ allowance g t → IsJudgedNamed g h.flags.fresh e b j → IsJudgement g.live j (judgement_of_particulars g h r t)
     unfolding by_pair accepts

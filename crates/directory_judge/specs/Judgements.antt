@@ -21,7 +21,7 @@ use Rattle.slp_messages.specs.declared.message.Withdrawal.{Withdrawal}
 use Rattle.service_url.specs.Types.{type_of}
 use Rattle.service_url.specs.Urls.{url_of}
 use Rattle.access_rules.specs.Codes.{rules_code}
-use Rattle.access_rules.specs.Deciding.{SiteRules, deciding}
+use Rattle.access_rules.specs.Deciding.{Deed, SiteRules, deciding, deed}
 use Rattle.access_rules.specs.declared.rule.Action.{Action}
 use Rattle.access_rules.specs.declared.rule.Action.TheVariants.{Register, Withdraw}
 use Rattle.access_rules.specs.declared.rules.Verdict.{Verdict}
@@ -48,9 +48,9 @@ use Rattle.directory_judge.specs.declared.change.Change.TheVariants as change
 use Rattle.directory_judge.specs.declared.change.Placed.{Placed}
 use Rattle.directory_judge.specs.declared.judgement.Decision.{Decision}
 use Rattle.directory_judge.specs.declared.judgement.Decision.TheVariants as decision
-use Rattle.directory_judge.specs.declared.judgement.Judged.{Judged}
+use Rattle.directory_judge.specs.declared.copies.Judged.{Judged}
 use Rattle.directory_judge.specs.declared.ruling.Ruling.{Ruling}
-use Rattle.directory_judge.specs.declared.judgement.Judged.TheVariants as judged
+use Rattle.directory_judge.specs.declared.copies.Judged.TheVariants as judged
 
 -- ---- what is judged on, and what comes of it
 
@@ -89,11 +89,11 @@ abbrev pub by_step : Decider → Option (List ℕ) → Because
 by_step d kind = record { decider = d; kind = kind; scope = None }
 
 -- the rule, or the default, that decided on a type in a scope
-abbrev pub by_rule : SiteRules → ℕ → Action → List ℕ → List ℕ → Because
-by_rule rules asker action kind scope = record { decider = decider_of (deciding rules asker action kind scope); kind = Some kind; scope = Some scope }
+abbrev pub by_rule : SiteRules → Deed → List ℕ → Because
+by_rule rules d scope = record { decider = decider_of (deciding rules d scope); kind = Some d.kind; scope = Some scope }
 
-abbrev pub is_denied : SiteRules → ℕ → Action → List ℕ → List ℕ → Bool
-is_denied rules asker action kind scope = not (deciding rules asker action kind scope).allow
+abbrev pub is_denied : SiteRules → Deed → List ℕ → Bool
+is_denied rules d scope = not (deciding rules d scope).allow
 
 -- the code of a denial, by who decided (RFC 2608, section 7)
 abbrev pub code_by : Decider → ℕ
@@ -118,16 +118,15 @@ abbrev pub denial : Because → Judgement
 denial because = Denies (code_by because.decider) because
 
 -- who denies in the first of these scopes in which there is a denial
-abbrev pub denial_of : SiteRules → ℕ → Action → List ℕ → List (List ℕ) → Option Because
-denial_of rules asker action kind scopes = option_map (by_rule rules asker action kind) (find (is_denied rules asker action kind) scopes)
+abbrev pub denial_of : SiteRules → Deed → List (List ℕ) → Option Because
+denial_of rules d scopes = option_map (by_rule rules d) (find (is_denied rules d) scopes)
 
 abbrev pub denial_in : Grounds → Action → List ℕ → List (List ℕ) → Option Judgement
-denial_in g action kind scopes = option_map denial (denial_of g.rules g.asker action kind scopes)
+denial_in g action kind scopes = option_map denial (denial_of g.rules (deed g.asker action kind) scopes)
 
--- what decides on an action in some scopes, if there are any: what denies it in the first of them in which it is denied, else what allows it in the first of all
-abbrev pub ruling_on : SiteRules → ℕ → Action → List ℕ → List (List ℕ) → Option (Result Because Because)
-ruling_on rules asker action kind scopes =
-    option_or (option_map Err (denial_of rules asker action kind scopes)) (option_map (λ s. Ok (by_rule rules asker action kind s)) (slice_get scopes 0))
+-- what decides on a deed in some scopes, if there are any: what denies it in the first of them in which it is denied, else what allows it in the first of all
+abbrev pub ruling_on : SiteRules → Deed → List (List ℕ) → Option (Result Because Because)
+ruling_on rules d scopes = option_or (option_map Err (denial_of rules d scopes)) (option_map (λ s. Ok (by_rule rules d s)) (slice_get scopes 0))
 
 -- what a ruling says
 abbrev pub because_in : Ruling → Because
@@ -246,7 +245,7 @@ act_of h r t = if h.flags.fresh then Put (putting_of h r t) else history.Set (se
 
 -- what decided on the first stored scope
 abbrev pub allowance : Grounds → Particulars → Because
-allowance g t = by_rule g.rules g.asker Register t.kind (unwrap_or (slice_get t.scopes 0) [])
+allowance g t = by_rule g.rules (deed g.asker Register t.kind) (unwrap_or (slice_get t.scopes 0) [])
 
 abbrev pub judgement_of_particulars : Grounds → Header → Registration → Particulars → Judgement
 judgement_of_particulars g h r t =
@@ -285,7 +284,7 @@ first_of = first_from None
 
 -- some scope of it is one in which its type may not be withdrawn
 abbrev pub is_kept : SiteRules → ℕ → Entry → Bool
-is_kept rules asker e = list_any (is_denied rules asker Withdraw e.kind) e.scopes
+is_kept rules asker e = list_any (is_denied rules (deed asker Withdraw e.kind)) e.scopes
 
 -- who denies an entry's withdrawal in the first of its scopes in which there is a denial
 abbrev pub denial_of_kept : Grounds → Option Entry → Option Judgement
@@ -294,7 +293,7 @@ denial_of_kept g (Some e) = denial_in g Withdraw e.kind e.scopes
 
 -- what decided on an entry's first scope
 abbrev pub release : Grounds → Entry → Because
-release g e = by_rule g.rules g.asker Withdraw e.kind (unwrap_or (slice_get e.scopes 0) [])
+release g e = by_rule g.rules (deed g.asker Withdraw e.kind) (unwrap_or (slice_get e.scopes 0) [])
 
 abbrev pub withdrawal_event : Grounds → List ℕ → List (List ℕ) → Event
 withdrawal_event g url scopes = record { moment = g.now; act = history.Withdraw (record { url = url; scopes = scopes }) }
@@ -382,11 +381,13 @@ judgement g (message.TypeRequest h q) = Waits
 judgement g (message.TypeReply h r) = Waits
 judgement g (message.ServiceAdvert h a) = Waits
 
--- what was decided, with what it was decided on
+-- what was decided, with copies of what it was decided on
 abbrev pub judgement_in : Decision → Judged
 judgement_in (decision.Founded placed d) = judged.Accept (change.Put placed) (because_of_placed d placed)
 judgement_in (decision.Edited placed d) = judged.Accept (change.Edit placed) (because_of_placed d placed)
-judgement_in (decision.Judged j) = j
+judgement_in (decision.Accepted c because) = judged.Accept c because
+judgement_in decision.Unchanged = judged.Nothing
+judgement_in (decision.Denied because) = judged.Deny (code_by because.decider) because
 
 -- the code of it, and who decided on what
 abbrev pub finding_in : Judged → ℕ × Because

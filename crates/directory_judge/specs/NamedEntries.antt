@@ -7,7 +7,7 @@ use Rattle.registry_core.specs.Entries.{Entries, Pair, pair_of}
 use Rattle.directory_judge.specs.History.{Act, Putting, Put, Setting, Set}
 use Rattle.directory_judge.specs.Contents.{entry_of}
 use Rattle.directory_judge.specs.Judgements.{Grounds, Judgement, Accepts, denial_of_live, denial_of_room, denial_of_template, resulting_attributes, IsJudgement}
-use Rattle.directory_judge.specs.declared.judgement.Judged.{Judged}
+use Rattle.directory_judge.specs.declared.copies.Judged.{Judged}
 use Rattle.directory_judge.specs.declared.particulars.Particulars.{Particulars}
 use Rattle.directory_judge.specs.declared.reason.Because.{Because}
 

@@ -1,13 +1,14 @@
 ghost use Rattle.std.specs.Prelude.{◌≡◌, is_none, nat_le, IfSome};
 ghost use Rattle.std.specs.Option.{option_copied, option_map};
 ghost use Rattle.std.specs.FinMap as fin;
+ghost use Rattle.access_rules.specs.Deciding.{deed};
 ghost use Rattle.registry_core.specs.Entries.{pair_of};
 ghost use Rattle.srv_template.specs.Conformity.{template_fault};
 ghost use Rattle.directory_judge.specs.Judgements.{ruling_on, ruling_in};
 
 use crate::ruling::Ruling;
 use crate::site::Site;
-use access_rules::{Action, Addr, Rules};
+use access_rules::{Action, Addr, Deed, Rules};
 use attr_list::Attrs;
 use registry_core::{Entry, Registry};
 use service_url::{ServiceType, Url};
@@ -47,12 +48,17 @@ impl<'a, R: Registry> Grounds<'a, R> {
         kind: &'b ServiceType,
         scopes: &'b ScopeList,
     ) -> Option<Ruling<'b>>
-        ensures { option_map ruling_in result ≡ ruling_on self.now.rules self.now.asker action kind.now scopes.now }
+        ensures { option_map ruling_in result ≡ ruling_on self.now.rules (deed self.now.asker action kind.now) scopes.now }
     {
         let mut first = None;
         for place in 0..scopes.len() {
             if let Some(scope) = scopes.at(place) {
-                let verdict = self.rules.decide(self.asker, action, kind, scope);
+                let deed = Deed {
+                    asker: self.asker,
+                    action,
+                    kind,
+                };
+                let verdict = self.rules.verdict(&deed, scope);
                 let ruling = Ruling {
                     verdict,
                     kind,

@@ -2,6 +2,7 @@
 #![tactic(auto)]
 
 mod change;
+mod copies;
 mod grounds;
 mod judgement;
 mod particulars;
@@ -14,9 +15,9 @@ mod updates;
 mod withdrawals;
 
 pub use change::{Change, Placed, Withdrawn};
+pub use copies::{Judged, change_view, judge_on};
 pub use grounds::Grounds;
-pub use judgement::{Decision, Judged};
+pub use judgement::Decision;
 pub use particulars::{is_agent, read_kind, read_language, read_scopes, read_tags, read_url};
 pub use reason::{Because, Decider, Finding, Reason};
-pub use registrations::{change_view, judge_on};
 pub use site::Site;

@@ -1,4 +1,4 @@
-ghost use Rattle.std.specs.Prelude.{◌≡◌, ◌≤◌, length, IfOk, IfSome, Some, None, Err};
+ghost use Rattle.std.specs.Prelude.{◌≡◌, ◌≤◌, length, IfOk, IfSome, Some};
 ghost use Rattle.std.specs.Option.{option_copied, option_map};
 ghost use Rattle.std.specs.Result.{result_ok};
 ghost use Rattle.slp_text.specs.Keys.{key_of};
@@ -9,7 +9,7 @@ ghost use Rattle.service_url.specs.Types.{type_of};
 ghost use Rattle.service_url.specs.Urls.{url_of};
 ghost use Rattle.attr_list.specs.Reading.{attributes_in};
 ghost use Rattle.directory_judge.specs.Judgements as spec;
-ghost use Rattle.directory_judge.specs.Judgements.{by_step, denial, particulars, particulars_in, particulars_of_texts, AreParticularsOf};
+ghost use Rattle.directory_judge.specs.Judgements.{particulars, particulars_in, particulars_of_texts, AreParticularsOf};
 
 use crate::reason::{Because, Decider};
 use crate::site::Site;
@@ -126,17 +126,6 @@ pub fn is_agent(kind: Option<&ServiceType>) -> bool
     }
 }
 
-// What a step finds, by which a type may be known.
-fn denied_by(decider: Decider, kind: Option<ServiceType>) -> Reading
-    ensures { particulars_in result ≡ Err (denial (by_step decider kind)) }
-{
-    Reading::Denied(Because {
-        decider,
-        kind,
-        scope: None,
-    })
-}
-
 // What a registration names, whose URL and type were read already.
 fn name_read(
     alloc: Global,
@@ -150,10 +139,10 @@ fn name_read(
     ensures url { IfOk result (AreParticularsOf url) }
 {
     let Some(attrs) = read_attributes(alloc, registration.attributes)? else {
-        return Ok(denied_by(Decider::Attributes, Some(kind)));
+        return Ok(Reading::Denied(Because::by(Decider::Attributes, Some(kind))));
     };
     let Some(scopes) = read_supported(alloc, site, registration.scopes)? else {
-        return Ok(denied_by(Decider::Parse, None));
+        return Ok(Reading::Denied(Because::by(Decider::Parse, None)));
     };
     Ok(Reading::Read(Particulars {
         url,
@@ -176,13 +165,13 @@ pub fn name(
     ensures url { IfOk result (AreParticularsOf registration.now.entry.url.now) }
 {
     if header.language.is_empty() || registration.entry.lifetime == 0 {
-        return Ok(denied_by(Decider::Registration, None));
+        return Ok(Reading::Denied(Because::by(Decider::Registration, None)));
     }
     let Some(kind) = kind else {
-        return Ok(denied_by(Decider::Registration, None));
+        return Ok(Reading::Denied(Because::by(Decider::Registration, None)));
     };
     match read_url(alloc, registration.entry.url)? {
         Some(url) => name_read(alloc, site, registration, url, kind),
-        None => Ok(denied_by(Decider::Registration, None)),
+        None => Ok(Reading::Denied(Because::by(Decider::Registration, None))),
     }
 }

@@ -66,6 +66,17 @@ pub struct Reason<'a> {
 }
 
 impl Because {
+    /// A step of judging, by which a type may be known.
+    pub fn by(decider: Decider, kind: Option<ServiceType>) -> Because
+        ensures { result ≡ by_step decider kind }
+    {
+        Because {
+            decider,
+            kind,
+            scope: None,
+        }
+    }
+
     /// The same, lent.
     pub fn reason(&self) -> Reason<'_>
         ensures { because_of result ≡ self.now }

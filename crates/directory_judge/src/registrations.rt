@@ -3,21 +3,19 @@ ghost use Rattle.std.specs.FinMap as fin;
 ghost use Rattle.std.specs.Option.{option_copied, option_map, option_or};
 ghost use Rattle.slp_text.specs.Keys.{key_of};
 ghost use Rattle.slp_messages.specs.Views.{header_in, message_in, registration_in};
-ghost use Rattle.registry_core.specs.Entries.{outlives, passing_entries, pair_of};
-ghost use Rattle.directory_judge.specs.Judgements.{because_of, because_of_entry, denial_of_old, denial_of_room, denial_of_template, judgement_in, judgement_of_particulars, judgement_of_registration, judgement, IsChange, IsJudgement};
+ghost use Rattle.registry_core.specs.Entries.{pair_of};
+ghost use Rattle.directory_judge.specs.Judgements.{because_of, because_of_entry, denial_of_old, denial_of_room, denial_of_template, judgement_in, judgement_of_particulars, judgement_of_registration, judgement, IsJudgement};
 ghost use Rattle.directory_judge.specs.Judgements as spec;
 ghost use Rattle.directory_judge.specs.NamedEntries.{particulars_named, IsJudgedNamed};
 
 use crate::change::Placed;
 use crate::grounds::Grounds;
-use crate::judgement::{Decision, Judged};
+use crate::judgement::Decision;
 use crate::particulars::{Particulars, Reading, is_agent, name, read_kind, read_language};
 use crate::reason::{Decider, Reason};
-use crate::ruling::{denial, denied};
-use crate::site::Site;
-use access_rules::{Action, Addr, Rules};
+use access_rules::Action;
 use registry_core::{Entry, Registry};
-use slp_messages::{ChangeView, KeptHeader, Message, RegistrationView};
+use slp_messages::{ChangeView, KeptHeader, RegistrationView};
 use slp_text::NoMemory;
 use std::alloc::Global;
 use std::sync::Arc;
@@ -61,7 +59,7 @@ impl<'a, R: Registry> Grounds<'a, R> {
         ensures { IfOk result (λ j. IsJudgedNamed self.now true named (because_of_entry decider named) (judgement_in j)) }
     {
         if let Some(reason) = self.objection(&named) {
-            return denial(alloc, reason);
+            return Decision::denied(alloc, reason);
         }
         let entry = Arc::new(alloc, named)?;
         let moment = self.moment;
@@ -129,7 +127,10 @@ impl<'a, R: Registry> Grounds<'a, R> {
         let named = self.named(alloc, header, registration, particulars)?;
         match self.rule(Action::Register, &named.kind, &named.scopes) {
             None => {
-                let told = denial(alloc, Reason::of_step(Decider::Scope, Some(&named.kind)));
+                let told = Decision::denied(
+                    alloc,
+                    Reason::of_step(Decider::Scope, Some(&named.kind)),
+                );
                 drop(named);
                 told
             }
@@ -138,7 +139,7 @@ impl<'a, R: Registry> Grounds<'a, R> {
                 self.judge_named(alloc, named, header.flags.fresh, decider)
             }
             Some(ruling) => {
-                let told = denial(alloc, ruling.reason());
+                let told = Decision::denied(alloc, ruling.reason());
                 drop(named);
                 told
             }
@@ -156,7 +157,7 @@ impl<'a, R: Registry> Grounds<'a, R> {
     {
         let kind = read_kind(alloc, registration.kind)?;
         match name(alloc, self.site, header, registration, kind)? {
-            Reading::Denied(because) => Ok(Decision::Judged(denied(because))),
+            Reading::Denied(because) => Ok(Decision::Denied(because)),
             Reading::Read(particulars) => self.judge_particulars(
                 alloc,
                 header,
@@ -178,51 +179,8 @@ impl<R: Registry> Grounds<'_, R> {
                 self.judge_registration(alloc, header, registration)
             }
             ChangeView::Withdrawal(header, withdrawal) => {
-                let judged = self.judge_withdrawal(alloc, header, withdrawal)?;
-                Ok(Decision::Judged(judged))
+                self.judge_withdrawal(alloc, header, withdrawal)
             }
         }
     }
-}
-
-/// A message that may change something, lent.
-pub fn change_view(message: &Message) -> ChangeView<'_>
-    requires { IsChange message.now }
-    ensures { message_in result ≡ message.now }
-{
-    match message {
-        Message::Registration(header, registration) => {
-            ChangeView::Registration(header.view(), registration.view())
-        }
-        Message::Withdrawal(header, withdrawal) => {
-            ChangeView::Withdrawal(header.view(), withdrawal.view())
-        }
-        _ => unreachable!(),
-    }
-}
-
-/// Judges a message that may change something (RFC 2608, sections 8.3 and 9.3): the first step whose
-/// fault is there, else the change is accepted at the moment `now`, in seconds. Nothing is changed.
-pub fn judge_on<R: Registry>(
-    alloc: Global,
-    registry: &R,
-    rules: &Rules,
-    site: &Site,
-    now: u32,
-    asker: Addr,
-    message: &Message,
-) -> Result<Judged, NoMemory>
-    requires { IsChange message.now }
-    ensures { IfOk result (λ j. let live = passing_entries (outlives now) (R.contents registry.now) in
-        IsJudgement live j (judgement (record { rules = rules.now; site = site.now; live = live; now = now; asker = asker }) message.now)) }
-{
-    let grounds = Grounds {
-        registry,
-        rules,
-        site,
-        moment: now,
-        asker,
-    };
-    let decided = grounds.judge(alloc, &change_view(message))?;
-    decided.judged(alloc)
 }

@@ -2,14 +2,13 @@ ghost use Rattle.std.specs.Prelude.{◌≡◌, ◌<◌, ◌≤◌, length, IfOk}
 ghost use Rattle.std.specs.Arc.{arc_value};
 ghost use Rattle.attr_list.specs.Maps.{attributes_without};
 ghost use Rattle.slp_text.specs.Keys.{key_of};
-ghost use Rattle.directory_judge.specs.Judgements.{judgement_of_removal, IsJudgement};
+ghost use Rattle.directory_judge.specs.Judgements.{judgement_in, judgement_of_removal, IsJudgement};
 
 use crate::change::{Change, Placed, Withdrawn};
 use crate::grounds::Grounds;
-use crate::judgement::Judged;
+use crate::judgement::Decision;
 use crate::particulars::read_language;
-use crate::reason::{Decider, Reason};
-use crate::ruling::{deny, deny_by};
+use crate::reason::{Because, Decider, Reason};
 use access_rules::Action;
 use registry_core::{Entry, Registry};
 use slp_text::{NoMemory, TagList};
@@ -43,30 +42,33 @@ impl<R: Registry> Grounds<'_, R> {
         language: &str,
         withdrawn: &Withdrawn,
         tags: &TagList,
-    ) -> Result<Judged, NoMemory>
+    ) -> Result<Decision, NoMemory>
         requires scoped { 0 < length withdrawn.now.scopes }
         requires few_scopes { length withdrawn.now.scopes ≤ 16 }
-        ensures { IfOk result (λ j. IsJudgement self.now.live j (judgement_of_removal self.now (withdrawn.now.url, key_of language.now) tags.now withdrawn.now.scopes)) }
+        ensures { IfOk result (λ j. IsJudgement self.now.live (judgement_in j) (judgement_of_removal self.now (withdrawn.now.url, key_of language.now) tags.now withdrawn.now.scopes)) }
     {
         let language = read_language(alloc, language)?;
         let Some(old) = self.live_entry(&withdrawn.url, &language) else {
-            return Ok(Judged::Nothing);
+            return Ok(Decision::Unchanged);
         };
         if old.scopes != withdrawn.scopes {
-            return Ok(deny_by(Decider::Scope));
+            return Ok(Decision::Denied(Because::by(Decider::Scope, None)));
         }
         match self.rule(Action::Withdraw, &old.kind, &old.scopes) {
-            None => Ok(deny_by(Decider::Scope)),
+            None => Ok(Decision::Denied(Because::by(Decider::Scope, None))),
             Some(ruling) if ruling.verdict.allow => {
                 let entry = remaining(alloc, old, tags)?;
                 if !self.conforms(&old.kind, &entry.attrs) {
-                    return deny(alloc, Reason::of_step(Decider::Template, Some(&old.kind)));
+                    return Decision::denied(
+                        alloc,
+                        Reason::of_step(Decider::Template, Some(&old.kind)),
+                    );
                 }
                 let because = ruling.reason().copy(alloc)?;
                 let moment = self.moment;
-                Ok(Judged::Accept(Change::Edit(Placed { moment, entry }), because))
+                Ok(Decision::Accepted(Change::Edit(Placed { moment, entry }), because))
             }
-            Some(ruling) => deny(alloc, ruling.reason()),
+            Some(ruling) => Decision::denied(alloc, ruling.reason()),
         }
     }
 }

@@ -11,7 +11,6 @@ use crate::change::Placed;
 use crate::grounds::Grounds;
 use crate::judgement::Decision;
 use crate::reason::{Decider, Reason};
-use crate::ruling::denial;
 use registry_core::{Entry, Registry};
 use slp_text::NoMemory;
 use std::alloc::Global;
@@ -62,11 +61,14 @@ impl<'a, R: Registry> Grounds<'a, R> {
         ensures { IfOk result (λ j. IsJudgedNamed self.now false named (because_of_entry decider named) (judgement_in j)) }
     {
         match self.updatable(&named) {
-            Err(reason) => denial(alloc, reason),
+            Err(reason) => Decision::denied(alloc, reason),
             Ok(old) => {
                 let entry = updated(alloc, old, named)?;
                 if !self.conforms(&entry.kind, &entry.attrs) {
-                    return denial(alloc, Reason::of_step(Decider::Template, Some(&entry.kind)));
+                    return Decision::denied(
+                        alloc,
+                        Reason::of_step(Decider::Template, Some(&entry.kind)),
+                    );
                 }
                 let moment = self.moment;
                 Ok(Decision::Edited(Placed { moment, entry }, decider))

@@ -8,16 +8,16 @@ ghost use Rattle.slp_text.specs.Scopes.{scopes_of};
 ghost use Rattle.slp_messages.specs.Views.{header_in, withdrawal_in};
 ghost use Rattle.service_url.specs.Urls.{url_of};
 ghost use Rattle.registry_core.specs.Entries.{is_of_url};
-ghost use Rattle.directory_judge.specs.Judgements.{concerned_entries, entries_in, first_of, is_kept, judgement_of_texts, judgement_of_url, judgement_of_withdrawal, IsJudgement};
+ghost use Rattle.directory_judge.specs.Judgements.{concerned_entries, entries_in, first_of, is_kept, judgement_in, judgement_of_texts, judgement_of_url, judgement_of_withdrawal, IsJudgement};
 ghost use Rattle.directory_judge.specs.Walks.{earlier_ruling, entry_in, walk_with, IsRuledWalk, IsVisit};
 ghost use Rattle.directory_judge.specs.Withdrawals.{withdrawal_of_texts};
 
 use crate::change::{Change, Withdrawn};
 use crate::grounds::Grounds;
-use crate::judgement::Judged;
+use crate::judgement::Decision;
 use crate::particulars::{read_supported, read_tags, read_url};
-use crate::reason::Decider;
-use crate::ruling::{Ruling, deny, deny_by};
+use crate::reason::{Because, Decider};
+use crate::ruling::Ruling;
 use crate::site::Site;
 use access_rules::Action;
 use registry_core::{Entry, Registry};
@@ -142,22 +142,23 @@ impl<'a, R: Registry> Grounds<'a, R> {
     }
 
     // Judges a withdrawal by what is live of its URL.
-    fn judge_stored(&self, alloc: Global, withdrawn: Arc<Withdrawn>) -> Result<Judged, NoMemory>
+    fn judge_stored(&self, alloc: Global, withdrawn: Arc<Withdrawn>) -> Result<Decision, NoMemory>
         requires { 0 < length (arc_value withdrawn).scopes }
-        ensures { IfOk result (λ j. IsJudgement self.now.live j (judgement_of_url self.now (arc_value withdrawn).url (arc_value withdrawn).scopes)) }
+        ensures { IfOk result (λ j. IsJudgement self.now.live (judgement_in j) (judgement_of_url self.now (arc_value withdrawn).url (arc_value withdrawn).scopes)) }
     {
         let walk = self.walk(&withdrawn);
         if !walk.is_live {
-            return Ok(Judged::Nothing);
+            return Ok(Decision::Unchanged);
         }
         let Some(first) = walk.first else {
-            return Ok(deny_by(Decider::Scope));
+            return Ok(Decision::Denied(Because::by(Decider::Scope, None)));
         };
         if let Some(kept) = walk.kept {
-            return deny(alloc, kept.ruling.reason());
+            return Decision::denied(alloc, kept.ruling.reason());
         }
         let because = first.ruling.reason().copy(alloc)?;
-        Ok(Judged::Accept(Change::Withdraw(self.moment, withdrawn), because))
+        let change = Change::Withdraw(self.moment, withdrawn);
+        Ok(Decision::Accepted(change, because))
     }
 
     // Judges a withdrawal of some tags, or where there are none of a URL.
@@ -167,14 +168,14 @@ impl<'a, R: Registry> Grounds<'a, R> {
         header: &KeptHeader<'_>,
         withdrawal: &WithdrawalView<'_>,
         tags: &TagList,
-    ) -> Result<Judged, NoMemory>
-        ensures { IfOk result (λ j. IsJudgement self.now.live j (judgement_of_texts self.now (key_of header.now.language.now) (result_ok (url_of withdrawal.now.entry.url.now)) (Some tags.now) (result_ok (scopes_of withdrawal.now.scopes.now)))) }
+    ) -> Result<Decision, NoMemory>
+        ensures { IfOk result (λ j. IsJudgement self.now.live (judgement_in j) (judgement_of_texts self.now (key_of header.now.language.now) (result_ok (url_of withdrawal.now.entry.url.now)) (Some tags.now) (result_ok (scopes_of withdrawal.now.scopes.now)))) }
     {
         let Some(withdrawn) = read_withdrawn(alloc, self.site, withdrawal)? else {
-            return Ok(deny_by(Decider::Parse));
+            return Ok(Decision::Denied(Because::by(Decider::Parse, None)));
         };
         if withdrawn.scopes.is_empty() {
-            return Ok(deny_by(Decider::Scope));
+            return Ok(Decision::Denied(Because::by(Decider::Scope, None)));
         }
         if tags.is_empty() {
             return self.judge_stored(alloc, withdrawn);
@@ -188,12 +189,12 @@ impl<'a, R: Registry> Grounds<'a, R> {
         alloc: Global,
         header: &KeptHeader<'_>,
         withdrawal: &WithdrawalView<'_>,
-    ) -> Result<Judged, NoMemory>
-        ensures { IfOk result (λ j. IsJudgement self.now.live j (judgement_of_withdrawal self.now (header_in header.now) (withdrawal_in withdrawal.now))) }
+    ) -> Result<Decision, NoMemory>
+        ensures { IfOk result (λ j. IsJudgement self.now.live (judgement_in j) (judgement_of_withdrawal self.now (header_in header.now) (withdrawal_in withdrawal.now))) }
     {
         match read_tags(alloc, withdrawal.tags)? {
             Some(tags) => self.judge_asked(alloc, header, withdrawal, &tags),
-            None => Ok(deny_by(Decider::Parse)),
+            None => Ok(Decision::Denied(Because::by(Decider::Parse, None))),
         }
     }
 }

@@ -1,5 +1,5 @@
 -- What is answered to bytes, and which change comes of them.
-use Rattle.std.specs.Prelude.{◌≡◌, ◌⊎◌, ℕ, Bool, true, false, ◌==◌, ◌||◌, List, [], ◌∷◌, ◌++◌, codes, length, Option, Some, None, Result, Ok, Err, if◌then◌else◌}
+use Rattle.std.specs.Prelude.{◌≡◌, ◌⊎◌, ℕ, Bool, true, false, ◌==◌, List, [], ◌∷◌, ◌++◌, codes, length, Option, Some, None, Result, Ok, Err, if◌then◌else◌}
 use Rattle.std.specs.List.{list_any}
 use Rattle.std.specs.Option.{option_map_or}
 use Rattle.slp_headers.specs.Headers.{Heading, heading_of}
@@ -9,7 +9,7 @@ use Rattle.slp_wire.specs.Reading.{reading}
 use Rattle.slp_wire.specs.Spelling.{plain_bytes}
 use Rattle.slp_fields.specs.declared.fault.WireFault.{WireFault}
 use Rattle.slp_messages.specs.declared.code.TheConstants.{OK}
-use Rattle.slp_messages.specs.declared.function.TheConstants.{REGISTRATION, WITHDRAWAL, DIRECTORY_ADVERT}
+use Rattle.slp_messages.specs.declared.function.TheConstants.{DIRECTORY_ADVERT}
 use Rattle.slp_messages.specs.declared.message.DirectoryAdvert.TheVariants as directory_advert
 use Rattle.slp_messages.specs.declared.message.Message.{Message}
 use Rattle.slp_messages.specs.declared.message.Message.TheVariants as message
@@ -22,10 +22,11 @@ use Rattle.directory_judge.specs.declared.reason.Because.{Because}
 use Rattle.directory_judge.specs.Sites.{Site}
 use Rattle.directory_judge.specs.declared.reason.Decider.TheVariants as decider
 use Rattle.directory_questions.specs.Items.{Answers, AreItems, AreJoined, AreTypes, attribute_texts, IsAskedAbout, IsDescribed, IsElsewhere, IsForeign, IsNamed, IsOpenNow, kind_asked}
-use Rattle.directory_questions.specs.Calls.{Opening, Call}
+use Rattle.directory_questions.specs.Calls.{Opening, Call, standpoint_of}
 use Rattle.directory_questions.specs.Cuts.{attributes_with, IsCut, reply_header, services_with, types_with}
 use Rattle.directory_questions.specs.Outcomes.{Outcome, silence, outcome, sent_of, code_outcome, code_outcome_as, denial_outcome, fault_outcome, acknowledgement_of}
 use Rattle.directory_questions.specs.Questions.{attribute_question, service_question, type_question, unless_answered}
+use Rattle.directory_questions.specs.Requests.{is_change_function}
 use Rattle.directory_questions.specs.Verdicts.{IsVerdict, change_in}
 use Rattle.directory_questions.specs.declared.query.AttrQuery.{AttrQuery}
 use Rattle.directory_questions.specs.declared.query.ServiceQuery.{ServiceQuery}
@@ -35,10 +36,6 @@ use Rattle.directory_questions.specs.declared.question.Question.TheVariants.{Sil
 use Rattle.directory_questions.specs.declared.question.Question.TheVariants as question
 
 -- ---- which bytes ask for a change
-
--- a registration or a withdrawal
-abbrev pub is_change_function : ℕ → Bool
-is_change_function function = function == REGISTRATION || function == WITHDRAWAL
 
 -- a readable header of a registration or a withdrawal
 unfoldable pub is_change_of : List ℕ → Bool
@@ -177,10 +174,10 @@ IsDescription IsOpen limit h q r =
 -- what may come of a sense at a history, and the change that is made
 abbrev pub IsAnswerTo : Opening → History → Call → Sense → Outcome → Option Event → Type 0
 IsAnswerTo o h c (Settled it) r change = (r ≡ it) × (change ≡ None)
-IsAnswerTo o h c (Lists head q) r change = IsListed (IsOpenNow o h c.moment c.asker q.scopes) (now h c.moment) c.limit head q r × (change ≡ None)
-IsAnswerTo o h c (Describes head q) r change = IsDescription (IsOpenNow o h c.moment c.asker q.scopes) c.limit head q r × (change ≡ None)
-IsAnswerTo o h c (Names head q) r change = IsTypeAnswer (IsOpenNow o h c.moment c.asker q.scopes) c.limit head q r × (change ≡ None)
-IsAnswerTo o h c (Changes head m) r change = (v : Judgement) × IsVerdict o h c.moment c.asker m v × (r ≡ acknowledgement_of head v) × (change ≡ change_in v)
+IsAnswerTo o h c (Lists head q) r change = IsListed (IsOpenNow (standpoint_of o h c) q.scopes) (now h c.moment) c.limit head q r × (change ≡ None)
+IsAnswerTo o h c (Describes head q) r change = IsDescription (IsOpenNow (standpoint_of o h c) q.scopes) c.limit head q r × (change ≡ None)
+IsAnswerTo o h c (Names head q) r change = IsTypeAnswer (IsOpenNow (standpoint_of o h c) q.scopes) c.limit head q r × (change ≡ None)
+IsAnswerTo o h c (Changes head m) r change = (v : Judgement) × IsVerdict (standpoint_of o h c) m v × (r ≡ acknowledgement_of head v) × (change ≡ change_in v)
 
 -- what may come of bytes at a history, and the change that is made
 unfoldable pub IsAnswer : Opening → History → Call → Outcome → Option Event → Type 0
@@ -198,4 +195,4 @@ scopes_in (Changes h m) = []
 
 -- the entry is live, and open to who asks in the scopes that are asked for
 abbrev pub IsOpenTo : Opening → History → Call → Entry → Type 0
-IsOpenTo o h c e = IsOpenNow o h c.moment c.asker (scopes_in (sense_of o.site c)) e
+IsOpenTo o h c e = IsOpenNow (standpoint_of o h c) (scopes_in (sense_of o.site c)) e

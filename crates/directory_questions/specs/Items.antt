@@ -5,17 +5,17 @@ use Rattle.std.specs.Option.{option_map_or}
 use Rattle.attr_list.specs.Lists.{Attributes}
 use Rattle.attr_list.specs.Maps.{joined_attributes, selected_attributes}
 use Rattle.attr_list.specs.Texts.{attribute_text}
-use Rattle.access_rules.specs.Deciding.{SiteRules, deciding}
+use Rattle.access_rules.specs.Deciding.{SiteRules, deciding, deed}
 use Rattle.access_rules.specs.declared.rule.Action.TheVariants.{See}
 use Rattle.registry_core.specs.declared.entry.Entry.{Entry}
 use Rattle.service_url.specs.Types.{authority_of, covers}
 use Rattle.slp_text.specs.Words.{bytes_eq, IsAscending}
 use Rattle.search_filter.specs.Filters.{holds}
 use Rattle.slp_messages.specs.declared.message.UrlEntry.{UrlEntry}
-use Rattle.directory_judge.specs.History.{History, now}
+use Rattle.directory_judge.specs.History.{now}
 use Rattle.directory_judge.specs.Meaning.{Live, rules}
 use Rattle.directory_judge.specs.Sites.{Site}
-use Rattle.directory_questions.specs.Calls.{Opening}
+use Rattle.directory_questions.specs.Calls.{Standpoint}
 use Rattle.directory_questions.specs.declared.query.AttrQuery.{AttrQuery}
 use Rattle.directory_questions.specs.declared.query.Authority.{Authority}
 use Rattle.directory_questions.specs.declared.query.Authority.TheVariants as authority
@@ -30,12 +30,12 @@ pub record Open (rs : SiteRules) (site : Site) (asker : ℕ) (asked : List (List
   pub stored : Contains e.scopes scope
   pub requested : Contains asked scope
   pub supported : Contains site.scopes scope
-  pub allowed : IsTrue (deciding rs asker See e.kind scope).allow
+  pub allowed : IsTrue (deciding rs (deed asker See e.kind) scope).allow
 
 -- the entry is live, and open to the asker in the scopes that are asked for
-pub record IsOpenNow (o : Opening) (h : History) (m asker : ℕ) (asked : List (List ℕ)) (e : Entry) : Type 0 where
-  pub live : Live h m e
-  pub open_to : Open (rules o.rules h) o.site asker asked e
+pub record IsOpenNow (from : Standpoint) (asked : List (List ℕ)) (e : Entry) : Type 0 where
+  pub live : Live from.history from.moment e
+  pub open_to : Open (rules from.opening.rules from.history) from.opening.site from.asker asked e
 
 -- the entry is one of those that are open, and is of what is asked about
 pub record Matches (IsOpen : Entry → Type 0) (is_about : Entry → Bool) (e : Entry) : Type 0 where
@@ -83,8 +83,8 @@ pub record AreItems (P : Entry → Type 0) (moment : ℕ) (items : List UrlEntry
   pub all : (e : Entry) → P e → Contains (map (λ i. i.url) items) e.url
 
 -- the answer set of a service request
-abbrev pub AreServices : Opening → History → ℕ → ℕ → ServiceQuery → List UrlEntry → Type 0
-AreServices o h m asker q items = AreItems (Answers (IsOpenNow o h m asker q.scopes) q) (now h m) items
+abbrev pub AreServices : Standpoint → ServiceQuery → List UrlEntry → Type 0
+AreServices from q items = AreItems (Answers (IsOpenNow from q.scopes) q) (now from.history from.moment) items
 
 -- ---- attributes
 
@@ -119,8 +119,8 @@ pub record AreJoined (P : Entry → Type 0) (q : AttrQuery) (a : Attributes) : T
   pub joined : a ≡ selected_attributes (joined_attributes (map (λ e. e.attrs) from)) q.tags
 
 -- the answer set of an attribute request
-abbrev pub AreAttributesOf : Opening → History → ℕ → ℕ → AttrQuery → Attributes → Type 0
-AreAttributesOf o h m asker q = AreJoined (IsDescribed (IsOpenNow o h m asker q.scopes) q) q
+abbrev pub AreAttributesOf : Standpoint → AttrQuery → Attributes → Type 0
+AreAttributesOf from q = AreJoined (IsDescribed (IsOpenNow from q.scopes) q) q
 
 -- each attribute as it is written, in key order
 abbrev pub attribute_texts : Attributes → List (List ℕ)
@@ -144,5 +144,5 @@ pub record AreTypes (P : Entry → Type 0) (types : List (List ℕ)) : Type 0 wh
   pub all : (e : Entry) → P e → Contains types e.kind
 
 -- the answer set of a type request
-abbrev pub AreTypesOf : Opening → History → ℕ → ℕ → TypeQuery → List (List ℕ) → Type 0
-AreTypesOf o h m asker q = AreTypes (IsNamed (IsOpenNow o h m asker q.scopes) q)
+abbrev pub AreTypesOf : Standpoint → TypeQuery → List (List ℕ) → Type 0
+AreTypesOf from q = AreTypes (IsNamed (IsOpenNow from q.scopes) q)

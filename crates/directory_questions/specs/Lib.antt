@@ -4,5 +4,6 @@ pub mod Cuts
 pub mod Items
 pub mod Outcomes
 pub mod Questions
+pub mod Requests
 pub mod Readings
 pub mod Verdicts

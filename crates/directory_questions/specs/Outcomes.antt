@@ -6,11 +6,11 @@ use Rattle.slp_headers.specs.declared.flag.TheConstants.{MULTICAST}
 use Rattle.slp_fields.specs.declared.fault.WireFault.{WireFault}
 use Rattle.slp_fields.specs.declared.fault.WireFault.TheVariants as fault
 use Rattle.slp_messages.specs.declared.code.TheConstants.{OK}
-use Rattle.slp_messages.specs.declared.function.TheConstants.{SERVICE_REQUEST, ATTRIBUTE_REQUEST, TYPE_REQUEST}
 use Rattle.directory_judge.specs.Judgements.{Judgement, Accepts, Ignores, Waits, Denies, by_step, code_by}
 use Rattle.directory_judge.specs.declared.reason.Because.{Because}
 use Rattle.directory_judge.specs.declared.reason.Decider.{Decider}
 use Rattle.directory_judge.specs.declared.reason.Decider.TheVariants as decider
+use Rattle.directory_questions.specs.Requests.{is_question_function}
 
 -- the bytes of a reply, none where none is sent; and the code, and who decided on what, where there is a verdict
 pub record Outcome : Type 0 where
@@ -31,7 +31,7 @@ code_sent r = elim r.reply [ [] ↦ None | b ∷ bs ↦ elim r.verdict [ None �
 
 -- a question that was sent to many
 abbrev pub is_to_many : Heading → Bool
-is_to_many h = has_flag MULTICAST h.flags && (h.function == SERVICE_REQUEST || h.function == ATTRIBUTE_REQUEST || h.function == TYPE_REQUEST)
+is_to_many h = has_flag MULTICAST h.flags && is_question_function h.function
 
 -- what is sent of a reply with a code, which may have nothing in it: a question that was sent to many gets no error and nothing empty. The verdict stands.
 abbrev pub sent_of : Heading → ℕ → Bool → List ℕ → List ℕ

@@ -4,7 +4,8 @@ use Rattle.slp_messages.specs.Messages.{IsMessage, function_of}
 use Rattle.slp_wire.specs.Reading.{reading}
 use Rattle.slp_fields.specs.declared.fault.WireFault.{WireFault}
 use Rattle.slp_messages.specs.declared.message.Message.{Message}
-use Rattle.directory_questions.specs.Answers.{is_change_function, is_change_of, question_of}
+use Rattle.directory_questions.specs.Answers.{is_change_of, question_of}
+use Rattle.directory_questions.specs.Requests.{is_change_function}
 use Rattle.directory_questions.specs.declared.question.Question.{Question}
 
 -- a registration or a withdrawal, by its function

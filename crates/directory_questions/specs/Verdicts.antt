@@ -7,17 +7,23 @@ use Rattle.directory_judge.specs.History.{History, Event, Put, Set, Remove, With
 use Rattle.directory_judge.specs.Judgements.{Grounds, Judgement, Accepts, Ignores, Waits, Denies, judgement}
 use Rattle.directory_judge.specs.Meaning.{AreLive, rules}
 use Rattle.directory_judge.specs.declared.reason.Because.{Because}
-use Rattle.directory_questions.specs.Calls.{Opening}
+use Rattle.directory_questions.specs.Calls.{Opening, Standpoint, standpoint}
 
--- what a message is judged on at a history, where these are the live entries
-abbrev pub grounds : Opening → History → Entries → ℕ → ℕ → Grounds
-grounds o h live m asker = record { rules = rules o.rules h; site = o.site; live = live; now = now h m; asker = asker }
+-- what a message is judged on from a standpoint, where these are the live entries
+abbrev pub grounds : Standpoint → Entries → Grounds
+grounds from live = record {
+  rules = rules from.opening.rules from.history;
+  site = from.opening.site;
+  live = live;
+  now = now from.history from.moment;
+  asker = from.asker;
+}
 
--- the verdict at a history and a moment on what an asker sends
-pub record IsVerdict (o : Opening) (h : History) (m asker : ℕ) (sent : Message) (v : Judgement) : Type 0 where
+-- the verdict from a standpoint on what is sent
+pub record IsVerdict (from : Standpoint) (sent : Message) (v : Judgement) : Type 0 where
   pub live : Entries
-  pub are_live : AreLive h m live
-  pub is : v ≡ judgement (grounds o h live m asker) sent
+  pub are_live : AreLive from.history from.moment live
+  pub is : v ≡ judgement (grounds from live) sent
 
 -- the event is what some message makes, sent at some moment
 pub record IsAccepted (o : Opening) (h : History) (c : Event) : Type 0 where
@@ -26,7 +32,7 @@ pub record IsAccepted (o : Opening) (h : History) (c : Event) : Type 0 where
   pub sent : Message
   pub sound : IsMessage sent
   pub because : Because
-  pub verdict : IsVerdict o h moment asker sent (Accepts c because)
+  pub verdict : IsVerdict (standpoint o h moment asker) sent (Accepts c because)
 
 -- a registration, an update or a withdrawal is what some message makes; sweeps and reloads are the operator's
 abbrev pub IsGrounded : Opening → History → Event → Type 0

@@ -3,16 +3,16 @@
 #![tactic(auto)]
 
 mod call;
-mod change;
 mod fault;
 mod query;
 mod question;
 mod reading;
+mod request;
 mod responders;
 
 pub use call::Call;
-pub use change::{is_change, is_change_function};
 pub use fault::decider_of;
 pub use query::{AgentQuery, AttrQuery, Authority, QueryFault, ServiceQuery, Target, TypeQuery};
 pub use question::{Question, asked};
 pub use reading::asked_change;
+pub use request::{Request, is_change};

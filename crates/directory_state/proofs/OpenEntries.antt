@@ -9,13 +9,13 @@ use Rattle.std.proofs.lemmas.Map.Text.{is_eq-slice_cmp}
 use Rattle.std.proofs.lemmas.Option.{none-some, same_Some}
 use Rattle.slp_text.proofs.KeySets.{bytes_same, member_cases}
 use borrow.Author.Tests.{ltb-true, lt-ltb}
-use Rattle.access_rules.specs.Deciding.{deciding}
+use Rattle.access_rules.specs.Deciding.{deciding, deed}
 use Rattle.access_rules.specs.declared.rule.Action.TheVariants.{See}
 use Rattle.registry_core.specs.declared.entry.Entry.{Entry}
 use Rattle.registry_core.specs.Entries.{Entries, pair_of, is_of, outlives, has_scope, IsDistinct, IsListing}
 use Rattle.registry_core.proofs.Lists.{pair_eq-true, pair_eq-same}
 use Rattle.slp_text.specs.Words.{bytes_eq}
-use Rattle.directory_questions.specs.Calls.{Opening}
+use Rattle.directory_questions.specs.Calls.{Opening, standpoint}
 use Rattle.directory_questions.specs.Items.{IsOpenNow, Matches}
 use Rattle.directory_judge.specs.History.{History, now}
 use Rattle.directory_judge.specs.Judgements.{supports}
@@ -169,13 +169,13 @@ module _ (o : Opening) (h : History) (s : State) (m asker n : ℕ) (scopes : Lis
   sees_there : (e : Entry) → seen e ≡ is_open (rules o.rules h) n asker (asked_scopes o.site scopes) e
   sees_there e = sees e ∙ ap₂ (λ rs site. is_open rs n asker (asked_scopes site scopes) e) fold.ruled fold.placed
 
-  from-seen : (e : Entry) → Contains (filter seen es) e → Matches (IsOpenNow o h m asker scopes) p e
+  from-seen : (e : Entry) → Contains (filter seen es) e → Matches (IsOpenNow (standpoint o h m asker) scopes) p e
   from-seen e has =
       let listed = listed-held p s.entries es l e (from-filter seen es e has) in
       let two = and_parts (outlives n e) (is_allowed (rules o.rules h) asker (asked_scopes o.site scopes) e) (sym (sees_there e) ∙ passes-filter seen es e has) in
-      let some = list_any-some (λ t. has_scope t e && (deciding (rules o.rules h) asker See e.kind t).allow) (asked_scopes o.site scopes) two.1 in
+      let some = list_any-some (λ t. has_scope t e && (deciding (rules o.rules h) (deed asker See e.kind) t).allow) (asked_scopes o.site scopes) two.1 in
       let scope = some.0 in
-      let three = and_parts (has_scope scope e) (deciding (rules o.rules h) asker See e.kind scope).allow some.2 in
+      let three = and_parts (has_scope scope e) (deciding (rules o.rules h) (deed asker See e.kind) scope).allow some.2 in
       let lives = ((fold.entries (pair_of e) e).0 listed.0).1 in
       record {
         opened = record {
@@ -191,15 +191,15 @@ module _ (o : Opening) (h : History) (s : State) (m asker n : ℕ) (scopes : Lis
         about = listed.1;
       }
 
-  to-seen : (e : Entry) → Matches (IsOpenNow o h m asker scopes) p e → Contains (filter seen es) e
+  to-seen : (e : Entry) → Matches (IsOpenNow (standpoint o h m asker) scopes) p e → Contains (filter seen es) e
   to-seen e a =
       let open_to = a.opened.open_to in
       let got = (fold.entries (pair_of e) e).1 (refl, record { stands = a.opened.live.stands; lasts = omega (arith, a.opened.live.lasts) }) in
       let asked = Contains-filter (is_asked o.site scopes) o.site.scopes open_to.scope open_to.supported (contains-list_any scopes open_to.scope open_to.requested) in
-      let allowed = some-list_any (λ t. has_scope t e && (deciding (rules o.rules h) asker See e.kind t).allow) (asked_scopes o.site scopes) open_to.scope asked
+      let allowed = some-list_any (λ t. has_scope t e && (deciding (rules o.rules h) (deed asker See e.kind) t).allow) (asked_scopes o.site scopes) open_to.scope asked
       (ap₂ ◌&&◌ (contains-list_any e.scopes open_to.scope open_to.stored) open_to.allowed) in
       Contains-filter seen es e (held-listed p s.entries es l e got a.about)
       (sees_there e ∙ ap₂ ◌&&◌ (lt-ltb n e.deadline (omega (arith, at, a.opened.live.lasts))) allowed)
 
-  pub seen-open : (e : Entry) → IsIn (filter seen es) e ↔ Matches (IsOpenNow o h m asker scopes) p e
+  pub seen-open : (e : Entry) → IsIn (filter seen es) e ↔ Matches (IsOpenNow (standpoint o h m asker) scopes) p e
   seen-open e = (from-seen e, to-seen e)

@@ -20,7 +20,7 @@ event_of_sense s m asker (Describes head q) = None
 event_of_sense s m asker (Names head q) = None
 event_of_sense s m asker (Changes head sent) = change_in (judgement (grounds_in s m asker) sent)
 
--- bytes that came at a moment, to whatever address: what asks for a change looks at no own address, and is answered in few bytes
+-- bytes that came at a moment, to whatever address: what asks for a change looks at none
 abbrev pub call_anywhere : ℕ → ℕ → List ℕ → Call
 call_anywhere m asker bytes = record { own = 0; moment = m; asker = asker; bytes = bytes; limit = 0 }
 

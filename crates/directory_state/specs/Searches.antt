@@ -1,6 +1,6 @@
 -- How what answers a question is found: each entry that is seen joins a list of URLs with their latest deadlines, which is cut to its room.
 use Rattle.std.specs.Prelude.{◌≡◌, ℕ, ◌+◌, ◌-◌, ◌<◌, ◌≤◌, Bool, true, ◌&&◌, nat_le, min, if◌then◌else◌, List, [], ◌∷◌, length, map, filter, Contains, Option, Some, None, IfSome, IsTrue}
-use Rattle.access_rules.specs.Deciding.{SiteRules, deciding}
+use Rattle.access_rules.specs.Deciding.{SiteRules, deciding, deed}
 use Rattle.access_rules.specs.declared.rule.Action.TheVariants.{See}
 use Rattle.registry_core.specs.Entries.{has_scope, outlives, pair_of}
 use Rattle.registry_core.specs.declared.entry.Entry.{Entry}
@@ -28,7 +28,7 @@ deadlines_with (e ∷ es) ps = deadlines_with es (with_deadline e.url e.deadline
 
 -- the entry stands in a scope, in which the asker may see its type
 abbrev pub is_open_in : SiteRules → ℕ → Entry → List ℕ → Bool
-is_open_in rules asker e s = has_scope s e && (deciding rules asker See e.kind s).allow
+is_open_in rules asker e s = has_scope s e && (deciding rules (deed asker See e.kind) s).allow
 
 -- it is so of one of the scopes
 abbrev pub is_allowed : SiteRules → ℕ → List (List ℕ) → Entry → Bool

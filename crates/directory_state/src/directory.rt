@@ -4,9 +4,9 @@ ghost use Rattle.std.specs.Arc.{arc_value};
 ghost use Rattle.std.specs.FinMap as fin;
 ghost use Rattle.slp_messages.specs.Views.{message_in};
 ghost use Rattle.directory_judge.specs.History.{History, Event};
-ghost use Rattle.directory_judge.specs.Judgements.{IsChange, Judgement, judgement_in, supports};
+ghost use Rattle.directory_judge.specs.Judgements.{Judgement, judgement_in, supports};
 ghost use Rattle.directory_judge.specs.Contents.{content, Reloads, Sweeps};
-ghost use Rattle.directory_questions.specs.Calls.{Opening};
+ghost use Rattle.directory_questions.specs.Calls.{Opening, standpoint};
 ghost use Rattle.registry_core.specs.declared.entry.Entry as spec;
 ghost use Rattle.directory_questions.specs.Items.{AreAttributesOf, AreServices, AreTypesOf, IsAskedAbout, IsElsewhere, IsForeign, IsOpenNow};
 ghost use Rattle.directory_state.specs.AskedScopes.{asked_scopes};
@@ -18,18 +18,16 @@ ghost use Rattle.directory_state.specs.State.{State, opening_state, state_change
 ghost use Rattle.directory_questions.specs.Verdicts.{IsLegal, IsVerdict};
 ghost use Rattle.directory_state.specs.Folds.{IsJudgedAs};
 
-use crate::arranging::{describe, lend, name_types};
+use crate::arranging::{lend, name_types};
 use crate::asked::Asked;
 use crate::search::{FoundItems, Room, Search, Shortlist};
 use crate::viewer::Viewer;
 use access_rules::{Addr, Rules};
-use attr_list::Attrs;
 use attr_union::AttrUnion;
-use directory_judge::{Change, Decision, Grounds, Judged, Site, change_view};
+use directory_judge::{Change, Decision, Grounds, Site};
 use directory_questions::{AttrQuery, QueryFault, ServiceQuery, Target, TypeQuery};
 use registry_core::{Entry, Registry};
-use service_url::ServiceType;
-use slp_messages::{ChangeView, Message, UrlEntry};
+use slp_messages::{ChangeView, UrlEntry};
 use slp_text::{NoMemory, ScopeList};
 use std::alloc::Global;
 use std::marker::Model;
@@ -111,23 +109,7 @@ impl<R: Registry> Directory<R> {
         &self.site
     }
 
-    /// Judges a message that may change something. Nothing is changed.
-    pub fn judge(
-        &self,
-        alloc: Global,
-        moment: u32,
-        asker: Addr,
-        message: &Message,
-    ) -> Result<Judged, NoMemory>
-        requires { IsChange message.now }
-        ensures { (o : Opening) (h : History) → Fold o h self.now → IsLegal o h
-            → IfOk result (λ j. (v : Judgement) × IsVerdict o h moment asker message.now v × IsJudgedAs h j v) }
-    {
-        let decided = self.judge_change(alloc, moment, asker, &change_view(message))?;
-        decided.judged(alloc)
-    }
-
-    /// The same of a message whose texts are lent, and with no copy of what a founded entry has.
+    /// Judges a message that may change something, whose texts are lent. Nothing is changed, and what a founded entry has is not copied.
     pub fn judge_change(
         &self,
         alloc: Global,
@@ -136,7 +118,7 @@ impl<R: Registry> Directory<R> {
         change: &ChangeView<'_>,
     ) -> Result<Decision, NoMemory>
         ensures { (o : Opening) (h : History) → Fold o h self.now → IsLegal o h
-            → IfOk result (λ j. (v : Judgement) × IsVerdict o h moment asker (message_in change.now) v × IsJudgedAs h (judgement_in j) v) }
+            → IfOk result (λ j. (v : Judgement) × IsVerdict (standpoint o h moment asker) (message_in change.now) v × IsJudgedAs h (judgement_in j) v) }
     {
         let grounds = Grounds {
             registry: &self.registry,
@@ -225,16 +207,18 @@ impl<R: Registry> Directory<R> {
         if asked.is_empty() {
             return None;
         }
+        let first = asked.at(0);
         Some(Viewer {
             asker,
             moment: u64::from(self.now(moment)),
             rules: &self.rules,
             asked,
+            first,
         })
     }
 
-    // Finds what answers a question, and keeps of it what there is room for.
-    fn search(
+    /// Finds what answers a question, and keeps of it what there is room for.
+    pub(crate) fn search(
         &self,
         alloc: Global,
         moment: u32,
@@ -245,10 +229,10 @@ impl<R: Registry> Directory<R> {
         requires { IsSmall room }
         ensures scope { IsErrOf result QueryFault.Scope ↔ (list_any (supports self.now.site) query.now.scopes ≡ false) }
         ensures language { (o : Opening) (h : History) → Fold o h self.now → IsLegal o h
-            → (IsErrOf result QueryFault.Language → IsForeign (IsOpenNow o h moment asker query.now.scopes) query.now) × IfOk result (λ _. ¬ IsForeign (IsOpenNow o h moment asker query.now.scopes) query.now) }
+            → (IsErrOf result QueryFault.Language → IsForeign (IsOpenNow (standpoint o h moment asker) query.now.scopes) query.now) × IfOk result (λ _. ¬ IsForeign (IsOpenNow (standpoint o h moment asker) query.now.scopes) query.now) }
         ensures kept { IfOk result (λ kept. IsKept kept × (kept.room ≡ room)) }
         ensures items { (o : Opening) (h : History) → Fold o h self.now → IsLegal o h
-            → IfOk result (λ kept. (all : List UrlDeadline) × AreServices o h moment asker query.now (map (item_at (max moment self.now.clock)) all) × (kept.latest ≡ cut_in room all)) }
+            → IfOk result (λ kept. (all : List UrlDeadline) × AreServices (standpoint o h moment asker) query.now (map (item_at (max moment self.now.clock)) all) × (kept.latest ≡ cut_in room all)) }
     {
         let Some(viewer) = self.viewer(moment, asker, &query.scopes) else {
             return Err(QueryFault::Scope);
@@ -258,28 +242,9 @@ impl<R: Registry> Directory<R> {
     }
 
     /// The URLs of the live entries that are open to the asker and match the question, in byte order,
-    /// each once and with the greatest remaining lifetime in seconds (RFC 2608, section 8.2). With a filter they
-    /// are those in the language of the question on which it holds; where something matches, but nothing in
-    /// that language, the answer is `Language`.
-    pub fn services(
-        &self,
-        alloc: Global,
-        moment: u32,
-        asker: Addr,
-        query: &ServiceQuery,
-    ) -> Result<Vec<UrlEntry>, QueryFault>
-        ensures scope { IsErrOf result QueryFault.Scope ↔ (list_any (supports self.now.site) query.now.scopes ≡ false) }
-        ensures language { (o : Opening) (h : History) → Fold o h self.now → IsLegal o h
-            → (IsErrOf result QueryFault.Language → IsForeign (IsOpenNow o h moment asker query.now.scopes) query.now) × IfOk result (λ _. ¬ IsForeign (IsOpenNow o h moment asker query.now.scopes) query.now) }
-        ensures items { (o : Opening) (h : History) → Fold o h self.now → IsLegal o h
-            → IfOk result (λ items. AreServices o h moment asker query.now items.items) }
-    {
-        let kept = self.search(alloc, moment, asker, query, None)?;
-        kept.into_items(alloc, u64::from(self.now(moment)))
-    }
-
-    /// What `services` answers, lent where it lies: in byte order, from the front as many as there is
-    /// room for.
+    /// each once and with the greatest remaining lifetime in seconds (RFC 2608, section 8.2): lent where they lie, from the
+    /// front as many as there is room for. With a filter they are those in the language of the question on which it holds;
+    /// where something matches, but nothing in that language, the answer is `Language`.
     pub fn find(
         &self,
         alloc: Global,
@@ -292,16 +257,17 @@ impl<R: Registry> Directory<R> {
         requires small_each { room.each ≤ 65535 }
         ensures scope { IsErrOf result QueryFault.Scope ↔ (list_any (supports self.now.site) query.now.scopes ≡ false) }
         ensures language { (o : Opening) (h : History) → Fold o h self.now → IsLegal o h
-            → (IsErrOf result QueryFault.Language → IsForeign (IsOpenNow o h moment asker query.now.scopes) query.now) × IfOk result (λ _. ¬ IsForeign (IsOpenNow o h moment asker query.now.scopes) query.now) }
+            → (IsErrOf result QueryFault.Language → IsForeign (IsOpenNow (standpoint o h moment asker) query.now.scopes) query.now) × IfOk result (λ _. ¬ IsForeign (IsOpenNow (standpoint o h moment asker) query.now.scopes) query.now) }
         ensures items { (o : Opening) (h : History) → Fold o h self.now → IsLegal o h
-            → IfOk result (λ found. (all : List UrlEntry) × AreServices o h moment asker query.now all × IsFront room all (items_in found) found.is_cut) }
+            → IfOk result (λ found. (all : List UrlEntry) × AreServices (standpoint o h moment asker) query.now all × IsFront room all (items_in found) found.is_cut) }
         ensures fits { IfOk result (λ found. size_in room (items_in found) ≤ room.bytes) }
     {
         let kept = self.search(alloc, moment, asker, query, Some(room))?;
         Ok(kept.fitting(u64::from(self.now(moment))))
     }
-    // What is open to the asker of what a question is about.
-    fn find_about(
+
+    /// What is open to the asker of what a question is about.
+    pub(crate) fn find_about(
         &self,
         alloc: Global,
         moment: u32,
@@ -312,7 +278,7 @@ impl<R: Registry> Directory<R> {
         ensures spoken { IsErrOf result QueryFault.Language → ⊥ }
         ensures once { IfOk result (λ v. HasOneOfEachPair (entries_lent v.items)) }
         ensures found { (o : Opening) (h : History) → Fold o h self.now
-            → IfOk result (λ v. (e : spec.Entry) → IsIn (entries_lent v.items) e ↔ IsAskedAbout (IsOpenNow o h moment asker query.now.scopes) query.now e) }
+            → IfOk result (λ v. (e : spec.Entry) → IsIn (entries_lent v.items) e ↔ IsAskedAbout (IsOpenNow (standpoint o h moment asker) query.now.scopes) query.now e) }
     {
         let Some(viewer) = self.viewer(moment, asker, &query.scopes) else {
             return Err(QueryFault::Scope);
@@ -323,7 +289,9 @@ impl<R: Registry> Directory<R> {
         }
     }
 
-    /// What `attributes` answers, lent where it lies.
+    /// What the tags of a question select of the attributes of the live entries that are open to the asker,
+    /// match it and are in its language, joined in the byte order of their URLs (RFC 2608, section 10.4): lent where it
+    /// lies. Where something matches, but nothing in that language, the answer is `Language`.
     pub fn find_attributes(
         &self,
         alloc: Global,
@@ -333,37 +301,17 @@ impl<R: Registry> Directory<R> {
     ) -> Result<AttrUnion<'_>, QueryFault>
         ensures scope { IsErrOf result QueryFault.Scope ↔ (list_any (supports self.now.site) query.now.scopes ≡ false) }
         ensures language { (o : Opening) (h : History) → Fold o h self.now → IsLegal o h
-            → (IsErrOf result QueryFault.Language → IsElsewhere (IsAskedAbout (IsOpenNow o h moment asker query.now.scopes) query.now) query.now.language)
-            × IfOk result (λ _. ¬ IsElsewhere (IsAskedAbout (IsOpenNow o h moment asker query.now.scopes) query.now) query.now.language) }
+            → (IsErrOf result QueryFault.Language → IsElsewhere (IsAskedAbout (IsOpenNow (standpoint o h moment asker) query.now.scopes) query.now) query.now.language)
+            × IfOk result (λ _. ¬ IsElsewhere (IsAskedAbout (IsOpenNow (standpoint o h moment asker) query.now.scopes) query.now) query.now.language) }
         ensures joined { (o : Opening) (h : History) → Fold o h self.now → IsLegal o h
-            → IfOk result (λ a. AreAttributesOf o h moment asker query.now a) }
+            → IfOk result (λ a. AreAttributesOf (standpoint o h moment asker) query.now a) }
     {
         let found = self.find_about(alloc, moment, asker, query)?;
         lend(alloc, found, query)
     }
 
-    /// What the tags of a question select of the attributes of the live entries that are open to the asker,
-    /// match it and are in its language, joined in the byte order of their URLs (RFC 2608, section 10.4). Where
-    /// something matches, but nothing in that language, the answer is `Language`.
-    pub fn attributes(
-        &self,
-        alloc: Global,
-        moment: u32,
-        asker: Addr,
-        query: &AttrQuery,
-    ) -> Result<Attrs, QueryFault>
-        ensures scope { IsErrOf result QueryFault.Scope ↔ (list_any (supports self.now.site) query.now.scopes ≡ false) }
-        ensures language { (o : Opening) (h : History) → Fold o h self.now → IsLegal o h
-            → (IsErrOf result QueryFault.Language → IsElsewhere (IsAskedAbout (IsOpenNow o h moment asker query.now.scopes) query.now) query.now.language)
-            × IfOk result (λ _. ¬ IsElsewhere (IsAskedAbout (IsOpenNow o h moment asker query.now.scopes) query.now) query.now.language) }
-        ensures joined { (o : Opening) (h : History) → Fold o h self.now → IsLegal o h
-            → IfOk result (λ a. AreAttributesOf o h moment asker query.now a) }
-    {
-        let found = self.find_about(alloc, moment, asker, query)?;
-        describe(alloc, found, query)
-    }
-
-    /// What `types` answers, lent where it lies: an entry of each type, in the key order of the types.
+    /// The types of the live entries, of every language, that are open to the asker and of the naming
+    /// authority that is asked for, in key order, each once (RFC 2608, section 10.2): lent, an entry of each.
     pub fn find_types(
         &self,
         alloc: Global,
@@ -374,7 +322,7 @@ impl<R: Registry> Directory<R> {
         ensures scope { IsErrOf result QueryFault.Scope ↔ (list_any (supports self.now.site) query.now.scopes ≡ false) }
         ensures spoken { IsErrOf result QueryFault.Language → ⊥ }
         ensures types { (o : Opening) (h : History) → Fold o h self.now → IsLegal o h
-            → IfOk result (λ v. AreTypesOf o h moment asker query.now (map (λ e. e.kind) (entries_lent v.items))) }
+            → IfOk result (λ v. AreTypesOf (standpoint o h moment asker) query.now (map (λ e. e.kind) (entries_lent v.items))) }
     {
         let Some(viewer) = self.viewer(moment, asker, &query.scopes) else {
             return Err(QueryFault::Scope);
@@ -382,33 +330,4 @@ impl<R: Registry> Directory<R> {
         let found = viewer.gather(alloc, &self.registry, None)?;
         Ok(name_types(found, query))
     }
-
-    /// The types of the live entries, of every language, that are open to the asker and of the naming
-    /// authority that is asked for, in key order, each once (RFC 2608, section 10.2).
-    pub fn types(
-        &self,
-        alloc: Global,
-        moment: u32,
-        asker: Addr,
-        query: &TypeQuery,
-    ) -> Result<Vec<ServiceType>, QueryFault>
-        ensures scope { IsErrOf result QueryFault.Scope ↔ (list_any (supports self.now.site) query.now.scopes ≡ false) }
-        ensures spoken { IsErrOf result QueryFault.Language → ⊥ }
-        ensures types { (o : Opening) (h : History) → Fold o h self.now → IsLegal o h
-            → IfOk result (λ v. AreTypesOf o h moment asker query.now v.items) }
-    {
-        let found = self.find_types(alloc, moment, asker, query)?;
-        Ok(copied_types(alloc, &found)?)
-    }
-}
-
-// The types of entries.
-fn copied_types(alloc: Global, entries: &[&Entry]) -> Result<Vec<ServiceType>, NoMemory>
-    ensures { IfOk result (λ v. v.items ≡ map (λ e. e.kind) (entries_lent entries.now)) }
-{
-    let mut types = Vec::with_capacity(alloc, entries.len())?;
-    for entry in entries {
-        types.push(entry.kind.copy(alloc)?)?;
-    }
-    Ok(types)
 }

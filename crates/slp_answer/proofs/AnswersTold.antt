@@ -19,10 +19,10 @@ use Rattle.directory_judge.specs.Sites.{Site}
 use Rattle.slp_messages.specs.Messages.{IsMessage, function_of}
 use Rattle.directory_judge.specs.declared.reason.Because.{Because}
 use Rattle.directory_judge.specs.declared.change.Change.{Change}
-use Rattle.directory_judge.specs.declared.judgement.Judged.{Judged}
-use Rattle.directory_judge.specs.declared.judgement.Judged.TheVariants as judged
-use Rattle.directory_questions.specs.Answers.{Sense, Settled, Lists, Describes, Names, IsCutReply, IsListed, advert_code, advert_outcome, agents_outcome, is_agent_for, is_change_function, is_change_of, language_outcome, question_of, sense_of_reading, sense_under, sense_within, sense_of_message, sense_of_question, IsAnswerTo, IsAnswer}
-use Rattle.directory_questions.specs.Calls.{Opening, Call}
+use Rattle.directory_judge.specs.declared.copies.Judged.{Judged}
+use Rattle.directory_judge.specs.declared.copies.Judged.TheVariants as judged
+use Rattle.directory_questions.specs.Answers.{Sense, Settled, Lists, Describes, Names, IsCutReply, IsListed, advert_code, advert_outcome, agents_outcome, is_agent_for, is_change_of, language_outcome, question_of, sense_of_reading, sense_under, sense_within, sense_of_message, sense_of_question, IsAnswerTo, IsAnswer}
+use Rattle.directory_questions.specs.Calls.{Opening, Call, standpoint, standpoint_of}
 use Rattle.directory_questions.specs.Cuts.{attributes_with, types_with}
 use Rattle.directory_questions.specs.Outcomes.{Outcome, silence, outcome, sent_of, code_outcome, code_outcome_as, decider_of_fault, denial_outcome, fault_outcome, acknowledgement_of}
 use Rattle.attr_list.specs.Lists.{Attributes}
@@ -39,6 +39,9 @@ use Rattle.directory_questions.specs.declared.query.TypeQuery.{TypeQuery}
 use Rattle.directory_questions.specs.declared.question.Question.{Question}
 use Rattle.directory_questions.specs.declared.question.Question.TheVariants as question
 use Rattle.directory_questions.specs.Readings.{may_change, IsAsked}
+use Rattle.directory_questions.specs.Requests.{function_in, is_change_function}
+use Rattle.directory_questions.specs.declared.request.Request.{Request}
+use Rattle.directory_questions.specs.declared.request.Request.TheVariants as request
 use Rattle.directory_questions.specs.Verdicts.{IsLegal, IsVerdict, change_in, history_with}
 use Rattle.directory_judge.specs.Contents.{content}
 use Rattle.directory_state.specs.Fronts.{IsFront}
@@ -47,7 +50,7 @@ use Rattle.directory_state.specs.State.{State}
 use Rattle.directory_state.specs.declared.search.Room.{Room}
 use Rattle.directory_state.proofs.Histories.{legal_next}
 use Rattle.slp_answer.specs.ServiceReplies.{service_reply}
-use Rattle.slp_answer.specs.Answers.{Tells, Replies, Acknowledges, Steps, outcome_of_finding}
+use Rattle.slp_answer.specs.Answers.{Tells, Replies, Acknowledges, IsCallAnswered, Steps, outcome_of_finding}
 use Rattle.slp_answer.proofs.Sizes.{front-cut, front-empty}
 use Rattle.slp_answer.specs.declared.answer.Sent.{Sent}
 use Rattle.slp_answer.specs.declared.answer.Sent.TheVariants as sent
@@ -89,7 +92,7 @@ module _ (o : Opening) (h : History) (c : Call) where
   pub fault-answer : (head : Heading) (e : WireFault) → heading_of c.bytes ≡ Some head → reading c.bytes ≡ Err e → IsAnswer o h c (fault_outcome head e) None
   fault-answer head e is read = headed-answer (Some head) (Err e) (fault_outcome head e) None is read (refl, refl)
 
-  pub change-answer : (head : Heading) (x : Message) (v : Judgement) → IsChange x → IsVerdict o h c.moment c.asker x v → IsAnswerTo o h c (sense_of_message o.site c.own head x) (acknowledgement_of head v) (change_in v)
+  pub change-answer : (head : Heading) (x : Message) (v : Judgement) → IsChange x → IsVerdict (standpoint_of o h c) x v → IsAnswerTo o h c (sense_of_message o.site c.own head x) (acknowledgement_of head v) (change_in v)
   change-answer head (message.Registration header r) v is verdict = (v, verdict, refl, refl)
   change-answer head (message.ServiceRequest header q) v is verdict = absurd is
   change-answer head (message.ServiceReply header r) v is verdict = absurd is
@@ -132,11 +135,11 @@ module _ (o : Opening) (h : History) (c : Call) (head : Heading) where
       subst (λ b. IsAnswerTo o h c (cond b sense (Settled it)) it None) (sym none) (refl, refl)
 
   listing-answer : (query : ServiceQuery) (r : Outcome) → list_any (supports o.site) query.scopes ≡ true
-      → IsListed (IsOpenNow o h c.moment c.asker query.scopes) (now h c.moment) c.limit head query r → IsAnswerTo o h c (sense_of_question o.site c.own head (question.Services query)) r None
+      → IsListed (IsOpenNow (standpoint_of o h c) query.scopes) (now h c.moment) c.limit head query r → IsAnswerTo o h c (sense_of_question o.site c.own head (question.Services query)) r None
   listing-answer query r supported listed = within-answer query.scopes (Some query.kind) (Lists head query) r supported (listed, refl)
 
   pub listed-answer : (rs : SiteRules) (query : ServiceQuery) (all items : List UrlEntry) (is_cut : Bool) (room : Room) (what : Sent) (reply line : List ℕ) → room.bytes + 18 + length head.language ≡ c.limit → room.each ≡ 6
-      → list_any (supports o.site) query.scopes ≡ true → ¬ IsForeign (IsOpenNow o h c.moment c.asker query.scopes) query → AreServices o h c.moment c.asker query all → IsFront room all items is_cut
+      → list_any (supports o.site) query.scopes ≡ true → ¬ IsForeign (IsOpenNow (standpoint_of o h c) query.scopes) query → AreServices (standpoint_of o h c) query all → IsFront room all items is_cut
       → Tells rs c.asker (Some head) (outcome (sent_of head 0 (length items == 0 && not is_cut) (plain_bytes (service_reply head is_cut items))) 0 (by_step decider.Nobody (Some query.kind))) what reply line
       → (r : Outcome) × IsAnswerTo o h c (sense_of_question o.site c.own head (question.Services query)) r None × Tells rs c.asker (Some head) r what reply line
   listed-answer rs query all items is_cut room what reply line whole six supported spoken are front tells =
@@ -159,24 +162,24 @@ module _ (o : Opening) (h : History) (c : Call) (head : Heading) where
       )
 
   -- nothing is in the language that is asked for
-  pub foreign-answer : (query : ServiceQuery) → list_any (supports o.site) query.scopes ≡ true → IsForeign (IsOpenNow o h c.moment c.asker query.scopes) query
+  pub foreign-answer : (query : ServiceQuery) → list_any (supports o.site) query.scopes ≡ true → IsForeign (IsOpenNow (standpoint_of o h c) query.scopes) query
       → IsAnswerTo o h c (sense_of_question o.site c.own head (question.Services query)) (language_outcome head (Some query.kind)) None
   foreign-answer query supported foreign = listing-answer query (language_outcome head (Some query.kind)) supported (inl (foreign, refl))
 
   pub described-answer : (query : AttrQuery) (a : Attributes) (r : Outcome) → list_any (supports o.site) query.scopes ≡ true
-      → (IsElsewhere (IsAskedAbout (IsOpenNow o h c.moment c.asker query.scopes) query) query.language → ⊥) → AreAttributesOf o h c.moment c.asker query a
+      → (IsElsewhere (IsAskedAbout (IsOpenNow (standpoint_of o h c) query.scopes) query) query.language → ⊥) → AreAttributesOf (standpoint_of o h c) query a
       → IsCutReply (attributes_with head) c.limit head (by_step decider.Nobody (kind_asked query.target)) (attribute_texts a) r
       → IsAnswerTo o h c (sense_of_question o.site c.own head (question.Attributes query)) r None
   described-answer query a r supported spoken are cut =
       within-answer query.scopes (kind_asked query.target) (Describes head query) r supported (inr (spoken, record { attributes = a; are = are; reply = cut }), refl)
 
   pub elsewhere-answer : (query : AttrQuery) → list_any (supports o.site) query.scopes ≡ true
-      → IsElsewhere (IsAskedAbout (IsOpenNow o h c.moment c.asker query.scopes) query) query.language
+      → IsElsewhere (IsAskedAbout (IsOpenNow (standpoint_of o h c) query.scopes) query) query.language
       → IsAnswerTo o h c (sense_of_question o.site c.own head (question.Attributes query)) (language_outcome head (kind_asked query.target)) None
   elsewhere-answer query supported elsewhere =
       within-answer query.scopes (kind_asked query.target) (Describes head query) (language_outcome head (kind_asked query.target)) supported (inl (elsewhere, refl), refl)
 
-  pub named-answer : (query : TypeQuery) (types : List (List ℕ)) (r : Outcome) → list_any (supports o.site) query.scopes ≡ true → AreTypesOf o h c.moment c.asker query types
+  pub named-answer : (query : TypeQuery) (types : List (List ℕ)) (r : Outcome) → list_any (supports o.site) query.scopes ≡ true → AreTypesOf (standpoint_of o h c) query types
       → IsCutReply (types_with head) c.limit head (by_step decider.Nobody None) types r
       → IsAnswerTo o h c (sense_of_question o.site c.own head (question.Types query)) r None
   named-answer query types r supported are cut =
@@ -198,7 +201,7 @@ agent-for site (s ∷ scopes) h = elim h [ inl none ↦ absurd cc | inr some ↦
 module _ (o : Opening) (h : History) (m asker : ℕ) (head : Heading) (x : Message) (rs : SiteRules) (what : Sent) (reply line : List ℕ) where
   -- what was judged, and told of it
   abbrev pub IsTold : Option Change → Type 0
-  IsTold change = (v : Judgement) × IsVerdict o h m asker x v × Tells rs asker (Some head) (acknowledgement_of head v) what reply line × HandsOut o h change (change_in v)
+  IsTold change = (v : Judgement) × IsVerdict (standpoint o h m asker) x v × Tells rs asker (Some head) (acknowledgement_of head v) what reply line × HandsOut o h change (change_in v)
 
   -- what is told of what was judged is what is told of the verdict
   same-told : (j : Judged) (v : Judgement) → IsJudgedAs h j v → acknowledgement_of head v ≡ outcome_of_finding head (finding_in j)
@@ -206,14 +209,14 @@ module _ (o : Opening) (h : History) (m asker : ℕ) (head : Heading) (x : Messa
   same-told judged.Nothing v is = ap (acknowledgement_of head) is
   same-told (judged.Deny code because) v is = ap (acknowledgement_of head) is
 
-  hands-out : (j : Judged) (v : Judgement) → IsMessage x → IsLegal o h → IsVerdict o h m asker x v → IsJudgedAs h j v → HandsOut o h (change_of j) (change_in v)
+  hands-out : (j : Judged) (v : Judgement) → IsMessage x → IsLegal o h → IsVerdict (standpoint o h m asker) x v → IsJudgedAs h j v → HandsOut o h (change_of j) (change_in v)
   hands-out (judged.Accept change because) v sound legal verdict is =
       (is.0, ap change_in is.1, is.2, subst (λ (u : Judgement). IsLegal o (history_with (change_in u) h)) is.1 (legal_next o h m asker x v legal sound verdict))
   hands-out judged.Nothing v sound legal verdict is = ap change_in is
   hands-out (judged.Deny code because) v sound legal verdict is = ap change_in is
 
   -- it is told by its code and who decided on what, and its change is handed out
-  pub judged-told : (j : Judged) (found : ℕ × Because) (change : Option Change) → IsMessage x → IsLegal o h → (v : Judgement) × IsVerdict o h m asker x v × IsJudgedAs h j v
+  pub judged-told : (j : Judged) (found : ℕ × Because) (change : Option Change) → IsMessage x → IsLegal o h → (v : Judgement) × IsVerdict (standpoint o h m asker) x v × IsJudgedAs h j v
       → found ≡ finding_in j → change ≡ change_of j → Tells rs asker (Some head) (outcome_of_finding head found) what reply line → IsTold change
   judged-told j found change sound legal verdict finds makes tells = (
     verdict.0,
@@ -244,15 +247,6 @@ fault-acknowledges o h m asker bytes head e rs what reply line ruled is read tel
   handed = refl;
 }
 
-pub unheaded-acknowledges : (o : Opening) (h : History) (m asker : ℕ) (bytes reply line : List ℕ) → heading_of bytes ≡ None → reply ≡ [] → line ≡ [] → Acknowledges o h m asker bytes sent.Silence None reply line
-unheaded-acknowledges o h m asker bytes reply line none r l = record {
-  outcome = silence;
-  event = None;
-  is = λ own limit. unheaded-answer o h (record { own = own; moment = m; asker = asker; bytes = bytes; limit = limit }) none;
-  told = silence-tells (rules o.rules h) asker (heading_of bytes) reply line r l;
-  handed = refl;
-}
-
 -- ---- replies
 
 module _ (o : Opening) (h : History) (c : Call) (what : Sent) (reply line : List ℕ) where
@@ -270,13 +264,6 @@ module _ (o : Opening) (h : History) (c : Call) (what : Sent) (reply line : List
     is = fault-answer o h c head e is read;
     told = ruled-tells rs (rules o.rules h) c.asker (Some head) (heading_of c.bytes) (fault_outcome head e) what reply line ruled (sym is) tells;
   }
-
-pub unheaded-replies : (o : Opening) (h : History) (c : Call) (reply line : List ℕ) → heading_of c.bytes ≡ None → reply ≡ [] → line ≡ [] → Replies o h c sent.Silence reply line
-unheaded-replies o h c reply line none r l = record {
-  outcome = silence;
-  is = unheaded-answer o h c none;
-  told = silence-tells (rules o.rules h) c.asker (heading_of c.bytes) reply line r l;
-}
 
 -- a message that asks for no change is answered as its question is
 pub asked-replies : (o : Opening) (h : History) (c : Call) (what : Sent) (reply line : List ℕ) (head : Heading) (q : Question) (rs : SiteRules) → rs ≡ rules o.rules h → heading_of c.bytes ≡ Some head → IsAsked c.own c.bytes q
@@ -315,36 +302,121 @@ quiet-fault head e none = elim (decider_of_fault e) as (λ d. option_map_or (den
 no-reply-function : (f : ℕ) → (f ≡ 1 → ⊥) → (f ≡ 6 → ⊥) → (f ≡ 9 → ⊥) → is_change_function f ≡ false → reply_function_of f ≡ None
 no-reply-function f a b c still = grind (arith, nat_tests)
 
-pub quiet-replies : (o : Opening) (h : History) (c : Call) (reply line : List ℕ) (head : Heading) → heading_of c.bytes ≡ Some head → (head.function ≡ 1 → ⊥) → (head.function ≡ 6 → ⊥) → (head.function ≡ 9 → ⊥) → is_change_of c.bytes ≡ false
-    → reply ≡ [] → line ≡ [] → Replies o h c sent.Silence reply line
-unfolding is_change_of
-quiet-replies o h c reply line head is a b d still r l =
-    let unchanged : is_change_function head.function ≡ false = sym (ap (λ (x : Option Heading). option_map_or (λ (y : Heading). is_change_function y.function) x false) is) ∙ still in
+no-change-function : (f : ℕ) → (f ≡ 3 → ⊥) → (f ≡ 4 → ⊥) → is_change_function f ≡ false
+no-change-function f a b = grind (arith, nat_tests)
+
+pub quiet-answer : (o : Opening) (h : History) (c : Call) (head : Heading) → heading_of c.bytes ≡ Some head → (head.function ≡ 1 → ⊥) → (head.function ≡ 6 → ⊥) → (head.function ≡ 9 → ⊥) → is_change_function head.function ≡ false
+    → IsAnswer o h c silence None
+quiet-answer o h c head is a b d still =
     let sense : (read : Result Message WireFault) → reading c.bytes ≡ read → sense_of_reading o.site c.own head read ≡ Settled silence =
     λ read. elim read as (λ x. reading c.bytes ≡ x → sense_of_reading o.site c.own head x ≡ Settled silence) [
       | Ok m ↦ λ same.
           let f : head.function ≡ function_of m = sym (message_function c.bytes head m is same) in
-          quiet-message o.site c.own head m (λ e. a (f ∙ e)) (λ e. b (f ∙ e)) (λ e. d (f ∙ e)) (ap is_change_function (sym f) ∙ unchanged)
-      | Err e ↦ λ _. ap Settled (quiet-fault head e (no-reply-function head.function a b d unchanged))
+          quiet-message o.site c.own head m (λ e. a (f ∙ e)) (λ e. b (f ∙ e)) (λ e. d (f ∙ e)) (ap is_change_function (sym f) ∙ still)
+      | Err e ↦ λ _. ap Settled (quiet-fault head e (no-reply-function head.function a b d still))
     ] in
-    record {
-      outcome = silence;
-      is = headed-answer o h c (Some head) (reading c.bytes) silence None is refl (subst (λ (s : Sense). IsAnswerTo o h c s silence None) (sym (sense (reading c.bytes) refl)) (refl, refl));
-      told = silence-tells (rules o.rules h) c.asker (heading_of c.bytes) reply line r l;
-    }
+    headed-answer o h c (Some head) (reading c.bytes) silence None is refl (subst (λ (s : Sense). IsAnswerTo o h c s silence None) (sym (sense (reading c.bytes) refl)) (refl, refl))
 
--- ---- steps
+-- ---- calls
 
-pub changed-steps : (o : Opening) (h : History) (c : Call) (change : Change) (after : State) (what : Sent) (reply line : List ℕ) → Acknowledges o h c.moment c.asker c.bytes what (Some change) reply line
-    → ((event : Event) → IsLegal o (event ∷ h) → StandsFor h (content change) event → Fold o (event ∷ h) after) → Steps o h c what reply line after
-changed-steps o h c change after what reply line a folds =
-    let out = a.handed in record {
+-- whether bytes ask for a change is told by their function
+pub asks-change : (bytes : List ℕ) (head : Heading) (f : ℕ) (b : Bool) → heading_of bytes ≡ Some head → f ≡ head.function → is_change_function f ≡ b → is_change_of bytes ≡ b
+unfolding is_change_of
+asks-change bytes head f b is same asks = ap (λ (x : Option Heading). option_map_or (λ (y : Heading). is_change_function y.function) x false) is ∙ ap is_change_function (sym same) ∙ asks
+
+-- what asks for no change is a question
+pub asks-question : (r : Request) → is_change_function (function_in r) ≡ false → (function_in r ≡ 1) ⊎ ((function_in r ≡ 6) ⊎ (function_in r ≡ 9))
+asks-question request.Services still = inl refl
+asks-question request.Registration still = absurd cc
+asks-question request.Withdrawal still = absurd cc
+asks-question request.Attributes still = inr (inl refl)
+asks-question request.Types still = inr (inr refl)
+
+both : {A : Type 0} (b : Bool) → b ≡ true → b ≡ false → A
+both b is not = let k = sym is ∙ not in absurd cc
+
+module _ (o : Opening) (h : History) (c : Call) (reply line : List ℕ) where
+  -- nothing is answered, whatever loop the bytes came to
+  silent-call : ((own limit : ℕ) → IsAnswer o h (record { own = own; moment = c.moment; asker = c.asker; bytes = c.bytes; limit = limit }) silence None) → reply ≡ [] → line ≡ [] → IsCallAnswered o h c sent.Silence None reply line
+  silent-call silent r l = record {
+    outcome = silence;
+    event = None;
+    is = silent c.own c.limit;
+    still = λ _. refl;
+    anywhere = λ _ own limit. silent own limit;
+    told = silence-tells (rules o.rules h) c.asker (heading_of c.bytes) reply line r l;
+    handed = refl;
+  }
+
+  pub unheaded-call : heading_of c.bytes ≡ None → reply ≡ [] → line ≡ [] → IsCallAnswered o h c sent.Silence None reply line
+  unheaded-call none = silent-call (λ own limit. unheaded-answer o h (record { own = own; moment = c.moment; asker = c.asker; bytes = c.bytes; limit = limit }) none)
+
+  pub quiet-call : (head : Heading) → heading_of c.bytes ≡ Some head → (head.function ≡ 1 → ⊥) → (head.function ≡ 3 → ⊥) → (head.function ≡ 4 → ⊥) → (head.function ≡ 6 → ⊥) → (head.function ≡ 9 → ⊥) → reply ≡ [] → line ≡ []
+      → IsCallAnswered o h c sent.Silence None reply line
+  quiet-call head is a r w b d =
+      silent-call (λ own limit. quiet-answer o h (record { own = own; moment = c.moment; asker = c.asker; bytes = c.bytes; limit = limit }) head is a b d (no-change-function head.function r w))
+
+  module _ (what : Sent) where
+    pub acknowledged-call : (change : Option Change) → is_change_of c.bytes ≡ true → Acknowledges o h c.moment c.asker c.bytes what change reply line → IsCallAnswered o h c what change reply line
+    acknowledged-call change asks a = record {
       outcome = a.outcome;
       event = a.event;
       is = a.is c.own c.limit;
+      still = λ not. both (is_change_of c.bytes) asks not;
+      anywhere = λ _ own limit. a.is own limit;
       told = a.told;
-      legal = subst (λ (x : Option Event). IsLegal o (history_with x h)) (sym out.1) out.3;
-      fold = subst (λ (x : Option Event). Fold o (history_with x h) after) (sym out.1) (folds out.0 out.3 out.2);
+      handed = a.handed;
+    }
+
+    pub replied-call : is_change_of c.bytes ≡ false → Replies o h c what reply line → IsCallAnswered o h c what None reply line
+    replied-call not r = record {
+      outcome = r.outcome;
+      event = None;
+      is = r.is;
+      still = λ _. refl;
+      anywhere = λ asks. both (is_change_of c.bytes) asks not;
+      told = r.told;
+      handed = refl;
+    }
+
+    pub call-replies : (change : Option Change) → is_change_of c.bytes ≡ false → IsCallAnswered o h c what change reply line → Replies o h c what reply line
+    call-replies change not a = record {
+      outcome = a.outcome;
+      is = subst (λ (e : Option Event). IsAnswer o h c a.outcome e) (a.still not) a.is;
+      told = a.told;
+    }
+
+    pub call-acknowledges : (change : Option Change) → is_change_of c.bytes ≡ true → IsCallAnswered o h c what change reply line → Acknowledges o h c.moment c.asker c.bytes what change reply line
+    call-acknowledges change asks a = record {
+      outcome = a.outcome;
+      event = a.event;
+      is = a.anywhere asks;
+      told = a.told;
+      handed = a.handed;
+    }
+
+    -- the change that is handed out is made
+    pub changed-steps : (change : Change) (after : State) → IsCallAnswered o h c what (Some change) reply line
+        → ((event : Event) → IsLegal o (event ∷ h) → StandsFor h (content change) event → Fold o (event ∷ h) after) → Steps o h c what reply line after
+    changed-steps change after a folds =
+        let out = a.handed in record {
+          outcome = a.outcome;
+          event = a.event;
+          is = a.is;
+          told = a.told;
+          legal = subst (λ (x : Option Event). IsLegal o (history_with x h)) (sym out.1) out.3;
+          fold = subst (λ (x : Option Event). Fold o (history_with x h) after) (sym out.1) (folds out.0 out.3 out.2);
+        }
+
+    -- and none is made where none is
+    pub still-steps : (after : State) → IsCallAnswered o h c what None reply line → IsLegal o h → Fold o h after → Steps o h c what reply line after
+    still-steps after a legal fold = record {
+      outcome = a.outcome;
+      event = a.event;
+      is = a.is;
+      told = a.told;
+      legal = subst (λ (x : Option Event). IsLegal o (history_with x h)) (sym a.handed) legal;
+      fold = subst (λ (x : Option Event). Fold o (history_with x h) after) (sym a.handed) fold;
     }
 
 not-false : (b : Bool) → (b ≡ false → ⊥) → b ≡ true

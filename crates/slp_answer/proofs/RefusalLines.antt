@@ -1,5 +1,5 @@
 -- The line of a message that found no memory.
-use Rattle.std.proofs.Common.{◌≡◌, ℕ, suc, ◌<◌, ◌≤◌, ◌+◌, ◌^◌, ◌/◌, ◌%◌, List, [], ◌∷◌, ◌++◌, length, codes, Option, Some, None, ap, ◌∙◌, arith}
+use Rattle.std.proofs.Common.{◌≡◌, ℕ, suc, ◌<◌, ◌≤◌, ◌+◌, ◌^◌, ◌/◌, ◌%◌, List, [], ◌∷◌, ◌++◌, length, codes, Option, Some, None, refl, ap, ◌∙◌, arith}
 use Rattle.std.specs.Fmt.{decimal}
 use Rattle.std.specs.Option.{option_map_or}
 use Rattle.std.proofs.lemmas.Fmt.{length-decimal-le}
@@ -7,13 +7,17 @@ use Rattle.std.proofs.lemmas.List.{length-append}
 use Rattle.slp_headers.specs.Headers.{Heading, reply_function_of}
 use Rattle.access_rules.specs.declared.rule.Action.{Action}
 use Rattle.access_rules.specs.declared.rule.Action.TheVariants.{Register, Withdraw, See}
+use Rattle.access_rules.specs.Deciding.{no_rules}
 use Rattle.directory_judge.specs.declared.reason.Decider.TheVariants.{Memory}
 use Rattle.access_rules.specs.Addresses.{address_text}
 use Rattle.slp_answer.specs.Audits.{action_text, audit_text, line_text}
 use Rattle.directory_judge.specs.Judgements.{by_step}
 use Rattle.directory_questions.specs.Outcomes.{code_outcome_as, refusal_outcome, silence}
-use Rattle.slp_answer.specs.declared.audit.Audit.{Audit}
-use Rattle.slp_answer.specs.Answers.{action_of, line_by, line_of}
+use Rattle.slp_answer.specs.declared.copies.Audit.{Audit}
+use Rattle.directory_questions.specs.Requests.{action_of, function_in}
+use Rattle.directory_questions.specs.declared.request.Request.{Request}
+use Rattle.directory_questions.specs.declared.request.Request.TheVariants as request
+use Rattle.slp_answer.specs.Answers.{line_by, line_of}
 use Rattle.slp_answer.proofs.AuditLines.{head_length, line_length, tail_length}
 use Rattle.slp_text.specs.Ascii.{dot}
 
@@ -54,8 +58,16 @@ line_is_short a asker small =
     let short_address = address_is_short asker small in
     omega (arith, whole, head, tail, beginning, word, ten, short_word, short_address)
 
+-- what is asked for has a reply
+pub answered : (r : Request) → (f : ℕ) × (Some f ≡ reply_function_of (function_in r))
+answered request.Services = (2, refl)
+answered request.Registration = (5, refl)
+answered request.Withdrawal = (5, refl)
+answered request.Attributes = (7, refl)
+answered request.Types = (10, refl)
+
 pub line_is_refused : (asker : ℕ) (h : Heading) (f : ℕ) (a : Action) (line : List ℕ) → Some f ≡ reply_function_of h.function
-    → a ≡ action_of h.function → line ≡ audit_text [] (lacking a asker) → line ≡ line_of [] asker (Some h) (refusal_outcome (Some h))
+    → a ≡ action_of h.function → line ≡ audit_text no_rules (lacking a asker) → line ≡ line_of no_rules asker (Some h) (refusal_outcome (Some h))
 line_is_refused asker h f a line known action written =
-    written ∙ ap (λ (x : Action). audit_text [] (lacking x asker)) action
-    ∙ ap (λ (o : Option ℕ). line_by [] asker h (option_map_or (code_outcome_as h 10 (by_step Memory None)) o silence)) known
+    written ∙ ap (λ (x : Action). audit_text no_rules (lacking x asker)) action
+    ∙ ap (λ (o : Option ℕ). line_by no_rules asker h (option_map_or (code_outcome_as h 10 (by_step Memory None)) o silence)) known

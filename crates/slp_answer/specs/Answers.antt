@@ -1,31 +1,27 @@
 -- What is told of bytes: the reply, and the line that tells what came of them.
-use Rattle.std.specs.Prelude.{◌≡◌, ℕ, ◌==◌, List, [], Option, Some, None, if◌then◌else◌}
+use Rattle.std.specs.Prelude.{◌≡◌, ℕ, true, false, List, [], Option, Some, None}
 use Rattle.std.specs.Option.{option_map_or}
-use Rattle.slp_headers.specs.Headers.{Heading, heading_of}
-use Rattle.slp_messages.specs.declared.function.TheConstants.{REGISTRATION, WITHDRAWAL}
+use Rattle.slp_headers.specs.Headers.{Heading, heading_in, heading_of}
 use Rattle.access_rules.specs.Deciding.{SiteRules}
-use Rattle.access_rules.specs.declared.rule.Action.{Action}
-use Rattle.access_rules.specs.declared.rule.Action.TheVariants.{Register, Withdraw, See}
 use Rattle.directory_judge.specs.History.{History, Event}
 use Rattle.directory_judge.specs.Meaning.{rules}
 use Rattle.directory_judge.specs.declared.reason.Because.{Because}
 use Rattle.directory_judge.specs.declared.change.Change.{Change}
-use Rattle.directory_questions.specs.Answers.{IsAnswer}
-use Rattle.directory_questions.specs.Calls.{Opening, Call}
+use Rattle.directory_questions.specs.Answers.{is_change_of, sense_of_question, IsAnswer, IsAnswerTo}
+use Rattle.directory_questions.specs.Calls.{Opening, Call, call_in}
 use Rattle.directory_questions.specs.Outcomes.{Outcome, code_outcome, code_sent}
+use Rattle.directory_questions.specs.Requests.{action_of}
 use Rattle.directory_questions.specs.Verdicts.{IsLegal, history_with}
+use Rattle.directory_questions.specs.declared.question.Question.{Question}
 use Rattle.directory_state.specs.Folds.{Fold, HandsOut}
 use Rattle.directory_state.specs.State.{State}
 use Rattle.slp_answer.specs.Audits.{audit_text}
 use Rattle.slp_answer.specs.declared.answer.Sent.{Sent}
 use Rattle.slp_answer.specs.declared.answer.Sent.TheVariants as sent
-use Rattle.slp_answer.specs.declared.audit.Audit.{Audit}
+use Rattle.slp_answer.specs.declared.copies.Audit.{Audit}
+use Rattle.slp_answer.specs.declared.replies.Reply.{Reply}
 
 -- ---- the line
-
--- what a message of a function asks for
-abbrev pub action_of : ℕ → Action
-action_of function = if function == REGISTRATION then Register else (if function == WITHDRAWAL then Withdraw else See)
 
 -- what the line tells: a code and why, what was asked for, and by whom
 abbrev pub audit_in : ℕ → Heading → ℕ × Because → Audit
@@ -55,6 +51,15 @@ pub record Tells (rs : SiteRules) (asker : ℕ) (heading : Option Heading) (r : 
   pub lined : line ≡ line_of rs asker heading r
   pub sent : code_of what ≡ code_sent r
 
+-- the same of a call that asks for something
+abbrev pub TellsOf : Reply → Outcome → Sent → List ℕ → List ℕ → Type 0
+TellsOf to r what reply line = Tells to.rules.now to.call.now.asker (Some (heading_in to.header.now)) r what reply line
+
+-- what was answered to a question that a call asks
+abbrev pub IsQuestionAnswered : Opening → History → Reply → Question → Sent → List ℕ → List ℕ → Type 0
+IsQuestionAnswered o h to posed what reply line =
+    (r : Outcome) × IsAnswerTo o h (call_in to.call.now) (sense_of_question o.site to.call.now.own (heading_in to.header.now) posed) r None × TellsOf to r what reply line
+
 -- what was answered to bytes that change nothing
 pub record Replies (o : Opening) (h : History) (c : Call) (what : Sent) (reply line : List ℕ) : Type 0 where
   pub outcome : Outcome
@@ -67,6 +72,16 @@ pub record Acknowledges (o : Opening) (h : History) (m asker : ℕ) (bytes : Lis
   pub event : Option Event
   pub is : (own limit : ℕ) → IsAnswer o h (record { own = own; moment = m; asker = asker; bytes = bytes; limit = limit }) outcome event
   pub told : Tells (rules o.rules h) asker (heading_of bytes) outcome what reply line
+  pub handed : HandsOut o h change event
+
+-- what was answered to a call, and the change that is handed out: none, where the bytes ask for none, and where they ask for one the same whatever loop they came to
+pub record IsCallAnswered (o : Opening) (h : History) (c : Call) (what : Sent) (change : Option Change) (reply line : List ℕ) : Type 0 where
+  pub outcome : Outcome
+  pub event : Option Event
+  pub is : IsAnswer o h c outcome event
+  pub still : is_change_of c.bytes ≡ false → event ≡ None
+  pub anywhere : is_change_of c.bytes ≡ true → (own limit : ℕ) → IsAnswer o h (record { own = own; moment = c.moment; asker = c.asker; bytes = c.bytes; limit = limit }) outcome event
+  pub told : Tells (rules o.rules h) c.asker (heading_of c.bytes) outcome what reply line
   pub handed : HandsOut o h change event
 
 -- what was answered to bytes, and the state after them: that of the history with their change

@@ -8,17 +8,17 @@ use Rattle.slp_text.specs.declared.escapes.Place.TheVariants.{Scope}
 use Rattle.access_rules.specs.declared.rule.Action.{Action}
 use Rattle.access_rules.specs.declared.rule.Action.TheVariants.{Register, Withdraw, See}
 use Rattle.access_rules.specs.Addresses.{address_text}
-use Rattle.access_rules.specs.Deciding.{SiteRules}
+use Rattle.access_rules.specs.Deciding.{SiteRules, rules_in}
 use Rattle.directory_judge.specs.Judgements.{because_of}
 use Rattle.directory_judge.specs.declared.reason.Decider.{Decider}
 use Rattle.directory_judge.specs.declared.reason.Decider.TheVariants.{Rule, Default, Nobody, Memory, Version, Parse, Auth, Language, Registration, Attributes, Update, Template, Full}
 use Rattle.directory_judge.specs.declared.reason.Decider.TheVariants as decider
-use Rattle.slp_answer.specs.declared.audit.Audit.{Audit}
+use Rattle.slp_answer.specs.declared.copies.Audit.{Audit}
 use Rattle.slp_answer.specs.declared.audit.AuditView.{AuditView}
 
 -- the name of the rule at an index
 abbrev pub name_at : SiteRules → ℕ → List ℕ
-name_at rules index = option_map_or (λ r. r.name) (slice_get rules index) []
+name_at rules index = option_map_or (λ r. r.name) (slice_get (rules_in rules) index) []
 
 -- the name of the rule that decided, or nothing
 abbrev pub rule_named : SiteRules → Decider → List ℕ

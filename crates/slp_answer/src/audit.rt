@@ -9,21 +9,12 @@ ghost use Rattle.slp_text.specs.declared.escapes.Place.TheVariants.{Scope};
 
 use crate::sink::Sink;
 use access_rules::{Action, Addr, Rules};
-use directory_judge::{Because, Decider, Reason};
+use directory_judge::{Decider, Reason};
 use itoa::Buffer;
 use service_url::ServiceType;
 use slp_text::{Key, NoMemory, Place, capital_digit, is_plain, is_reserved};
 
 /// What came of a message: its code, who decided and on what, what was asked for, and by whom.
-#[derive(Drop)]
-pub struct Audit {
-    pub code: u16,
-    pub because: Because,
-    pub action: Action,
-    pub asker: Addr,
-}
-
-/// The same, lent.
 #[derive(Clone, Copy)]
 pub(crate) struct AuditView<'a> {
     pub code: u16,
@@ -263,21 +254,4 @@ pub(crate) fn put_line(
             Err(fault)
         }
     }
-}
-
-/// Appends the line that tells what came of a message. A refusal leaves the bytes as they were.
-pub fn audit_line(rules: &Rules, audit: &Audit, line: &mut Vec<u8>) -> Result<(), NoMemory>
-    ensures ok { OnOk result (line.new.items ≡ line.old.items ++ audit_text rules.now audit.now) }
-    ensures err { OnErr result (line.new.items ≡ line.old.items) }
-{
-    let view = AuditView {
-        code: audit.code,
-        reason: audit.because.reason(),
-        action: audit.action,
-        asker: audit.asker,
-    };
-    let mut whole = Vec::new(*line.allocator());
-    put_line(rules, &view, &mut whole)?;
-    line.extend_from_slice(&whole)?;
-    Ok(())
 }

@@ -1,45 +1,39 @@
-ghost use Rattle.std.specs.Prelude.{◌≡◌, ◌≤◌, [], false, take, None};
-ghost use Rattle.slp_headers.specs.Headers.{heading_in, heading_of, refusal_bytes};
+ghost use Rattle.std.specs.Prelude.{◌≡◌, ◌≤◌, take, Some, None};
+ghost use Rattle.slp_headers.specs.Headers.{heading_in, heading_of};
 ghost use Rattle.slp_messages.specs.declared.code.TheConstants.{INTERNAL_ERROR};
+ghost use Rattle.access_rules.specs.Deciding.{no_rules};
 ghost use Rattle.directory_judge.specs.Judgements.{by_step};
 ghost use Rattle.directory_judge.specs.declared.reason.Decider.TheVariants.{Memory};
 ghost use Rattle.slp_answer.specs.Audits.{audit_text};
-ghost use Rattle.directory_questions.specs.Outcomes.{refusal_outcome, sent_of};
-ghost use Rattle.slp_answer.specs.Answers.{action_of, line_of};
+ghost use Rattle.directory_questions.specs.Outcomes.{refusal_outcome};
+ghost use Rattle.directory_questions.specs.Requests.{function_in};
+ghost use Rattle.slp_answer.specs.Answers.{line_of};
 
 use crate::audit::{AuditView, write_line};
-use crate::code_replies::is_unsent;
+use crate::replies::is_unsent;
 use crate::sink::ShortLine;
 use access_rules::{Action, Addr};
 use directory_judge::{Decider, Reason};
-use slp_wire::{HeaderView, code, error_reply, function, read_header, reply_function};
+use directory_questions::Request;
+use slp_wire::{HeaderView, code, error_reply, read_header};
 
-/// What a message of a function asks for.
-pub(crate) fn action_in(function: u8) -> Action
-    ensures { result ≡ action_of function }
-{
-    match function {
-        function::REGISTRATION => Action::Register,
-        function::WITHDRAWAL => Action::Withdraw,
-        _ => Action::See,
-    }
-}
-
-fn put_reply(header: &HeaderView<'_>, function: u8, reply: &mut [u8; 80]) -> usize
-    ensures bytes { take result reply.new ≡ sent_of (heading_in header.now) INTERNAL_ERROR false (refusal_bytes function INTERNAL_ERROR header.now.xid header.now.language.now) }
+// Writes a reply of code 10, where one is sent.
+fn put_reply(header: &HeaderView<'_>, request: Request, reply: &mut [u8; 80]) -> usize
+    requires { function_in request ≡ header.now.function }
+    ensures bytes { take result reply.new ≡ (refusal_outcome (Some (heading_in header.now))).reply }
     ensures room { result ≤ 80 }
 {
-    if is_unsent(header, code::INTERNAL_ERROR, false) {
-        0
-    } else {
-        error_reply(header, function, code::INTERNAL_ERROR, reply)
+    if is_unsent(header, request, code::INTERNAL_ERROR, false) {
+        return 0;
     }
+    let function = request.reply_function();
+    error_reply(header, function, code::INTERNAL_ERROR, reply)
 }
 
 // Writes the line of a message that found no memory.
 fn put_refusal(told: &mut ShortLine, action: Action, asker: Addr)
     requires { told.old.end ≡ 0 }
-    ensures { take told.new.end told.new.bytes ≡ audit_text [] (record { code = INTERNAL_ERROR; because = by_step Memory None; action = action; asker = asker }) }
+    ensures { take told.new.end told.new.bytes ≡ audit_text no_rules (record { code = INTERNAL_ERROR; because = by_step Memory None; action = action; asker = asker }) }
 {
     let reason = Reason {
         decider: Decider::Memory,
@@ -69,18 +63,18 @@ pub fn refusal(
     line: &mut [u8; 128],
 ) -> (usize, usize)
     ensures reply { take result.0 reply.new ≡ (refusal_outcome (heading_of bytes.now)).reply }
-    ensures line { take result.1 line.new ≡ line_of [] asker (heading_of bytes.now) (refusal_outcome (heading_of bytes.now)) }
+    ensures line { take result.1 line.new ≡ line_of no_rules asker (heading_of bytes.now) (refusal_outcome (heading_of bytes.now)) }
     ensures room { result.0 ≤ 80 }
     ensures line_room { result.1 ≤ 128 }
 {
     let Some(header) = read_header(bytes) else {
         return (0, 0);
     };
-    let Some(function) = reply_function(header.function) else {
+    let Some(request) = Request::of(header.function) else {
         return (0, 0);
     };
     let mut told = ShortLine::new();
-    put_refusal(&mut told, action_in(header.function), asker);
+    put_refusal(&mut told, request.action(), asker);
     *line = told.bytes;
-    (put_reply(&header, function, reply), told.end)
+    (put_reply(&header, request, reply), told.end)
 }

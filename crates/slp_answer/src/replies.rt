@@ -1,238 +1,204 @@
-ghost use Rattle.std.specs.Prelude.{◌≡◌, ◌≢◌, ◌⊎◌, true, ◌≤◌, ◌==◌, ◌&&◌, ◌||◌, [], false, if◌then◌else◌, not, length, IfOk, OnErr, Some, None};
-ghost use Rattle.slp_headers.specs.Headers.{heading_in, heading_of};
+//! One reply and the line that tells of it: a code alone, a message, or what is written already.
+ghost use Rattle.std.specs.Prelude.{◌≡◌, ◌≢◌, ◌≤◌, ◌==◌, ◌&&◌, ◌||◌, [], false, not, length, IfOk, Some, if◌then◌else◌};
+ghost use Rattle.std.specs.Option.{option_copied};
+ghost use Rattle.slp_headers.specs.Headers.{heading_in, heading_of, refusal_bytes};
 ghost use Rattle.slp_wire.specs.Spelling.{plain_bytes};
-ghost use Rattle.directory_judge.specs.History.{History};
-ghost use Rattle.directory_judge.specs.Judgements.{by_step};
+ghost use Rattle.directory_judge.specs.Judgements.{because_of, by_step, finding_of};
 ghost use Rattle.directory_judge.specs.declared.reason.Decider.TheVariants as decider;
-ghost use Rattle.directory_questions.specs.Answers.{is_change_of, sense_of_question, IsAnswerTo};
-ghost use Rattle.directory_questions.specs.Calls.{Opening, call_in};
-ghost use Rattle.directory_questions.specs.Outcomes.{Outcome, is_to_many, outcome, sent_of};
-ghost use Rattle.directory_questions.specs.Verdicts.{IsLegal};
-ghost use Rattle.directory_questions.specs.declared.question.Question.TheVariants as question;
-ghost use Rattle.directory_state.specs.Fronts.{items_in};
-ghost use Rattle.directory_state.specs.Folds.{Fold};
-ghost use Rattle.slp_answer.specs.ServiceReplies.{service_reply};
-ghost use Rattle.slp_answer.specs.Answers.{Tells, Replies};
+ghost use Rattle.directory_questions.specs.Answers.{advert_code};
+ghost use Rattle.directory_questions.specs.Cuts as spec;
+ghost use Rattle.directory_questions.specs.Outcomes.{is_to_many, outcome, sent_of, code_outcome, code_outcome_as, fault_outcome};
+ghost use Rattle.directory_questions.specs.Requests.{function_in};
 ghost use Rattle.slp_answer.specs.declared.answer.Sent.TheVariants as sent;
 
-use crate::adverts::answer_agents;
 use crate::answer::{Answer, Sent};
-use crate::code_replies::{Headed, answer_code, answer_fault, is_unsent, put_finding};
-use crate::listing::{put_found, room_in};
-use crate::text_replies::{answer_attributes, answer_types};
-use access_rules::{Addr, Rules};
+use crate::audit::{AuditView, put_line};
+use access_rules::Rules;
 use directory_judge::{Decider, Finding};
-use directory_questions::{Call, QueryFault, Question, ServiceQuery, asked};
-use directory_state::{Directory, FoundItems};
-use registry_core::Registry;
+use directory_questions::{Call, Request, decider_of};
 use service_url::ServiceType;
 use slp_text::NoMemory;
-use slp_wire::{HeaderView, code, function, read_header};
+use slp_wire::{
+    Flags, Header, HeaderView, Message, Tag, WireFault, code, encode, error_reply, flag, function,
+};
 use std::alloc::Global;
 
-// Writes the services that were found, where a reply is sent.
-fn write_found(
-    header: &HeaderView<'_>,
-    found: &FoundItems<'_>,
-    answer: &mut Answer,
-) -> Result<Sent, NoMemory>
-    requires short { length (plain_bytes (service_reply (heading_in header.now) found.now.is_cut (items_in found.now))) ≤ 65535 }
-    requires no_reply { answer.old.bytes.items ≡ [] }
-    ensures bytes { let is_empty = length (items_in found.now) == 0 && not found.now.is_cut in
-        IfOk result (λ _. answer.new.bytes.items ≡ sent_of (heading_in header.now) 0 is_empty (plain_bytes (service_reply (heading_in header.now) found.now.is_cut (items_in found.now)))) }
-    ensures sent { let is_empty = length (items_in found.now) == 0 && not found.now.is_cut in
-        IfOk result (λ what. what ≡ (if is_to_many (heading_in header.now) && (not (0 == 0) || is_empty) then sent.Silence else sent.Bytes 0)) }
-    ensures audit { answer.new.audit ≡ answer.old.audit }
-{
-    let is_empty = found.latest.is_empty() && !found.is_cut;
-    if is_unsent(header, code::OK, is_empty) {
-        return Ok(Sent::Silence);
-    }
-    put_found(header, found, &mut answer.bytes)?;
-    Ok(Sent::Bytes(code::OK))
+/// A call that asks for something, with its header and the rules whose names its line may tell. What is
+/// written of a reply and of its line goes into an answer.
+#[derive(Clone, Copy)]
+pub struct Reply<'a> {
+    pub rules: &'a Rules,
+    pub call: &'a Call<'a>,
+    pub header: &'a HeaderView<'a>,
+    pub request: Request,
+    ghost headed: { heading_of call.now.bytes.now ≡ Some (heading_in header.now) },
+    ghost asked: { function_in request ≡ header.now.function },
 }
 
-// Sends the services that were found, and tells of it.
-fn send_found(
-    rules: &Rules,
-    headed: &Headed<'_>,
-    kind: &ServiceType,
-    found: &FoundItems<'_>,
-    answer: &mut Answer,
-) -> Result<Sent, NoMemory>
-    requires short { length (plain_bytes (service_reply (heading_in headed.now.header.now) found.now.is_cut (items_in found.now))) ≤ 65535 }
-    requires no_reply { answer.old.bytes.items ≡ [] }
-    requires no_line { answer.old.audit.items ≡ [] }
-    ensures { let head = heading_in headed.now.header.now in
-        let whole = plain_bytes (service_reply head found.now.is_cut (items_in found.now)) in
-        let is_empty = length (items_in found.now) == 0 && not found.now.is_cut in
-        IfOk result (λ what. Tells rules.now headed.now.call.now.asker (Some head) (outcome (sent_of head 0 is_empty whole) 0 (by_step decider.Nobody (Some kind.now))) what answer.new.bytes.items answer.new.audit.items) }
+/// Whether a reply with a code, which may have nothing in it, is not sent: a question that was sent to
+/// many gets no error and nothing empty (RFC 2608, section 7).
+pub fn is_unsent(header: &HeaderView<'_>, request: Request, code: u16, is_empty: bool) -> bool
+    requires { function_in request ≡ header.now.function }
+    ensures { result ≡ (is_to_many (heading_in header.now) && (not (code == 0) || is_empty)) }
 {
-    let Headed { call, header } = *headed;
-    let sent = write_found(header, found, answer)?;
-    let finding = Finding::by(Decider::Nobody, Some(kind));
-    put_finding(rules, call.asker, header, finding, &mut answer.audit)?;
-    Ok(sent)
+    let is_to_many = header.flags & flag::MULTICAST != 0 && request.is_question();
+    is_to_many && (code != code::OK || is_empty)
 }
 
-// Answers a question about services: with as many of those that are found as fit, or with the code that
-// stands instead.
-fn answer_services<R: Registry>(
-    alloc: Global,
-    directory: &Directory<R>,
-    headed: &Headed<'_>,
-    query: &ServiceQuery,
-    answer: &mut Answer,
-) -> Result<Sent, NoMemory>
-    requires datagram { 1400 ≤ headed.now.call.now.limit }
-    requires stream { headed.now.call.now.limit ≤ 65535 }
-    requires no_reply { answer.old.bytes.items ≡ [] }
-    requires no_line { answer.old.audit.items ≡ [] }
-    ensures { (o : Opening) (h : History) → Fold o h directory.now → IsLegal o h
-        → IfOk result (λ what. (r : Outcome) × IsAnswerTo o h (call_in headed.now.call.now) (sense_of_question o.site headed.now.call.now.own (heading_in headed.now.header.now) (question.Services query.now)) r None
-        × Tells directory.now.rules headed.now.call.now.asker (Some (heading_in headed.now.header.now)) r what answer.new.bytes.items answer.new.audit.items) }
+// Writes a message that is short enough.
+fn put_message(message: &Message, bytes: &mut Vec<u8>) -> Result<(), NoMemory>
+    requires short { length (plain_bytes message.now) ≤ 65535 }
+    requires empty { bytes.old.items ≡ [] }
+    ensures { IfOk result (λ _. bytes.new.items ≡ plain_bytes message.now) }
 {
-    let Headed { call, header } = *headed;
-    let room = room_in(header, call.limit);
-    let (rules, asker, kind) = (directory.rules(), call.asker, &query.kind);
-    match directory.find(alloc, call.moment, asker, query, room) {
-        Ok(found) => send_found(rules, headed, kind, &found, answer),
-        Err(QueryFault::Scope) => {
-            let finding = Finding::by(Decider::Scope, Some(kind));
-            answer_code(rules, asker, header, finding, answer)
-        }
-        Err(QueryFault::Language) => {
-            let finding = Finding::by(Decider::Language, Some(kind));
-            answer_code(rules, asker, header, finding, answer)
-        }
-        Err(QueryFault::NoMemory) => Err(NoMemory),
+    match encode(message, bytes) {
+        Ok(()) => Ok(()),
+        Err(WireFault::NoMemory) => Err(NoMemory),
+        Err(_) => unreachable!(),
     }
 }
 
-// Answers a question, or with nothing what no directory answers.
-fn answer_question<R: Registry>(
-    alloc: Global,
-    directory: &Directory<R>,
-    headed: &Headed<'_>,
-    posed: &Question,
-    answer: &mut Answer,
-) -> Result<Sent, NoMemory>
-    requires datagram { 1400 ≤ headed.now.call.now.limit }
-    requires stream { headed.now.call.now.limit ≤ 65535 }
-    requires no_reply { answer.old.bytes.items ≡ [] }
-    requires no_line { answer.old.audit.items ≡ [] }
-    ensures { (o : Opening) (h : History) → Fold o h directory.now → IsLegal o h
-        → IfOk result (λ what. (r : Outcome) × IsAnswerTo o h (call_in headed.now.call.now) (sense_of_question o.site headed.now.call.now.own (heading_in headed.now.header.now) posed.now) r None
-        × Tells directory.now.rules headed.now.call.now.asker (Some (heading_in headed.now.header.now)) r what answer.new.bytes.items answer.new.audit.items) }
-{
-    match posed {
-        Question::Silent => Ok(Sent::Silence),
-        Question::Unreadable => {
-            let finding = Finding::by(Decider::Parse, None);
-            let asker = headed.call.asker;
-            answer_code(directory.rules(), asker, headed.header, finding, answer)
-        }
-        Question::Services(query) => answer_services(alloc, directory, headed, query, answer),
-        Question::Attributes(query) => answer_attributes(alloc, directory, headed, query, answer),
-        Question::Types(query) => answer_types(alloc, directory, headed, query, answer),
-        Question::Agents(query) => answer_agents(alloc, directory, headed, query, answer),
+impl Reply<'_> {
+    ghost use Rattle.slp_answer.specs.Audits.{audit_text};
+    ghost use Rattle.slp_answer.specs.Answers.{audit_in, TellsOf};
+
+    /// The header of a reply.
+    pub fn head(&self, alloc: Global, is_cut: bool) -> Result<Header, NoMemory>
+        ensures { IfOk result (λ h. h ≡ spec.reply_header (heading_in self.now.header.now) is_cut) }
+    {
+        let language = Tag::new(alloc, self.header.language)?;
+        Ok(Header {
+            flags: Flags {
+                overflow: is_cut,
+                fresh: false,
+                multicast: false,
+            },
+            xid: self.header.xid,
+            language,
+        })
     }
-}
 
-// Answers a service, attribute or type request.
-fn answer_request<R: Registry>(
-    alloc: Global,
-    directory: &Directory<R>,
-    call: &Call<'_>,
-    header: &HeaderView<'_>,
-    answer: &mut Answer,
-) -> Result<Sent, NoMemory>
-    requires header { heading_of call.now.bytes.now ≡ Some (heading_in header.now) }
-    requires function { (header.now.function ≡ 1) ⊎ ((header.now.function ≡ 6) ⊎ (header.now.function ≡ 9)) }
-    requires datagram { 1400 ≤ call.now.limit }
-    requires stream { call.now.limit ≤ 65535 }
-    requires no_reply { answer.old.bytes.items ≡ [] }
-    requires no_line { answer.old.audit.items ≡ [] }
-    ensures { (o : Opening) (h : History) → Fold o h directory.now → IsLegal o h
-        → IfOk result (λ what. Replies o h (call_in call.now) what answer.new.bytes.items answer.new.audit.items) }
-{
-    match asked(alloc, call.own, header, call.bytes)? {
-        Ok(question) => {
-            let headed = Headed { call, header };
-            let told = answer_question(alloc, directory, &headed, &question, answer);
-            drop(question);
-            told
-        }
-        Err(fault) => answer_fault(directory.rules(), call.asker, header, fault, answer),
+    /// Tells of what was found.
+    pub fn tell(&self, finding: Finding<'_>, line: &mut Vec<u8>) -> Result<(), NoMemory>
+        requires { line.old.items ≡ [] }
+        ensures { IfOk result (λ _. line.new.items ≡ audit_text self.now.rules.now (audit_in self.now.call.now.asker (heading_in self.now.header.now) (finding_of finding.entry))) }
+    {
+        let Finding { code, reason } = finding;
+        let audit = AuditView {
+            code,
+            reason,
+            action: self.request.action(),
+            asker: self.call.asker,
+        };
+        put_line(self.rules, &audit, line)
     }
-}
 
-fn answer_bytes<R: Registry>(
-    alloc: Global,
-    directory: &Directory<R>,
-    call: &Call<'_>,
-    answer: &mut Answer,
-) -> Result<Sent, NoMemory>
-    requires no_change { is_change_of call.now.bytes.now ≡ false }
-    requires datagram { 1400 ≤ call.now.limit }
-    requires stream { call.now.limit ≤ 65535 }
-    requires no_reply { answer.old.bytes.items ≡ [] }
-    requires no_line { answer.old.audit.items ≡ [] }
-    ensures { (o : Opening) (h : History) → Fold o h directory.now → IsLegal o h
-        → IfOk result (λ what. Replies o h (call_in call.now) what answer.new.bytes.items answer.new.audit.items) }
-{
-    let Some(header) = read_header(call.bytes) else {
-        return Ok(Sent::Silence);
-    };
-    if !is_question_function(header.function) {
-        return Ok(Sent::Silence);
-    }
-    answer_request(alloc, directory, call, &header, answer)
-}
-
-// Whether messages of a function are questions.
-fn is_question_function(function: u8) -> bool
-    ensures yes { result ≡ true → (function ≡ 1) ⊎ ((function ≡ 6) ⊎ (function ≡ 9)) }
-    ensures no { result ≡ false → (function ≢ 1) × ((function ≢ 6) × (function ≢ 9)) }
-{
-    function == function::SERVICE_REQUEST
-        || function == function::ATTRIBUTE_REQUEST
-        || function == function::TYPE_REQUEST
-}
-
-/// Answers bytes that ask for no change, in at most `limit` bytes. `own` is the address of the loop
-/// that they came to. After `NoMemory` the answer is empty.
-pub fn reply<R: Registry>(
-    alloc: Global,
-    directory: &Directory<R>,
-    own: Addr,
-    moment: u32,
-    asker: Addr,
-    bytes: &[u8],
-    limit: usize,
-    answer: &mut Answer,
-) -> Result<Sent, NoMemory>
-    requires no_change { is_change_of bytes.now ≡ false }
-    requires datagram { 1400 ≤ limit }
-    requires stream { limit ≤ 65535 }
-    ensures told { (o : Opening) (h : History) → Fold o h directory.now → IsLegal o h
-        → IfOk result (λ what. Replies o h (record { own = own; moment = moment; asker = asker; bytes = bytes.now; limit = limit }) what answer.new.bytes.items answer.new.audit.items) }
-    ensures no_reply { OnErr result (answer.new.bytes.items ≡ []) }
-    ensures no_line { OnErr result (answer.new.audit.items ≡ []) }
-{
-    let call = Call {
-        own,
-        moment,
-        asker,
-        bytes,
-        limit,
-    };
-    answer.clear();
-    match answer_bytes(alloc, directory, &call, answer) {
-        Ok(sent) => Ok(sent),
-        Err(fault) => {
-            answer.clear();
-            Err(fault)
+    // Writes a reply of a function that is a code alone, where one is sent.
+    fn put_code(&self, function: u8, code: u16, bytes: &mut Vec<u8>) -> Result<Sent, NoMemory>
+        requires { bytes.old.items ≡ [] }
+        ensures bytes { IfOk result (λ _. bytes.new.items ≡ sent_of (heading_in self.now.header.now) code false (refusal_bytes function code self.now.header.now.xid self.now.header.now.language.now)) }
+        ensures sent { IfOk result (λ what. what ≡ (if is_to_many (heading_in self.now.header.now) && not (code == 0) then sent.Silence else sent.Bytes code)) }
+    {
+        if is_unsent(self.header, self.request, code, false) {
+            return Ok(Sent::Silence);
         }
+        let mut reply = [0u8; 80];
+        let length = error_reply(self.header, function, code, &mut reply);
+        bytes.extend_from_slice(&reply[..length])?;
+        Ok(Sent::Bytes(code))
+    }
+
+    // Answers with a code alone, in a reply of a function.
+    fn code_as(
+        &self,
+        function: u8,
+        finding: Finding<'_>,
+        answer: &mut Answer,
+    ) -> Result<Sent, NoMemory>
+        requires no_reply { answer.old.bytes.items ≡ [] }
+        requires no_line { answer.old.audit.items ≡ [] }
+        ensures { IfOk result (λ what. TellsOf self.now (code_outcome_as (heading_in self.now.header.now) finding.entry.code (because_of finding.entry.reason) function) what answer.new.bytes.items answer.new.audit.items) }
+    {
+        let sent = self.put_code(function, finding.code, &mut answer.bytes)?;
+        self.tell(finding, &mut answer.audit)?;
+        Ok(sent)
+    }
+
+    /// Answers with a code alone, in a reply of the function that answers the message.
+    pub fn code(&self, finding: Finding<'_>, answer: &mut Answer) -> Result<Sent, NoMemory>
+        requires no_reply { answer.old.bytes.items ≡ [] }
+        requires no_line { answer.old.audit.items ≡ [] }
+        ensures { IfOk result (λ what. TellsOf self.now (code_outcome (heading_in self.now.header.now) finding.entry.code (because_of finding.entry.reason)) what answer.new.bytes.items answer.new.audit.items) }
+    {
+        self.code_as(self.request.reply_function(), finding, answer)
+    }
+
+    /// Answers who asks for directory agents with a code alone: an advert stands for it.
+    pub fn advert_code(&self, finding: Finding<'_>, answer: &mut Answer) -> Result<Sent, NoMemory>
+        requires no_reply { answer.old.bytes.items ≡ [] }
+        requires no_line { answer.old.audit.items ≡ [] }
+        ensures { IfOk result (λ what. TellsOf self.now (advert_code (heading_in self.now.header.now) finding.entry.code (because_of finding.entry.reason)) what answer.new.bytes.items answer.new.audit.items) }
+    {
+        self.code_as(function::DIRECTORY_ADVERT, finding, answer)
+    }
+
+    /// Answers bytes that are not a message that is read: with the code of their fault, where it has one,
+    /// and else with nothing.
+    pub fn fault(&self, fault: WireFault, answer: &mut Answer) -> Result<Sent, NoMemory>
+        requires no_reply { answer.old.bytes.items ≡ [] }
+        requires no_line { answer.old.audit.items ≡ [] }
+        ensures { IfOk result (λ what. TellsOf self.now (fault_outcome (heading_in self.now.header.now) fault) what answer.new.bytes.items answer.new.audit.items) }
+    {
+        match decider_of(fault) {
+            Some(decider) => self.code(Finding::by(decider, None), answer),
+            None => Ok(Sent::Silence),
+        }
+    }
+
+    // What is sent of a reply that is written: nothing, where it has nothing in it and was asked of many.
+    fn keep(&self, is_empty: bool, bytes: &mut Vec<u8>) -> Sent
+        ensures bytes { bytes.new.items ≡ sent_of (heading_in self.now.header.now) 0 is_empty bytes.old.items }
+        ensures sent { result ≡ (if is_to_many (heading_in self.now.header.now) && (not (0 == 0) || is_empty) then sent.Silence else sent.Bytes 0) }
+    {
+        if is_unsent(self.header, self.request, code::OK, is_empty) {
+            bytes.clear();
+            return Sent::Silence;
+        }
+        Sent::Bytes(code::OK)
+    }
+
+    /// Sends the reply that is written, which may have nothing in it, about a type, if it is about one.
+    /// Nobody had to decide.
+    pub fn written(
+        &self,
+        kind: Option<&ServiceType>,
+        is_empty: bool,
+        answer: &mut Answer,
+    ) -> Result<Sent, NoMemory>
+        requires written { answer.old.bytes.items ≢ [] }
+        requires no_line { answer.old.audit.items ≡ [] }
+        ensures { let head = heading_in self.now.header.now in
+            IfOk result (λ what. TellsOf self.now (outcome (sent_of head 0 is_empty answer.old.bytes.items) 0 (by_step decider.Nobody (option_copied kind.entry))) what answer.new.bytes.items answer.new.audit.items) }
+    {
+        let sent = self.keep(is_empty, &mut answer.bytes);
+        self.tell(Finding::by(Decider::Nobody, kind), &mut answer.audit)?;
+        Ok(sent)
+    }
+
+    /// Sends a message, about a type, if it is about one. Nobody had to decide.
+    pub fn message(
+        &self,
+        kind: Option<&ServiceType>,
+        message: &Message,
+        answer: &mut Answer,
+    ) -> Result<Sent, NoMemory>
+        requires short { length (plain_bytes message.now) ≤ 65535 }
+        requires no_reply { answer.old.bytes.items ≡ [] }
+        requires no_line { answer.old.audit.items ≡ [] }
+        ensures { let head = heading_in self.now.header.now in
+            IfOk result (λ what. TellsOf self.now (outcome (sent_of head 0 false (plain_bytes message.now)) 0 (by_step decider.Nobody (option_copied kind.entry))) what answer.new.bytes.items answer.new.audit.items) }
+    {
+        put_message(message, &mut answer.bytes)?;
+        self.written(kind, false, answer)
     }
 }

@@ -1,7 +1,8 @@
 -- What a desk does with a message.
-use Rattle.std.specs.Prelude.{◌≡◌, ℕ, nat_lt, Bool, ◌||◌, List, [], length, Result, Ok, Err}
+use Rattle.std.specs.Prelude.{◌≡◌, ℕ, nat_lt, Bool, ◌||◌, List, length, Result, Ok, Err}
 use Rattle.slp_text.specs.declared.faults.NoMemory.{NoMemory}
 use Rattle.slp_headers.specs.Headers.{heading_of}
+use Rattle.access_rules.specs.Deciding.{no_rules}
 use Rattle.directory_questions.specs.Outcomes.{refusal_outcome}
 use Rattle.slp_answer.specs.Answers.{line_of}
 use Rattle.slp_answer.specs.declared.answer.Answer.{Answer}
@@ -17,7 +18,7 @@ pub record Standing (M : Type 0) : Type 0 where
 -- the line of a message: that of its answer, or of a refusal where no memory was found
 abbrev pub told_line : ℕ → List ℕ → Result Sent NoMemory → Answer → List ℕ
 told_line asker message (Ok _) answer = answer.audit.items
-told_line asker message (Err _) answer = line_of [] asker (heading_of message) (refusal_outcome (heading_of message))
+told_line asker message (Err _) answer = line_of no_rules asker (heading_of message) (refusal_outcome (heading_of message))
 
 -- It asks its clock, and the line of the message waits to be written out. What it answers is said of the step that it takes under the directory's lock.
 pub record DeskSteps {M : Type 0} (may : Ticks M) (line : List ℕ) (before after : Standing M) : Type 0 where

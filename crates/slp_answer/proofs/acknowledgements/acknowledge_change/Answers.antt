@@ -6,7 +6,7 @@ use Rattle.slp_answer.proofs.acknowledgements.acknowledge_change.Goals as goal
 
 pub returns-in-Ok : goal.returns-in-Ok
 returns-in-Ok g c = λ o h fold legal.
-    let call = c.args.headed.now.call.now in
-    judged-told o h call.moment call.asker (heading_in c.args.headed.now.header.now) (message_in c.args.change.now) c.args.directory.now.rules c.in-Ok.sent c.answer_code-told.new.answer.bytes.items c.answer_code-told.new.answer.audit.items
+    let reply = c.args.reply.now in
+    judged-told o h reply.call.now.moment reply.call.now.asker (heading_in reply.header.now) (message_in c.args.change.now) reply.rules.now c.in-Ok.sent c.code-told.new.answer.bytes.items c.code-told.new.answer.audit.items
     (judgement_in c.in_ok-decided.decided) (finding_of c.finding.result) c.change-change.result c.requires.sound legal (c.in_ok-decided.ensures o h fold legal) c.finding.ensures c.change-change.ensures
-    (rw c.rules-rules.ensures at c.in-Ok.ensures)
+    c.in-Ok.ensures

@@ -15,8 +15,8 @@ use Rattle.slp_answer.proofs.adverts.answer_agents.Goals.{else-not-is_empty-via-
 pub returns : goal.returns
 returns g c = λ o h fold legal.
     let query = c.args.query.now in
-    let call = call_in c.args.headed.now.call.now in
-    let head = heading_in c.args.headed.now.header.now in
+    let call = call_in c.args.reply.now.call.now in
+    let head = heading_in c.args.reply.now.header.now in
     let scopes : List (List ℕ) = c.in-Some.scopes in
     let site-is = c.site.ensures ∙ fold.placed in
     let either : (scopes ≡ []) ⊎ (list_any (supports c.args.directory.now.site) scopes ≡ true) = elim c.else-not-is_empty.branch [
@@ -25,10 +25,10 @@ returns g c = λ o h fold legal.
     ] in
     let is : is_agent_for o.site scopes ≡ true = agent-for o.site scopes (subst (λ (s : Site). (scopes ≡ []) ⊎ (list_any (supports s) scopes ≡ true)) fold.placed either) in
     let named : query.scopes ≡ Some scopes = search rules in
-    IfOk-weaker c.send_advert.result _ _
+    IfOk-weaker c.advert.result _ _
     (λ what tells. (
       advert_outcome o.site call.own head query.kind,
       agents-answer o h call head query scopes true named is,
-      subst (λ (s : Site). Tells c.args.directory.now.rules call.asker (Some head) (advert_outcome s call.own head query.kind) what c.send_advert.new.answer.bytes.items c.send_advert.new.answer.audit.items) site-is tells,
+      subst (λ (s : Site). Tells c.args.reply.now.rules.now call.asker (Some head) (advert_outcome s call.own head query.kind) what c.advert.new.answer.bytes.items c.advert.new.answer.audit.items) site-is tells,
     ))
-    (rw c.rules-rules.ensures at c.send_advert.ensures)
+    c.advert.ensures

@@ -15,25 +15,25 @@ use Rattle.slp_answer.proofs.text_replies.answer_attributes.Goals as goal
 pub returns-in-Ok : goal.returns-in-Ok
 returns-in-Ok g c = λ o h fold legal.
     let q = c.args.query.now in
-    let call = call_in c.args.headed.now.call.now in
-    let head = heading_in c.args.headed.now.header.now in
+    let call = call_in c.args.reply.now.call.now in
+    let head = heading_in c.args.reply.now.header.now in
     let a = c.in-Ok.attributes in
     let supported = ap (λ (p : Site). list_any (supports p) q.scopes) (sym fold.placed) ∙ found-supported a _ _ c.in-Ok.ensures.scope in
-    IfOk-weaker c.send_texts.result _ _
+    IfOk-weaker c.texts.result _ _
     (λ what k. (
       k.0,
       described-answer o h call head q a k.0 supported (c.in-Ok.ensures.language o h fold legal).1 (c.in-Ok.ensures.joined o h fold legal)
           (subst (λ (kind : Option (List ℕ)). IsCutReply (attributes_with head) call.limit head (by_step decider.Nobody kind) (attribute_texts a) k.0) c.kind-kind.ensures k.1),
       k.2,
     ))
-    (rw c.rules-rules.ensures at c.send_texts.ensures)
+    c.texts.ensures
 
 pub returns-in-Err-Language : goal.returns-in-Err-Language
 returns-in-Err-Language g c = λ o h fold legal.
     let q = c.args.query.now in
-    let head = heading_in c.args.headed.now.header.now in
+    let head = heading_in c.args.reply.now.header.now in
     let supported = ap (λ (p : Site). list_any (supports p) q.scopes) (sym fold.placed) ∙ refused-supported _ _ _ refl c.in-Err-Language.field-0-is c.in-Err-Language.ensures.scope in
     let elsewhere = (c.in-Err-Language.ensures.language o h fold legal).0 (ap Err c.in-Err-Language.field-0-is) in
-    IfOk-weaker c.answer_code-in-Err-Language.result _ _
-    (λ what tells. (language_outcome head (kind_asked q.target), elsewhere-answer o h (call_in c.args.headed.now.call.now) head q supported elsewhere, tells))
-    (rw (c.rules-rules.ensures, c.by-finding-in-Err-Language.ensures.code, c.by-finding-in-Err-Language.ensures.reason, c.kind-kind.ensures) at c.answer_code-in-Err-Language.ensures)
+    IfOk-weaker c.code-in-Err-Language.result _ _
+    (λ what tells. (language_outcome head (kind_asked q.target), elsewhere-answer o h (call_in c.args.reply.now.call.now) head q supported elsewhere, tells))
+    (rw (c.by-in-Err-Language.ensures.code, c.by-in-Err-Language.ensures.reason, c.kind-kind.ensures) at c.code-in-Err-Language.ensures)

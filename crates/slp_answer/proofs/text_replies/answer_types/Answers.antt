@@ -4,7 +4,7 @@ use Rattle.std.proofs.lemmas.Result.{IfOk-weaker}
 use Rattle.slp_headers.specs.Headers.{heading_in}
 use Rattle.directory_judge.specs.Judgements.{supports}
 use Rattle.directory_judge.specs.Sites.{Site}
-use Rattle.directory_questions.specs.Calls.{call_in}
+use Rattle.directory_questions.specs.Calls.{call_in, standpoint_of}
 use Rattle.directory_questions.specs.Items.{AreTypesOf}
 use Rattle.directory_state.specs.Searches.{entries_lent}
 use Rattle.slp_answer.proofs.AnswersTold.{found-supported, named-answer}
@@ -13,14 +13,14 @@ use Rattle.slp_answer.proofs.text_replies.answer_types.Goals as goal
 pub returns-in-Ok : goal.returns-in-Ok
 returns-in-Ok g c = λ o h fold legal.
     let q = c.args.query.now in
-    let call = call_in c.args.headed.now.call.now in
-    let head = heading_in c.args.headed.now.header.now in
+    let call = call_in c.args.reply.now.call.now in
+    let head = heading_in c.args.reply.now.header.now in
     let supported = ap (λ (p : Site). list_any (supports p) q.scopes) (sym fold.placed) ∙ found-supported c.in-Ok.entries _ _ c.in-Ok.ensures.scope in
-    IfOk-weaker c.send_texts.result _ _
+    IfOk-weaker c.texts.result _ _
     (λ what k. (
       k.0,
       named-answer o h call head q (map (λ e. e.kind) (entries_lent c.deref.result.now)) k.0 supported
-          (subst (λ es. AreTypesOf o h call.moment call.asker q (map (λ e. e.kind) (entries_lent es))) (sym c.deref.ensures.value) (c.in-Ok.ensures.types o h fold legal)) k.1,
+          (subst (λ es. AreTypesOf (standpoint_of o h call) q (map (λ e. e.kind) (entries_lent es))) (sym c.deref.ensures.value) (c.in-Ok.ensures.types o h fold legal)) k.1,
       k.2,
     ))
-    (rw c.rules-rules.ensures at c.send_texts.ensures)
+    c.texts.ensures

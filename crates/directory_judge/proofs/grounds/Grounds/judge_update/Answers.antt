@@ -8,7 +8,7 @@ use Rattle.registry_core.specs.declared.entry.Entry.{Entry}
 use Rattle.directory_judge.specs.Contents.{Edits}
 use Rattle.directory_judge.specs.Judgements.{Grounds, Accepts, because_of, because_of_entry, by_step, code_by, denial, judgement_in, IsJudgement}
 use Rattle.directory_judge.specs.NamedEntries.{judgement_of_named}
-use Rattle.directory_judge.specs.declared.judgement.Judged.TheVariants as judged
+use Rattle.directory_judge.specs.declared.copies.Judged.TheVariants as judged
 use Rattle.directory_judge.specs.declared.reason.Because.{Because}
 use Rattle.directory_judge.specs.declared.reason.Decider.TheVariants as decider
 use Rattle.directory_judge.proofs.NamedEntries.{content-updated, judgement-updated}
@@ -24,12 +24,12 @@ returns-then-not-conforms g c =
     let made : ◌≡◌ {A = Entry} (arc_value c.in_ok-entry-in-Ok.entry) (record e { attrs = updated_attributes old.attrs e.attrs }) = c.in_ok-entry-in-Ok.ensures in
     let fault : is_none (template_fault on.site.templates e.kind (updated_attributes old.attrs e.attrs)) ≡ false =
     ap₂ (λ (x y : Entry). is_none (template_fault on.site.templates x.kind y.attrs)) (sym (c.deref.ensures ∙ made)) (sym (c.deref-in-Ok.ensures ∙ made)) ∙ sym c.conforms.ensures ∙ c.if-not-conforms.true in
-    IfOk-weaker c.denial-then-not-conforms.result (λ j. judgement_in j ≡ judged.Deny (code_by c.of_step.result.decider) (because_of c.of_step.result)) _
+    IfOk-weaker c.denied-then-not-conforms.result (λ j. judgement_in j ≡ judged.Deny (code_by c.of_step.result.decider) (because_of c.of_step.result)) _
     (λ j denied a of. subst (λ x. IsJudgement on.live x (judgement_of_named on false e a because)) (sym (denied ∙ ap (λ (b : Because). judged.Deny (code_by b.decider) b) c.of_step.ensures))
     (judgement-updated on e old a because c.in-Ok.ensures.ok
     ∙ ap (λ o. unwrap_or o (Accepts (record { moment = on.now; act = a }) because)) (template-denies on e.kind (updated_attributes old.attrs e.attrs) fault)
     ∙ ap (λ (x : Entry). denial (by_step decider.Template (Some x.kind))) (sym (c.deref-then-not-conforms.ensures ∙ made))))
-    c.denial-then-not-conforms.ensures
+    c.denied-then-not-conforms.ensures
 
 pub returns-else-not-conforms : goal.returns-else-not-conforms
 returns-else-not-conforms g c = λ a of.

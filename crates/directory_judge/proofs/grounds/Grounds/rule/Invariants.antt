@@ -1,5 +1,6 @@
+use Rattle.access_rules.specs.Deciding.{deed}
 use Rattle.directory_judge.proofs.Rulings.{IsAsked}
 use Rattle.directory_judge.proofs.grounds.Grounds.rule.Given as goal
 
 abbrev pub invariant-loop-place : goal.invariant-loop-place
-invariant-loop-place g l = IsAsked l.self.rules l.self.asker l.action l.kind l.scopes l.first l.place
+invariant-loop-place g l = IsAsked l.self.rules (deed l.self.asker l.action l.kind) l.scopes l.first l.place

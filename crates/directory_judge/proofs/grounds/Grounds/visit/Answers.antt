@@ -7,6 +7,7 @@ use Rattle.registry_core.specs.Entries.{outlives}
 use Rattle.directory_judge.specs.Judgements.{Grounds, ruling_in}
 use Rattle.directory_judge.specs.Walks.{IsVisit}
 use Rattle.directory_judge.specs.declared.withdrawals.RuledEntry.{RuledEntry}
+use Rattle.access_rules.specs.Deciding.{deed}
 use Rattle.access_rules.specs.declared.rule.Action.TheVariants.{Withdraw}
 use Rattle.directory_judge.proofs.Rulings.{IsVisit-with, no-scopes, not-false, ruling-none}
 use Rattle.directory_judge.proofs.grounds.Grounds.visit.Goals as goal
@@ -27,5 +28,5 @@ returns-in-None-clause-entry g c =
     let e = c.args.entry.now in
     let same : texts_eq e.scopes c.args.scopes.now ≡ true = not-false (texts_eq e.scopes c.args.scopes.now) (sym c.ne.ensures ∙ c.if-ne.false) in
     let long = as_long bytes_eq e.scopes c.args.scopes.now same in
-    let none = no-scopes e.scopes (ruling-none on.rules on.asker Withdraw e.kind e.scopes (sym c.rule.ensures ∙ ap (option_map ruling_in) c.in-None.is)).1 in
+    let none = no-scopes e.scopes (ruling-none on.rules (deed on.asker Withdraw e.kind) e.scopes (sym c.rule.ensures ∙ ap (option_map ruling_in) c.in-None.is)).1 in
     absurd (omega (arith, none, long, c.requires.some_scope))

@@ -1,0 +1,161 @@
+//! What comes of a call: the reply, its line, and the change that it asks for.
+ghost use Rattle.std.specs.Prelude.{◌≡◌, ◌≤◌, [], true, false, IfOk, OnErr};
+ghost use Rattle.directory_judge.specs.History.{History};
+ghost use Rattle.directory_questions.specs.Answers.{is_change_of};
+ghost use Rattle.directory_questions.specs.Calls.{Opening, call_in};
+ghost use Rattle.directory_questions.specs.Verdicts.{IsLegal};
+ghost use Rattle.directory_state.specs.Folds.{Fold};
+ghost use Rattle.slp_answer.specs.Answers.{Acknowledges, IsCallAnswered, Replies, Steps};
+
+use crate::acknowledgements::acknowledge_request;
+use crate::answer::{Answer, Sent};
+use crate::questions::answer_request;
+use crate::replies::Reply;
+use access_rules::Addr;
+use directory_judge::Change;
+use directory_questions::{Call, Request};
+use directory_state::Directory;
+use registry_core::Registry;
+use slp_text::NoMemory;
+use slp_wire::read_header;
+use std::alloc::Global;
+
+// Answers a call, and hands out the change where one is accepted. Where no header is readable, or the function
+// is none that is answered, there is no answer.
+fn answer_request_in<R: Registry>(
+    alloc: Global,
+    directory: &Directory<R>,
+    call: &Call<'_>,
+    answer: &mut Answer,
+) -> Result<(Sent, Option<Change>), NoMemory>
+    requires datagram { 1400 ≤ call.now.limit }
+    requires stream { call.now.limit ≤ 65535 }
+    requires no_reply { answer.old.bytes.items ≡ [] }
+    requires no_line { answer.old.audit.items ≡ [] }
+    ensures { (o : Opening) (h : History) → Fold o h directory.now → IsLegal o h
+        → IfOk result (λ p. IsCallAnswered o h (call_in call.now) p.0 p.1 answer.new.bytes.items answer.new.audit.items) }
+{
+    let Some(header) = read_header(call.bytes) else {
+        return Ok((Sent::Silence, None));
+    };
+    let Some(request) = Request::of(header.function) else {
+        return Ok((Sent::Silence, None));
+    };
+    let reply = Reply {
+        rules: directory.rules(),
+        call,
+        header: &header,
+        request,
+    };
+    if request.is_change() {
+        return acknowledge_request(alloc, directory, &reply, answer);
+    }
+    let sent = answer_request(alloc, directory, &reply, answer)?;
+    Ok((sent, None))
+}
+
+// The same, into an answer that may hold another.
+fn answer_call<R: Registry>(
+    alloc: Global,
+    directory: &Directory<R>,
+    call: &Call<'_>,
+    answer: &mut Answer,
+) -> Result<(Sent, Option<Change>), NoMemory>
+    requires datagram { 1400 ≤ call.now.limit }
+    requires stream { call.now.limit ≤ 65535 }
+    ensures told { (o : Opening) (h : History) → Fold o h directory.now → IsLegal o h
+        → IfOk result (λ p. IsCallAnswered o h (call_in call.now) p.0 p.1 answer.new.bytes.items answer.new.audit.items) }
+    ensures no_reply { OnErr result (answer.new.bytes.items ≡ []) }
+    ensures no_line { OnErr result (answer.new.audit.items ≡ []) }
+{
+    answer.clear();
+    match answer_request_in(alloc, directory, call, answer) {
+        Ok(told) => Ok(told),
+        Err(fault) => {
+            answer.clear();
+            Err(fault)
+        }
+    }
+}
+
+/// The step of an agent: answers bytes, and makes the change that they ask for where it is accepted.
+/// `NoMemory` changes nothing, and leaves the answer empty.
+pub fn step<R: Registry>(
+    alloc: Global,
+    directory: &mut Directory<R>,
+    call: &Call<'_>,
+    answer: &mut Answer,
+) -> Result<Sent, NoMemory>
+    requires datagram { 1400 ≤ call.now.limit }
+    requires stream { call.now.limit ≤ 65535 }
+    ensures told { (o : Opening) (h : History) → Fold o h directory.old → IsLegal o h
+        → IfOk result (λ what. Steps o h (call_in call.now) what answer.new.bytes.items answer.new.audit.items directory.new) }
+    ensures kept { OnErr result (directory.new ≡ directory.old) }
+    ensures no_reply { OnErr result (answer.new.bytes.items ≡ []) }
+    ensures no_line { OnErr result (answer.new.audit.items ≡ []) }
+{
+    let (sent, change) = answer_call(alloc, directory, call, answer)?;
+    if let Some(change) = change {
+        directory.apply(change);
+    }
+    Ok(sent)
+}
+
+/// Answers bytes that ask for no change, in at most `limit` bytes. `own` is the address of the loop
+/// that they came to. After `NoMemory` the answer is empty.
+pub fn reply<R: Registry>(
+    alloc: Global,
+    directory: &Directory<R>,
+    own: Addr,
+    moment: u32,
+    asker: Addr,
+    bytes: &[u8],
+    limit: usize,
+    answer: &mut Answer,
+) -> Result<Sent, NoMemory>
+    requires no_change { is_change_of bytes.now ≡ false }
+    requires datagram { 1400 ≤ limit }
+    requires stream { limit ≤ 65535 }
+    ensures told { (o : Opening) (h : History) → Fold o h directory.now → IsLegal o h
+        → IfOk result (λ what. Replies o h (record { own = own; moment = moment; asker = asker; bytes = bytes.now; limit = limit }) what answer.new.bytes.items answer.new.audit.items) }
+    ensures no_reply { OnErr result (answer.new.bytes.items ≡ []) }
+    ensures no_line { OnErr result (answer.new.audit.items ≡ []) }
+{
+    let call = Call {
+        own,
+        moment,
+        asker,
+        bytes,
+        limit,
+    };
+    let (sent, change) = answer_call(alloc, directory, &call, answer)?;
+    drop(change);
+    Ok(sent)
+}
+
+/// Acknowledges bytes that ask for a change, and hands out the change where one is accepted. It is
+/// not made yet. After `NoMemory` the answer is empty.
+pub fn acknowledge<R: Registry>(
+    alloc: Global,
+    directory: &Directory<R>,
+    moment: u32,
+    asker: Addr,
+    bytes: &[u8],
+    answer: &mut Answer,
+) -> Result<(Sent, Option<Change>), NoMemory>
+    requires { is_change_of bytes.now ≡ true }
+    ensures told { (o : Opening) (h : History) → Fold o h directory.now → IsLegal o h
+        → IfOk result (λ p. Acknowledges o h moment asker bytes.now p.0 p.1 answer.new.bytes.items answer.new.audit.items) }
+    ensures no_reply { OnErr result (answer.new.bytes.items ≡ []) }
+    ensures no_line { OnErr result (answer.new.audit.items ≡ []) }
+{
+    // An acknowledgement is the same at whatever address, and fits everywhere.
+    let call = Call {
+        own: Addr(0),
+        moment,
+        asker,
+        bytes,
+        limit: 1_400,
+    };
+    answer_call(alloc, directory, &call, answer)
+}

@@ -1,0 +1,157 @@
+//! What is answered to a question: services, with as many of those that are found as fit, or what stands instead.
+ghost use Rattle.std.specs.Prelude.{◌≡◌, ◌≤◌, ◌==◌, ◌&&◌, ◌||◌, [], false, if◌then◌else◌, not, length, IfOk, Some};
+ghost use Rattle.slp_headers.specs.Headers.{heading_in};
+ghost use Rattle.slp_wire.specs.Spelling.{plain_bytes};
+ghost use Rattle.directory_judge.specs.History.{History};
+ghost use Rattle.directory_judge.specs.Judgements.{by_step};
+ghost use Rattle.directory_judge.specs.declared.reason.Decider.TheVariants as decider;
+ghost use Rattle.directory_questions.specs.Calls.{Opening, call_in};
+ghost use Rattle.directory_questions.specs.Outcomes.{is_to_many, outcome, sent_of};
+ghost use Rattle.directory_questions.specs.Requests.{function_in, is_change_function};
+ghost use Rattle.directory_questions.specs.Verdicts.{IsLegal};
+ghost use Rattle.directory_questions.specs.declared.question.Question.TheVariants as question;
+ghost use Rattle.directory_state.specs.Fronts.{items_in};
+ghost use Rattle.directory_state.specs.Folds.{Fold};
+ghost use Rattle.slp_answer.specs.ServiceReplies.{service_reply};
+ghost use Rattle.slp_answer.specs.Answers.{IsQuestionAnswered, Replies, TellsOf};
+ghost use Rattle.slp_answer.specs.declared.answer.Sent.TheVariants as sent;
+
+use crate::adverts::answer_agents;
+use crate::answer::{Answer, Sent};
+use crate::listing::{put_found, room_in};
+use crate::replies::{Reply, is_unsent};
+use crate::text_replies::{answer_attributes, answer_types};
+use directory_judge::{Decider, Finding};
+use directory_questions::{QueryFault, Question, ServiceQuery, asked};
+use directory_state::{Directory, FoundItems};
+use registry_core::Registry;
+use service_url::ServiceType;
+use slp_text::NoMemory;
+use slp_wire::code;
+use std::alloc::Global;
+
+// Whether nothing was found.
+fn is_nothing(found: &FoundItems<'_>) -> bool
+    ensures { result ≡ (length (items_in found.now) == 0 && not found.now.is_cut) }
+{
+    found.latest.is_empty() && !found.is_cut
+}
+
+impl Reply<'_> {
+    // Writes the services that were found, where a reply is sent.
+    fn put_services(&self, found: &FoundItems<'_>, bytes: &mut Vec<u8>) -> Result<Sent, NoMemory>
+        requires short { length (plain_bytes (service_reply (heading_in self.now.header.now) found.now.is_cut (items_in found.now))) ≤ 65535 }
+        requires no_reply { bytes.old.items ≡ [] }
+        ensures bytes { let is_empty = length (items_in found.now) == 0 && not found.now.is_cut in
+            IfOk result (λ _. bytes.new.items ≡ sent_of (heading_in self.now.header.now) 0 is_empty (plain_bytes (service_reply (heading_in self.now.header.now) found.now.is_cut (items_in found.now)))) }
+        ensures sent { let is_empty = length (items_in found.now) == 0 && not found.now.is_cut in
+            IfOk result (λ what. what ≡ (if is_to_many (heading_in self.now.header.now) && (not (0 == 0) || is_empty) then sent.Silence else sent.Bytes 0)) }
+    {
+        if is_unsent(self.header, self.request, code::OK, is_nothing(found)) {
+            return Ok(Sent::Silence);
+        }
+        put_found(self.header, found, bytes)?;
+        Ok(Sent::Bytes(code::OK))
+    }
+
+    // Sends the services that were found.
+    fn services(
+        &self,
+        kind: &ServiceType,
+        found: &FoundItems<'_>,
+        answer: &mut Answer,
+    ) -> Result<Sent, NoMemory>
+        requires short { length (plain_bytes (service_reply (heading_in self.now.header.now) found.now.is_cut (items_in found.now))) ≤ 65535 }
+        requires no_reply { answer.old.bytes.items ≡ [] }
+        requires no_line { answer.old.audit.items ≡ [] }
+        ensures { let head = heading_in self.now.header.now in
+            let whole = plain_bytes (service_reply head found.now.is_cut (items_in found.now)) in
+            let is_empty = length (items_in found.now) == 0 && not found.now.is_cut in
+            IfOk result (λ what. TellsOf self.now (outcome (sent_of head 0 is_empty whole) 0 (by_step decider.Nobody (Some kind.now))) what answer.new.bytes.items answer.new.audit.items) }
+    {
+        let sent = self.put_services(found, &mut answer.bytes)?;
+        self.tell(Finding::by(Decider::Nobody, Some(kind)), &mut answer.audit)?;
+        Ok(sent)
+    }
+}
+
+// Answers a question about services: with as many of those that are found as fit, or with the code that
+// stands instead.
+fn answer_services<R: Registry>(
+    alloc: Global,
+    directory: &Directory<R>,
+    reply: &Reply<'_>,
+    query: &ServiceQuery,
+    answer: &mut Answer,
+) -> Result<Sent, NoMemory>
+    requires datagram { 1400 ≤ reply.now.call.now.limit }
+    requires stream { reply.now.call.now.limit ≤ 65535 }
+    requires no_reply { answer.old.bytes.items ≡ [] }
+    requires no_line { answer.old.audit.items ≡ [] }
+    ensures { (o : Opening) (h : History) → Fold o h directory.now → IsLegal o h
+        → IfOk result (λ what. IsQuestionAnswered o h reply.now (question.Services query.now) what answer.new.bytes.items answer.new.audit.items) }
+{
+    let call = reply.call;
+    let room = room_in(reply.header, call.limit);
+    let kind = &query.kind;
+    match directory.find(alloc, call.moment, call.asker, query, room) {
+        Ok(found) => reply.services(kind, &found, answer),
+        Err(QueryFault::Scope) => reply.code(Finding::by(Decider::Scope, Some(kind)), answer),
+        Err(QueryFault::Language) => {
+            reply.code(Finding::by(Decider::Language, Some(kind)), answer)
+        }
+        Err(QueryFault::NoMemory) => Err(NoMemory),
+    }
+}
+
+// Answers a question, or with nothing what no directory answers.
+fn answer_question<R: Registry>(
+    alloc: Global,
+    directory: &Directory<R>,
+    reply: &Reply<'_>,
+    posed: &Question,
+    answer: &mut Answer,
+) -> Result<Sent, NoMemory>
+    requires datagram { 1400 ≤ reply.now.call.now.limit }
+    requires stream { reply.now.call.now.limit ≤ 65535 }
+    requires no_reply { answer.old.bytes.items ≡ [] }
+    requires no_line { answer.old.audit.items ≡ [] }
+    ensures { (o : Opening) (h : History) → Fold o h directory.now → IsLegal o h
+        → IfOk result (λ what. IsQuestionAnswered o h reply.now posed.now what answer.new.bytes.items answer.new.audit.items) }
+{
+    match posed {
+        Question::Silent => Ok(Sent::Silence),
+        Question::Unreadable => reply.code(Finding::by(Decider::Parse, None), answer),
+        Question::Services(query) => answer_services(alloc, directory, reply, query, answer),
+        Question::Attributes(query) => answer_attributes(alloc, directory, reply, query, answer),
+        Question::Types(query) => answer_types(alloc, directory, reply, query, answer),
+        Question::Agents(query) => answer_agents(alloc, directory, reply, query, answer),
+    }
+}
+
+/// Answers a message that asks a question.
+pub fn answer_request<R: Registry>(
+    alloc: Global,
+    directory: &Directory<R>,
+    reply: &Reply<'_>,
+    answer: &mut Answer,
+) -> Result<Sent, NoMemory>
+    requires question { is_change_function (function_in reply.now.request) ≡ false }
+    requires ruled { reply.now.rules.now ≡ directory.now.rules }
+    requires datagram { 1400 ≤ reply.now.call.now.limit }
+    requires stream { reply.now.call.now.limit ≤ 65535 }
+    requires no_reply { answer.old.bytes.items ≡ [] }
+    requires no_line { answer.old.audit.items ≡ [] }
+    ensures { (o : Opening) (h : History) → Fold o h directory.now → IsLegal o h
+        → IfOk result (λ what. Replies o h (call_in reply.now.call.now) what answer.new.bytes.items answer.new.audit.items) }
+{
+    let call = reply.call;
+    match asked(alloc, call.own, reply.header, call.bytes)? {
+        Ok(question) => {
+            let told = answer_question(alloc, directory, reply, &question, answer);
+            drop(question);
+            told
+        }
+        Err(fault) => reply.fault(fault, answer),
+    }
+}
