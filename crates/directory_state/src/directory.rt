@@ -207,13 +207,11 @@ impl<R: Registry> Directory<R> {
         if asked.is_empty() {
             return None;
         }
-        let first = asked.at(0);
         Some(Viewer {
             asker,
             moment: u64::from(self.now(moment)),
             rules: &self.rules,
             asked,
-            first,
         })
     }
 

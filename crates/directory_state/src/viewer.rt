@@ -1,5 +1,8 @@
 //! What is open to who asks.
-ghost use Rattle.std.specs.Prelude.{◌≡◌, ◌+◌, ◌∷◌, [], drop, filter, get_or, is_some, slice_get, IfOk, IfSome, MatchOption, Some};
+ghost use Rattle.std.specs.Prelude.{◌≡◌, ◌+◌, ◌∷◌, [], drop, filter, get_or, is_some, IfOk, IfSome, MatchOption};
+ghost use Rattle.std.specs.Option.{option_copied};
+ghost use Rattle.registry_core.specs.Entries.{is_kind, is_of_url, IsListing};
+ghost use Rattle.directory_state.specs.Searches.{entries_lent, is_open_in, is_seen, open_scopes};
 
 use crate::asked::Asked;
 use access_rules::{Action, Addr, Deed, Rules};
@@ -15,9 +18,6 @@ pub struct Viewer<'q> {
     pub moment: u64,
     pub rules: &'q Rules,
     pub asked: Asked<'q>,
-    /// The first scope that is asked for. It stands here as well, since each entry is asked for it.
-    pub first: &'q Key,
-    ghost first_is: { slice_get asked 0 ≡ Some first.now },
 }
 
 /// What is seen of an entry: it is open in a scope at this place of those that are asked for, and in none before it. In which others
@@ -28,10 +28,6 @@ pub struct Sight {
 }
 
 impl Viewer<'_> {
-    ghost use Rattle.std.specs.Option.{option_copied};
-    ghost use Rattle.registry_core.specs.Entries.{is_kind, is_of_url, IsListing};
-    ghost use Rattle.directory_state.specs.Searches.{entries_lent, is_open_in, is_seen, open_scopes};
-
     // Whether an entry stands in a scope in which the asker may see its type.
     #[inline(always)]
     fn is_open_in(&self, entry: &Entry, scope: &Key) -> bool
@@ -47,8 +43,7 @@ impl Viewer<'_> {
 
     /// The place from another one on, counted from 0, of the first scope in which an entry is open, of those that are asked for.
     /// Takes no memory.
-    // A call in the machine's code as well, so that no loop over scopes stands in the walk over entries.
-    #[inline(never)]
+    #[inline(always)]
     pub fn next_open(&self, entry: &Entry, from: usize) -> Option<usize>
         ensures { let opened = filter (is_open_in self.now.rules.now self.now.asker entry.now) in
             MatchOption result (opened (drop from self.now.asked) ≡ [])
@@ -72,10 +67,7 @@ impl Viewer<'_> {
         if entry.deadline <= self.moment {
             return None;
         }
-        if self.is_open_in(entry, self.first) {
-            return Some(Sight { first: 0 });
-        }
-        let first = self.next_open(entry, 1)?;
+        let first = self.next_open(entry, 0)?;
         Some(Sight { first })
     }
 
