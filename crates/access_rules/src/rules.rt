@@ -56,6 +56,8 @@ impl Rules {
     }
 
     /// The verdict of the first rule that fits a deed in a scope, else a denial by default. Takes no memory.
+    // Inlined, as the search below, so that a deed lies in registers while the rules are passed over.
+    #[inline(always)]
     pub fn verdict(&self, deed: &Deed<'_>, scope: &Key) -> Verdict
         ensures value { result ≡ deciding self.now (deed_in deed.now) scope.now }
         ensures within { IfSome result.rule (λ place. place < number self.now) }
@@ -87,6 +89,7 @@ impl Rules {
         )
     }
 
+    #[inline(always)]
     fn first_fitting(&self, deed: &Deed<'_>, scope: &Key) -> Option<usize>
         ensures { result ≡ position (fits (deed_in deed.now) scope.now) (rules_in self.now) }
     {
