@@ -51,6 +51,20 @@ type_of text =
     if is_abstract_with_colon (key_of text) then Ok (text_without_last (key_of text))
     else (if is_type (key_of text) then Ok (key_of text) else Err BadType)
 
+-- `service:directory-agent`, the type of directory agents
+abbrev pub directory_agent : List ℕ
+directory_agent = codes "service:directory-agent"
+
+-- `service:service-agent`, that of service agents, who alone answer for it
+abbrev pub service_agent : List ℕ
+service_agent = codes "service:service-agent"
+
+abbrev pub is_directory_agent : List ℕ → Bool
+is_directory_agent kind = bytes_eq kind directory_agent
+
+abbrev pub is_service_agent : List ℕ → Bool
+is_service_agent kind = bytes_eq kind service_agent
+
 -- A type covers itself, and an abstract one each that is made from it.
 abbrev pub covers : List ℕ → List ℕ → Bool
 covers kind other = bytes_eq kind other || (is_abstract kind && starts_with nat_eq other (kind ++ colon ∷ []))

@@ -1,5 +1,6 @@
 ghost use Rattle.std.specs.Prelude.{◌≡◌, ◌&&◌, ◌||◌, ◌∷◌, ◌++◌, ◌≤◌, [], nat_eq, length, drop, IsTrue, IfOk};
 ghost use Rattle.std.specs.Option.{option_copied};
+ghost use Rattle.std.specs.Result.{result_ok};
 ghost use Rattle.std.specs.List.{list_all, starts_with, position_or_len, before_first, after_first};
 ghost use Rattle.service_url.specs.Reading.{IsReading};
 ghost use Rattle.slp_text.specs.Ascii.{colon};
@@ -7,7 +8,7 @@ ghost use Rattle.service_url.specs.Types as spec;
 ghost use Rattle.service_url.specs.Types.{is_colon, type_of, is_dot, authority_of, named_authority, named_service, service_name_of};
 
 use crate::fault::UrlFault;
-use slp_text::{Key, NoMemory, Text, TextFault, key};
+use slp_text::{Key, NoMemory, Text, TextFault, folded};
 use std::alloc::Global;
 use std::marker::Model;
 
@@ -32,6 +33,10 @@ impl Model for ServiceType {
 }
 
 const SERVICE: &[u8] = b"service:";
+
+const DIRECTORY_AGENT: &str = "service:directory-agent";
+
+const SERVICE_AGENT: &str = "service:service-agent";
 
 // Small letters are asked for first, since most are.
 fn is_name_byte(b: u8) -> bool
@@ -167,8 +172,8 @@ impl ServiceType {
     pub fn parse(alloc: Global, text: &str) -> Result<ServiceType, UrlFault>
         ensures { IsReading result (type_of text.now) }
     {
-        let mut text = match key(alloc, text) {
-            Ok(folded) => folded.into_string(),
+        let mut text = match folded(alloc, text) {
+            Ok(folded) => folded,
             Err(TextFault::NoMemory) => return Err(UrlFault::NoMemory),
             Err(_) => unreachable!(),
         };
@@ -186,6 +191,17 @@ impl ServiceType {
         Ok(ServiceType { text, is_abstract })
     }
 
+    /// The same, or `None` where a text is no type.
+    pub fn read(alloc: Global, text: &str) -> Result<Option<ServiceType>, NoMemory>
+        ensures { IfOk result (λ k. k ≡ result_ok (type_of text.now)) }
+    {
+        match ServiceType::parse(alloc, text) {
+            Ok(kind) => Ok(Some(kind)),
+            Err(UrlFault::NoMemory) => Err(NoMemory),
+            Err(_) => Ok(None),
+        }
+    }
+
     /// The type as folded. Takes no memory.
     pub fn text(&self) -> &str
         ensures { result.now ≡ self.now }
@@ -195,12 +211,26 @@ impl ServiceType {
 
     /// Whether it covers a type: itself, and where it is abstract each concrete type of it. Takes no
     /// memory.
-    #[inline]
+    #[inline(always)]
     pub fn covers(&self, other: &ServiceType) -> bool
         ensures { result ≡ spec.covers self.now other.now }
     {
         let (kind, made) = (self.text.as_bytes(), other.text.as_bytes());
         kind == made || (self.is_abstract && is_followed_by_colon(kind, made))
+    }
+
+    /// Whether it is the type of directory agents (RFC 2608, section 8.5). Takes no memory.
+    pub fn is_directory_agent(&self) -> bool
+        ensures { result ≡ spec.is_directory_agent self.now }
+    {
+        self.text.as_str() == DIRECTORY_AGENT
+    }
+
+    /// Whether it is the type of service agents, which only they answer for (RFC 2608, section 8.6). Takes no memory.
+    pub fn is_service_agent(&self) -> bool
+        ensures { result ≡ spec.is_service_agent self.now }
+    {
+        self.text.as_str() == SERVICE_AGENT
     }
 
     /// The name A of `service:A` and `service:A:C`, where the type is one of these. Takes no memory.
@@ -239,11 +269,7 @@ impl ServiceType {
 pub fn parse_authority(alloc: Global, text: &str) -> Result<Key, UrlFault>
     ensures { IsReading result (named_authority text.now) }
 {
-    let folded = match key(alloc, text) {
-        Ok(folded) => folded,
-        Err(TextFault::NoMemory) => return Err(UrlFault::NoMemory),
-        Err(_) => unreachable!(),
-    };
+    let folded = Key::of(alloc, text)?;
     if folded.as_str().is_empty() || !are_name_bytes(folded.as_str().as_bytes()) {
         return Err(UrlFault::BadType);
     }
@@ -255,13 +281,13 @@ pub fn parse_authority(alloc: Global, text: &str) -> Result<Key, UrlFault>
 pub fn parse_service_name(alloc: Global, text: &str) -> Result<Text, UrlFault>
     ensures { IsReading result (named_service text.now) }
 {
-    let folded = match key(alloc, text) {
+    let folded = match folded(alloc, text) {
         Ok(folded) => folded,
         Err(TextFault::NoMemory) => return Err(UrlFault::NoMemory),
         Err(_) => unreachable!(),
     };
     if is_name(folded.as_str().as_bytes()) {
-        return Ok(Text::wrap(folded.into_string()));
+        return Ok(Text::wrap(folded));
     }
     if !is_abstract(folded.as_str().as_bytes()) {
         return Err(UrlFault::BadType);

@@ -85,6 +85,10 @@ same_ascending (u ∷ us) (v ∷ vs) a b to from =
       | Greater ↦ λ greater. absurd (not_below v u us (nat_list_cmp_total.antisymm v u ∙ ap ordering_reverse greater) a (from v (here v vs)))
     ] refl
 
+-- a key before the first of an ascending list
+pub ascends-more : (j k : List ℕ) (ks : List (List ℕ)) → bytes_cmp j k ≡ Less → IsAscending (k ∷ ks) → IsAscending (j ∷ k ∷ ks)
+ascends-more j k ks less a = ((less, each_weaker (λ w. bytes_cmp k w ≡ Less) (λ w. bytes_cmp j w ≡ Less) ks (λ w. nat_list_cmp_total.trans j k w less) a.0), a)
+
 -- ---- one key more
 
 -- what holds of the key and of all that is there holds of all

@@ -1,6 +1,6 @@
 -- Keys of texts: white space squeezed, case folded (RFC 2608, section 6.4).
 use Rattle.std.specs.Prelude.{ℕ, Bool, true, false, ◌==◌, ◌&&◌, ◌||◌, nat_le, nat_lt, List, [], ◌∷◌, reverse, chars, encode_utf8_all, if◌then◌else◌}
-use Rattle.slp_text.specs.Ascii.{carriage_return, delete, line_feed, space, tab}
+use Rattle.slp_text.specs.Ascii.{carriage_return, delete, line_feed, space, tab, upper_a, upper_z}
 use Rattle.caseless.specs.Caseless.{default_case_fold}
 
 -- SPACE, TAB, LF and CR
@@ -10,6 +10,10 @@ is_white c = c == space || c == tab || c == line_feed || c == carriage_return
 -- a byte of ASCII that is not white space, and no other control character but DEL
 abbrev pub is_word_byte : ℕ → Bool
 is_word_byte b = nat_lt space b && nat_le b delete
+
+-- no capital letter of ASCII
+abbrev pub is_not_capital : ℕ → Bool
+is_not_capital b = nat_lt b upper_a || nat_lt upper_z b
 
 -- what stands from the first on that is not white
 abbrev pub trimmed_by : {A : Type 0} → (A → Bool) → List A → List A

@@ -1,5 +1,6 @@
 pub mod Ascii
 pub mod Escapes
+pub mod KeyTexts
 pub mod Keys
 pub mod Parts
 pub mod Reading

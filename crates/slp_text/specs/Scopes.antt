@@ -33,6 +33,10 @@ is_plain_byte b = is_plain b || b == hyphen || b == dot || b == underscore
 abbrev pub is_plain_text : List ℕ → Bool
 is_plain_text = list_all is_plain_byte
 
+-- commas, and what is plain
+abbrev pub is_plain_list : List ℕ → Bool
+is_plain_list = list_all (λ b. is_comma b || is_plain_byte b)
+
 -- a scope is a text that is not empty and its own key
 pub record IsScope (k : List ℕ) : Type 0 where
   pub is_text : IsUtf8 k

@@ -5,9 +5,9 @@ ghost use Rattle.slp_text.specs.Squeezing.{squeezed_with};
 ghost use Rattle.slp_text.specs.Words as spec;
 ghost use Rattle.slp_text.specs.declared.faults.TextFault.TheVariants as fault;
 
-use crate::ascii::{is_word, word_key};
+use crate::ascii::{is_word, lower_word, word_key};
 use crate::faults::{NoMemory, TextFault};
-use crate::keys::Key;
+use crate::keys::{Key, KeyText};
 use caseless::Caseless;
 use std::alloc::Global;
 
@@ -54,21 +54,31 @@ impl Squeezed {
     }
 }
 
-// The key of any text. The text is gone through once, and the key is the one text that is made.
-fn folded_key(alloc: Global, text: &str) -> Result<Key, TextFault>
-    ensures value { IfOk result (λ k. k ≡ key_of text.now) }
+// The key of any text, as a string. The text is gone through once, and the key is the one text that is made.
+fn folded_text(alloc: Global, text: &str) -> Result<String, TextFault>
+    ensures value { IfOk result (λ s. string_bytes s ≡ key_of text.now) }
     ensures memory { OnErr result (result ≡ Err fault.NoMemory) }
 {
     let mut squeezed = Squeezed::new(alloc);
     for c in text.chars().default_case_fold() {
         squeezed.push(c)?;
     }
-    Ok(Key {
-        text: squeezed.text,
-    })
+    Ok(squeezed.text)
 }
 
-/// The key by which texts are compared (RFC 2608, section 6.4). It is the one text that is made.
+/// The key of a text, as a string. It is the one text that is made.
+pub fn folded(alloc: Global, text: &str) -> Result<String, TextFault>
+    ensures value { IfOk result (λ s. string_bytes s ≡ key_of text.now) }
+    ensures memory { OnErr result (result ≡ Err fault.NoMemory) }
+{
+    if is_word(text.as_bytes()) {
+        return lower_word(alloc, text);
+    }
+    folded_text(alloc, text)
+}
+
+/// The key by which texts are compared (RFC 2608, section 6.4). It is the one text that is made, and a word of at most 16
+/// bytes takes no memory.
 pub fn key(alloc: Global, text: &str) -> Result<Key, TextFault>
     ensures value { IfOk result (λ k. k ≡ key_of text.now) }
     ensures memory { OnErr result (result ≡ Err fault.NoMemory) }
@@ -76,7 +86,10 @@ pub fn key(alloc: Global, text: &str) -> Result<Key, TextFault>
     if is_word(text.as_bytes()) {
         return word_key(alloc, text);
     }
-    folded_key(alloc, text)
+    let text = folded_text(alloc, text)?;
+    Ok(Key {
+        text: KeyText::Long(text),
+    })
 }
 
 /// A text with its white space squeezed: none at either end, and one SPACE for each inner run of it.
@@ -104,16 +117,23 @@ pub fn trim(text: &str) -> &str
     trim_start(text).trim_end_matches(WHITE_SPACE)
 }
 
-/// Whether a character is SPACE, TAB, CR or LF.
+/// Whether a character is SPACE, TAB, CR or LF. Takes no memory.
 pub fn is_white_space(c: char) -> bool
     ensures { result ≡ is_white c }
 {
     c == ' ' || c == '\t' || c == '\n' || c == '\r'
 }
 
+/// The same of a byte. Takes no memory.
+pub fn is_white_byte(b: u8) -> bool
+    ensures { result ≡ is_white b }
+{
+    b == b' ' || b == b'\t' || b == b'\n' || b == b'\r'
+}
+
 /// Whether a text has nothing but white space: SPACE, TAB, CR and LF.
 pub fn is_blank(text: &str) -> bool
     ensures { result ≡ spec.is_blank text.now }
 {
-    text.as_bytes().iter().all(|b| *b == b' ' || *b == b'\t' || *b == b'\n' || *b == b'\r')
+    text.as_bytes().iter().all(|b| is_white_byte(*b))
 }

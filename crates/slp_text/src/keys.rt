@@ -1,53 +1,74 @@
-ghost use Rattle.std.specs.Prelude.{◌≡◌, IfOk, string_bytes};
+ghost use Rattle.std.specs.Prelude.{◌≡◌, IfOk};
 ghost use Rattle.std.proofs.Common.{rules};
 ghost use Rattle.std.specs.Cmp.{partial_order_from_own_ties};
 ghost use Rattle.std.specs.Cmp.Rules.{comparing, hashing};
 ghost use Rattle.std.specs.Ordering.{as_partial_cmp};
 ghost use Rattle.std.specs.Hash as fed;
+ghost use Rattle.slp_text.specs.Keys.{key_of};
 ghost use Rattle.slp_text.specs.Words.{bytes_eq, bytes_cmp};
 
-use crate::faults::NoMemory;
+use crate::faults::{NoMemory, TextFault};
+use crate::folding::key;
+use arrayvec::ArrayString;
 use std::alloc::Global;
 use std::cmp::Ordering;
 use std::hash::{Hash, Hasher};
 use std::marker::Model;
 
+/// The text of a key. One of at most 16 bytes, as most are, can lie where the key does, and takes no memory of its own.
+#[derive(Drop)]
+pub(crate) enum KeyText {
+    Short(ArrayString<16>),
+    Long(String),
+}
+
 /// A text with its white space squeezed and its case folded, which contracts see as its bytes. Keys
 /// are ordered by their UTF-8 bytes.
 #[derive(Drop)]
 pub struct Key {
-    pub(crate) text: String,
+    pub(crate) text: KeyText,
 }
 
 impl Model for Key {
-    ghost use Rattle.std.specs.Prelude.{List, ℕ, string_bytes};
+    ghost use Rattle.std.specs.Prelude.{List, ℕ};
+    ghost use Rattle.slp_text.specs.KeyTexts.{key_bytes};
 
     ghost Value = { List ℕ };
 
-    ghost view = { λ a. string_bytes a.text };
+    ghost view = { λ a. key_bytes a.text };
 }
 
 impl Key {
+    /// The key of a text, as `key` makes it, which fails for want of memory alone.
+    pub fn of(alloc: Global, text: &str) -> Result<Key, NoMemory>
+        ensures { IfOk result (λ k. k ≡ key_of text.now) }
+    {
+        match key(alloc, text) {
+            Ok(made) => Ok(made),
+            Err(TextFault::NoMemory) => Err(NoMemory),
+            Err(_) => unreachable!(),
+        }
+    }
+
     /// The text of the key.
+    #[inline(always)]
     pub fn as_str(&self) -> &str
         ensures { result.now ≡ self.now }
     {
-        self.text.as_str()
-    }
-
-    /// The text of the key, as a string. Takes no memory.
-    pub fn into_string(self) -> String
-        ensures { string_bytes result ≡ self }
-    {
-        let Key { text } = self;
-        text
+        match &self.text {
+            KeyText::Short(text) => text.as_str(),
+            KeyText::Long(text) => text.as_str(),
+        }
     }
 
     /// An equal key.
     pub fn copy(&self, alloc: Global) -> Result<Key, NoMemory>
         ensures { IfOk result (λ k. k ≡ self.now) }
     {
-        let text = String::from_str(alloc, self.text.as_str())?;
+        let text = match &self.text {
+            KeyText::Short(text) => KeyText::Short(*text),
+            KeyText::Long(text) => KeyText::Long(String::from_str(alloc, text.as_str())?),
+        };
         Ok(Key { text })
     }
 }
@@ -57,8 +78,9 @@ impl PartialEq for Key {
 
     ghost laws = { Prim.search (comparing, rules) };
 
+    #[inline(always)]
     fn eq(&self, other: &Key) -> bool {
-        self.text == other.text
+        self.as_str() == other.as_str()
     }
 }
 
@@ -76,7 +98,7 @@ impl Ord for Key {
     ghost matches_eq = { Prim.search (comparing, rules) };
 
     fn cmp(&self, other: &Key) -> Ordering {
-        self.text.cmp(&other.text)
+        self.as_str().cmp(other.as_str())
     }
 }
 
@@ -96,6 +118,6 @@ impl Hash for Key {
     ghost respects_eq = { Prim.search (hashing, rules) };
 
     fn hash<H: Hasher>(&self, state: &mut H) {
-        self.text.hash(state);
+        self.as_str().hash(state);
     }
 }

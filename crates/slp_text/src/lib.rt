@@ -19,7 +19,9 @@ pub use escapes::{
     unescape_at,
 };
 pub use faults::{NoMemory, TextFault};
-pub use folding::{is_blank, key, squeeze, trim, trim_start};
+pub use folding::{
+    folded, is_blank, is_white_byte, is_white_space, key, squeeze, trim, trim_start,
+};
 pub use keys::Key;
 pub use rows::Row;
 pub use scopes::{ScopeList, is_plain};

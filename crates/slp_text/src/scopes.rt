@@ -1,9 +1,11 @@
-ghost use Rattle.std.specs.Prelude.{◌≡◌, ◌↔◌, ◌++◌, [], ◌∷◌, true, filter, length, slice_get, string_bytes, chars, encode_utf8_all, IfOk, IfErr, OnErr, IsTrue};
-ghost use Rattle.std.specs.List.{list_any};
+ghost use Rattle.std.specs.Prelude.{◌≡◌, ◌<◌, ◌↔◌, ◌++◌, [], ◌∷◌, true, filter, length, slice_get, string_bytes, chars, encode_utf8_all, IfOk, IfErr, MatchOption, OnErr, IsTrue};
+ghost use Rattle.std.specs.List.{list_all, list_any, after_first, before_first, position_or_len};
 ghost use Rattle.std.specs.Option.{option_copied};
+ghost use Rattle.std.specs.Result.{result_ok};
 ghost use Rattle.std.proofs.Common.{rules};
 ghost use Rattle.std.specs.Cmp.Rules.{comparing};
-ghost use Rattle.slp_text.specs.Keys.{key_of};
+ghost use Rattle.std.specs.declared.cmp.Ordering.TheVariants.{Less};
+ghost use Rattle.slp_text.specs.Keys.{is_word_byte, key_of};
 ghost use Rattle.slp_text.specs.ScopeNames.{scope_names_of, written_scope};
 ghost use Rattle.slp_text.specs.Reading.{read_map, IsFault, IsReading};
 ghost use Rattle.slp_text.specs.Scopes as spec;
@@ -11,7 +13,7 @@ ghost use Rattle.slp_text.specs.Scopes.{is_some_text, is_plain_text, scopes_of, 
 ghost use Rattle.slp_text.specs.Sets.{set_of};
 ghost use Rattle.slp_text.specs.Escapes.{escaped_text};
 ghost use Rattle.slp_text.specs.Steps.{BeginsWith, part_end};
-ghost use Rattle.slp_text.specs.Words.{bytes_eq, texts_eq};
+ghost use Rattle.slp_text.specs.Words.{bytes_cmp, bytes_eq, texts_eq, IsAscending};
 ghost use Rattle.slp_text.specs.declared.escapes.Place.TheVariants.{Scope};
 ghost use Rattle.slp_text.specs.declared.escapes.Stage.TheVariants.{Plain};
 ghost use Rattle.slp_text.specs.declared.faults.TextFault.TheVariants as fault;
@@ -22,6 +24,7 @@ use crate::faults::{NoMemory, TextFault};
 use crate::folding::key;
 use crate::keys::Key;
 use std::alloc::Global;
+use std::cmp::Ordering;
 use std::marker::Model;
 
 /// A set of scopes, which contracts see as the list of their keys in key order.
@@ -128,11 +131,105 @@ fn single(alloc: Global, text: &str) -> Result<Vec<Key>, TextFault>
     Ok(keys)
 }
 
-// The keys in key order, each once.
+// Whether a text is plain but for commas.
+fn is_plain_list(text: &[u8]) -> bool
+    ensures { result ≡ spec.is_plain_list text.now }
+{
+    text.iter().all(|b| *b == b',' || is_plain_byte(*b))
+}
+
+// Where the first comma of a text stands, or its length.
+fn comma_at(text: &[u8]) -> usize
+    ensures { result ≡ position_or_len spec.is_comma text.now }
+{
+    text.iter().take_while(|b| **b != b',').count()
+}
+
+// What stands before the first comma of a text of words, and after it.
+fn cut_word(text: &str) -> Option<(&str, &str)>
+    requires { list_all is_word_byte text.now ≡ true }
+    ensures { MatchOption result (position_or_len spec.is_comma text.now ≡ length text.now)
+        (λ p. (position_or_len spec.is_comma text.now < length text.now) × (p.0.now ≡ before_first spec.is_comma text.now) × (p.1.now ≡ after_first spec.is_comma text.now)) }
+{
+    let end = comma_at(text.as_bytes());
+    if end == text.len() {
+        return None;
+    }
+    Some((&text[..end], &text[end + 1..]))
+}
+
+// Adds the key of a word, unless it is empty.
+#[inline(always)]
+fn take_word(alloc: Global, word: &str, keys: &mut Vec<Key>) -> Result<(), TextFault>
+    requires { list_all is_word_byte word.now ≡ true }
+    ensures ok { IfOk result (λ _. keys.new.items ≡ keys.old.items ++ filter is_some_text (key_of word.now ∷ [])) }
+    ensures memory { OnErr result (result ≡ Err fault.NoMemory) }
+{
+    if !word.is_empty() {
+        keys.push(word_key(alloc, word)?)?;
+    }
+    Ok(())
+}
+
+// The keys of the names of such a text, in their order, without the empty ones.
+fn plain_names(alloc: Global, text: &str) -> Result<Vec<Key>, TextFault>
+    requires { spec.is_plain_list text.now ≡ true }
+    ensures value { IfOk result (λ v. scope_names_of text.now ≡ Ok v.items) }
+    ensures memory { OnErr result (result ≡ Err fault.NoMemory) }
+{
+    let mut keys = Vec::with_capacity(alloc, 16)?;
+    let mut rest = text;
+    while let Some((word, more)) = cut_word(rest) {
+        take_word(alloc, word, &mut keys)?;
+        rest = more;
+    }
+    take_word(alloc, rest, &mut keys)?;
+    Ok(keys)
+}
+
+// The keys of the names of any list, in their order, without the empty ones.
+fn names(alloc: Global, text: &str) -> Result<Vec<Key>, TextFault>
+    ensures { IsReading (read_map (λ v. v.items) result) (scope_names_of text.now) }
+{
+    if is_plain_list(text.as_bytes()) {
+        return plain_names(alloc, text);
+    }
+    named(alloc, text)
+}
+
+fn is_before(key: &Key, other: &Key) -> bool
+    ensures { IsTrue result → bytes_cmp key.now other.now ≡ Less }
+{
+    matches!(key.cmp(other), Ordering::Less)
+}
+
+// Whether keys stand in key order, each once.
+fn are_ascending(keys: &[Key]) -> bool
+    ensures { IsTrue result → IsAscending keys.now }
+{
+    let Some((first, after)) = keys.split_first() else {
+        return true;
+    };
+    let mut last = first;
+    let mut rest = after;
+    while let Some((next, more)) = rest.split_first() {
+        if !is_before(last, next) {
+            return false;
+        }
+        last = next;
+        rest = more;
+    }
+    true
+}
+
+// The keys in key order, each once. Most lists stand so.
 fn settled(keys: Vec<Key>) -> Result<Vec<Key>, TextFault>
     ensures value { IfOk result (λ v. v.items ≡ set_of keys.items) }
     ensures memory { OnErr result (result ≡ Err fault.NoMemory) }
 {
+    if are_ascending(&keys) {
+        return Ok(keys);
+    }
     let mut set = keys;
     set.sort()?;
     set.dedup();
@@ -187,8 +284,19 @@ impl ScopeList {
             let keys = single(alloc, text)?;
             return Ok(ScopeList { keys });
         }
-        let keys = settled(named(alloc, text)?)?;
+        let keys = settled(names(alloc, text)?)?;
         Ok(ScopeList { keys })
+    }
+
+    /// The same, or `None` where a text is no list of scopes.
+    pub fn read(alloc: Global, text: &str) -> Result<Option<ScopeList>, NoMemory>
+        ensures { IfOk result (λ l. l ≡ result_ok (scopes_of text.now)) }
+    {
+        match ScopeList::parse(alloc, text) {
+            Ok(scopes) => Ok(Some(scopes)),
+            Err(TextFault::NoMemory) => Err(NoMemory),
+            Err(_) => Ok(None),
+        }
     }
 
     /// What stands in both. It takes time for the product of the lengths.

@@ -1,6 +1,7 @@
 ghost use Rattle.std.specs.Prelude.{◌≡◌, ◌↔◌, ◌++◌, List, [], ◌∷◌, filter, map, IfOk, IfErr, IsTrue};
 ghost use Rattle.std.specs.List.{list_any};
 ghost use Rattle.std.specs.Option.{option_map_or};
+ghost use Rattle.std.specs.Result.{result_ok};
 ghost use Rattle.ucd_case.specs.CaseFolding as case_folding;
 ghost use Rattle.slp_text.specs.Parts.{sign_step, folded_sign, part_with};
 ghost use Rattle.slp_text.specs.Reading.{read_map, IsFault, IsReading};
@@ -263,6 +264,17 @@ impl TagList {
     {
         let parts = parts_of(alloc, text)?;
         Ok(TagList { parts })
+    }
+
+    /// The same, or `None` where a text is no list of tags.
+    pub fn read(alloc: Global, text: &str) -> Result<Option<TagList>, NoMemory>
+        ensures { IfOk result (λ t. t ≡ result_ok (tags_of text.now)) }
+    {
+        match TagList::parse(alloc, text) {
+            Ok(tags) => Ok(Some(tags)),
+            Err(TextFault::NoMemory) => Err(NoMemory),
+            Err(_) => Ok(None),
+        }
     }
 
     /// Whether a part matches the tag, or there is no part. It takes no memory, and at most time for

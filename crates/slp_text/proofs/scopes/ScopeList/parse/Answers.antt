@@ -18,17 +18,17 @@ named-scopes text = read_map-read_map set_of keys_of (λ parts. set_of (keys_of 
 settled-scopes : (text : List ℕ) (named keys : List (List ℕ)) → scope_names_of text ≡ Ok named → keys ≡ set_of named → scopes_of text ≡ Ok keys
 settled-scopes text named keys is set = named-scopes text ∙ ap (read_map set_of) is ∙ ap Ok (sym set)
 
-pub returns-in_err-named : goal.returns-in_err-named
-returns-in_err-named c =
-    let p = err_from_is_err_and c.from_residual-in_err-named.result c.from_residual-in_err-named.ensures.1 in
-    rw (p.1, p.2, named-scopes c.args.text.now) (mapped_fault set_of c.in_err-named.field-0.0 (scope_names_of c.args.text.now) c.in_err-named.ensures)
+pub returns-in_err-names : goal.returns-in_err-names
+returns-in_err-names c =
+    let p = err_from_is_err_and c.from_residual-in_err-names.result c.from_residual-in_err-names.ensures.1 in
+    rw (p.1, p.2, named-scopes c.args.text.now) (mapped_fault set_of c.in_err-names.field-0.0 (scope_names_of c.args.text.now) c.in_err-names.ensures)
 
 pub invariant_of-result : goal.invariant_of-result
 invariant_of-result c = read_scopes c.args.text.now c.in_ok-keys.keys.items c.utf8.text c.in_ok-keys.ensures.value
 
 pub invariant_of-result-2 : goal.invariant_of-result-2
 invariant_of-result-2 c =
-    read_scopes c.args.text.now c.in_ok-keys-2.keys.items c.utf8.text (settled-scopes c.args.text.now c.in_ok-named.field-0.items c.in_ok-keys-2.keys.items c.in_ok-named.ensures c.in_ok-keys-2.ensures.value)
+    read_scopes c.args.text.now c.in_ok-keys-2.keys.items c.utf8.text (settled-scopes c.args.text.now c.in_ok-names.field-0.items c.in_ok-keys-2.keys.items c.in_ok-names.ensures c.in_ok-keys-2.ensures.value)
 
 pub returns : goal.returns
-returns c = settled-scopes c.args.text.now c.in_ok-named.field-0.items c.in_ok-keys-2.keys.items c.in_ok-named.ensures c.in_ok-keys-2.ensures.value
+returns c = settled-scopes c.args.text.now c.in_ok-names.field-0.items c.in_ok-keys-2.keys.items c.in_ok-names.ensures c.in_ok-keys-2.ensures.value

@@ -3,7 +3,7 @@ use Rattle.unicode_normalization.proofs.IterLemmas.{Spells-chars}
 use Rattle.caseless.specs.Caseless.{default_case_fold}
 use Rattle.slp_text.specs.Keys.{key_of}
 use Rattle.slp_text.proofs.SqueezedTexts.{squeezed-done}
-use Rattle.slp_text.proofs.folding.folded_key.Goals as goal
+use Rattle.slp_text.proofs.folding.folded_text.Goals as goal
 
 pub loop-c-init : goal.loop-c-init
 unfolding key_of

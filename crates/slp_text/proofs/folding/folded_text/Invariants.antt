@@ -4,7 +4,7 @@ use Rattle.std.specs.Str.Iter.{chars_steps}
 use Rattle.caseless.specs.CaseFold.{FoldsCaseTo}
 use Rattle.slp_text.specs.Keys.{key_of}
 use Rattle.slp_text.specs.Squeezing.{squeezed_with}
-use Rattle.slp_text.proofs.folding.folded_key.Given as goal
+use Rattle.slp_text.proofs.folding.folded_text.Given as goal
 
 -- what is there and what is still to come are the key
 abbrev pub invariant-loop-c : goal.invariant-loop-c
