@@ -1,4 +1,5 @@
-ghost use Rattle.std.specs.Prelude.{◌≡◌};
+ghost use Rattle.std.specs.Prelude.{◌≡◌, IfOk};
+ghost use Rattle.std.specs.Result.{result_ok};
 ghost use Rattle.attr_values.specs.Reading.{IsReading};
 ghost use Rattle.attr_list.specs.Reading.{attributes_in};
 
@@ -6,6 +7,7 @@ use crate::attrs::Attrs;
 use crate::gathering::join;
 use crate::reading::read_elements;
 use attr_values::AttrFault;
+use slp_text::NoMemory;
 use std::alloc::Global;
 
 impl Attrs {
@@ -19,5 +21,16 @@ impl Attrs {
         let elements = read_elements(alloc, text)?;
         let attributes = join(alloc, elements)?;
         Ok(attributes)
+    }
+
+    /// The same, or `None` where a text is no list of attributes.
+    pub fn read(alloc: Global, text: &str) -> Result<Option<Attrs>, NoMemory>
+        ensures { IfOk result (λ a. a ≡ result_ok (attributes_in text.now)) }
+    {
+        match Attrs::parse(alloc, text) {
+            Ok(attrs) => Ok(Some(attrs)),
+            Err(AttrFault::NoMemory) => Err(NoMemory),
+            Err(_) => Ok(None),
+        }
     }
 }

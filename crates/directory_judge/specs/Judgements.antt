@@ -1,5 +1,5 @@
 -- How registrations and withdrawals are judged: the first step whose fault is there, else they are accepted (RFC 2608, sections 7, 9.3 and 10.6).
-use Rattle.std.specs.Prelude.{◌≡◌, ℕ, ◌≤◌, Bool, false, not, ◌==◌, ◌&&◌, ◌||◌, List, [], ◌∷◌, map, filter, find, length, codes, slice_get, Option, Some, None, is_none, is_some, nat_le, unwrap_or, Result, Ok, Err, if◌then◌else◌, refl}
+use Rattle.std.specs.Prelude.{◌≡◌, ℕ, ◌≤◌, Bool, not, ◌==◌, ◌&&◌, ◌||◌, List, [], ◌∷◌, map, filter, find, length, slice_get, Option, Some, None, is_none, is_some, nat_le, unwrap_or, Result, Ok, Err, if◌then◌else◌, refl}
 use Rattle.std.specs.Coded as coded
 use Rattle.std.specs.Coded.{Coded, coded×, coded_ℕ}
 use Rattle.std.specs.Option.{option_copied, option_or, option_map, option_map_or}
@@ -145,15 +145,6 @@ because_of_entry d e = record { decider = d; kind = Some e.kind; scope = slice_g
 
 abbrev pub because_of_placed : Decider → Placed → Because
 because_of_placed d placed = because_of_entry d (arc_value placed.entry)
-
--- ---- the type of directory agents
-
-abbrev pub agent_type : List ℕ
-agent_type = codes "service:directory-agent"
-
-abbrev pub is_agent : Option (List ℕ) → Bool
-is_agent (Some kind) = bytes_eq kind agent_type
-is_agent None = false
 
 -- ---- what a registration names
 

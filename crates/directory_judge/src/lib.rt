@@ -18,6 +18,5 @@ pub use change::{Change, Placed, Withdrawn};
 pub use copies::{Judged, change_view, judge_on};
 pub use grounds::Grounds;
 pub use judgement::Decision;
-pub use particulars::{is_agent, read_kind, read_language, read_scopes, read_tags, read_url};
 pub use reason::{Because, Decider, Finding, Reason};
 pub use site::Site;

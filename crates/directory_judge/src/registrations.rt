@@ -11,12 +11,13 @@ ghost use Rattle.directory_judge.specs.NamedEntries.{particulars_named, IsJudged
 use crate::change::Placed;
 use crate::grounds::Grounds;
 use crate::judgement::Decision;
-use crate::particulars::{Particulars, Reading, is_agent, name, read_kind, read_language};
+use crate::particulars::{Particulars, Reading, name};
 use crate::reason::{Decider, Reason};
 use access_rules::Action;
 use registry_core::{Entry, Registry};
+use service_url::ServiceType;
 use slp_messages::{ChangeView, KeptHeader, RegistrationView};
-use slp_text::NoMemory;
+use slp_text::{Key, NoMemory};
 use std::alloc::Global;
 use std::sync::Arc;
 
@@ -95,7 +96,7 @@ impl<'a, R: Registry> Grounds<'a, R> {
     ) -> Result<Entry, NoMemory>
         ensures { IfOk result (λ e. e ≡ record { url = particulars.url; language = key_of header.now.language.now; kind = particulars.kind; scopes = particulars.scopes; attrs = particulars.attrs; deadline = self.now.now + registration.now.entry.lifetime }) }
     {
-        let language = read_language(alloc, header.language)?;
+        let language = Key::of(alloc, header.language)?;
         let Particulars {
             url,
             kind,
@@ -155,7 +156,7 @@ impl<'a, R: Registry> Grounds<'a, R> {
     ) -> Result<Decision, NoMemory>
         ensures { IfOk result (λ j. IsJudgement self.now.live (judgement_in j) (judgement_of_registration self.now (header_in header.now) (registration_in registration.now))) }
     {
-        let kind = read_kind(alloc, registration.kind)?;
+        let kind = ServiceType::read(alloc, registration.kind)?;
         match name(alloc, self.site, header, registration, kind)? {
             Reading::Denied(because) => Ok(Decision::Denied(because)),
             Reading::Read(particulars) => self.judge_particulars(

@@ -7,11 +7,10 @@ ghost use Rattle.directory_judge.specs.Judgements.{judgement_in, judgement_of_re
 use crate::change::{Change, Placed, Withdrawn};
 use crate::grounds::Grounds;
 use crate::judgement::Decision;
-use crate::particulars::read_language;
 use crate::reason::{Because, Decider, Reason};
 use access_rules::Action;
 use registry_core::{Entry, Registry};
-use slp_text::{NoMemory, TagList};
+use slp_text::{Key, NoMemory, TagList};
 use std::alloc::Global;
 use std::sync::Arc;
 
@@ -47,7 +46,7 @@ impl<R: Registry> Grounds<'_, R> {
         requires few_scopes { length withdrawn.now.scopes ≤ 16 }
         ensures { IfOk result (λ j. IsJudgement self.now.live (judgement_in j) (judgement_of_removal self.now (withdrawn.now.url, key_of language.now) tags.now withdrawn.now.scopes)) }
     {
-        let language = read_language(alloc, language)?;
+        let language = Key::of(alloc, language)?;
         let Some(old) = self.live_entry(&withdrawn.url, &language) else {
             return Ok(Decision::Unchanged);
         };

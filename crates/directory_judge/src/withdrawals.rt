@@ -15,12 +15,13 @@ ghost use Rattle.directory_judge.specs.Withdrawals.{withdrawal_of_texts};
 use crate::change::{Change, Withdrawn};
 use crate::grounds::Grounds;
 use crate::judgement::Decision;
-use crate::particulars::{read_supported, read_tags, read_url};
+use crate::particulars::read_supported;
 use crate::reason::{Because, Decider};
 use crate::ruling::Ruling;
 use crate::site::Site;
 use access_rules::Action;
 use registry_core::{Entry, Registry};
+use service_url::Url;
 use slp_messages::{KeptHeader, WithdrawalView};
 use slp_text::{NoMemory, ScopeList, TagList};
 use std::alloc::Global;
@@ -36,7 +37,7 @@ fn read_withdrawn(
     ensures value { IfOk result (λ w. option_map arc_value w ≡ withdrawal_of_texts site.now (result_ok (url_of withdrawal.now.entry.url.now)) (result_ok (scopes_of withdrawal.now.scopes.now))) }
     ensures few { IfOk result (λ w. IfSome w (λ a. length (arc_value a).scopes ≤ 16)) }
 {
-    let Some(url) = read_url(alloc, withdrawal.entry.url)? else {
+    let Some(url) = Url::read(alloc, withdrawal.entry.url)? else {
         return Ok(None);
     };
     match read_supported(alloc, site, withdrawal.scopes)? {
@@ -192,7 +193,7 @@ impl<'a, R: Registry> Grounds<'a, R> {
     ) -> Result<Decision, NoMemory>
         ensures { IfOk result (λ j. IsJudgement self.now.live (judgement_in j) (judgement_of_withdrawal self.now (header_in header.now) (withdrawal_in withdrawal.now))) }
     {
-        match read_tags(alloc, withdrawal.tags)? {
+        match TagList::read(alloc, withdrawal.tags)? {
             Some(tags) => self.judge_asked(alloc, header, withdrawal, &tags),
             None => Ok(Decision::Denied(Because::by(Decider::Parse, None))),
         }

@@ -1,5 +1,5 @@
 -- What a question asks (RFC 2608, sections 8.1, 10.1 and 10.3).
-use Rattle.std.specs.Prelude.{ℕ, Bool, List, [], ◌∷◌, codes, Option, Some, None, if◌then◌else◌}
+use Rattle.std.specs.Prelude.{ℕ, Bool, List, [], ◌∷◌, Option, Some, None, if◌then◌else◌}
 use Rattle.std.specs.List.{list_any, slice_split}
 use Rattle.std.specs.Option.{option_map}
 use Rattle.std.specs.Result.{result_ok}
@@ -15,10 +15,9 @@ use Rattle.slp_messages.specs.declared.message.Authority as wire
 use Rattle.slp_messages.specs.declared.message.Authority.TheVariants as wire_authority
 use Rattle.slp_messages.specs.declared.message.ServiceRequest.{ServiceRequest}
 use Rattle.slp_messages.specs.declared.message.TypeRequest.{TypeRequest}
-use Rattle.service_url.specs.Types.{named_authority, type_of}
+use Rattle.service_url.specs.Types.{is_directory_agent, is_service_agent, named_authority, type_of}
 use Rattle.service_url.specs.Urls.{url_of}
 use Rattle.access_rules.specs.Addresses.{address_text}
-use Rattle.directory_judge.specs.Judgements.{is_agent}
 use Rattle.directory_questions.specs.declared.query.Authority.{Authority}
 use Rattle.directory_questions.specs.declared.query.Authority.TheVariants as authority
 use Rattle.directory_questions.specs.declared.query.Target.{Target}
@@ -42,10 +41,6 @@ unless_answered own responders q = if has_answered own responders then Silent el
 
 -- ---- service requests
 
--- `service:service-agent`, which only service agents answer
-abbrev pub other_agent_type : List ℕ
-other_agent_type = codes "service:service-agent"
-
 -- by the predicate that is read, if it is
 abbrev pub services_by : Header → List ℕ → List (List ℕ) → Option (Option Filter) → Question
 services_by h kind scopes None = Unreadable
@@ -65,8 +60,8 @@ agents_in kind scopes (Some filter) = Agents (record { kind = kind; scopes = sco
 abbrev pub services_as : Header → Option (List ℕ) → Option (List (List ℕ)) → Option (Option Filter) → Question
 services_as h None scopes filter = Unreadable
 services_as h (Some kind) scopes filter =
-    if is_agent (Some kind) then agents_in kind scopes filter
-    else (if bytes_eq kind other_agent_type then Silent else services_in h kind scopes filter)
+    if is_directory_agent kind then agents_in kind scopes filter
+    else (if is_service_agent kind then Silent else services_in h kind scopes filter)
 
 abbrev pub service_question : Header → ServiceRequest → Question
 service_question h q = services_as h (result_ok (type_of q.kind)) (result_ok (scopes_of q.scopes)) (result_ok (predicate_in q.predicate))

@@ -11,10 +11,9 @@ ghost use Rattle.directory_questions.specs.Readings.{IsAsked, IsUnread};
 use crate::query::{AgentQuery, AttrQuery, Authority, ServiceQuery, Target, TypeQuery};
 use crate::responders;
 use access_rules::Addr;
-use directory_judge::{is_agent, read_kind, read_language, read_scopes, read_tags, read_url};
 use search_filter::{Filter, FilterFault};
-use service_url::{ServiceType, UrlFault, parse_authority};
-use slp_text::{NoMemory, is_blank};
+use service_url::{ServiceType, Url, UrlFault, parse_authority};
+use slp_text::{Key, NoMemory, ScopeList, TagList, is_blank};
 use slp_wire::{
     AttributeRequestView, AuthorityView, HeaderView, ServiceRequestView, TypeRequestView,
     WireFault, function, read_attribute_request, read_service_request, read_type_request,
@@ -33,9 +32,6 @@ pub enum Question {
     Types(TypeQuery),
     Agents(AgentQuery),
 }
-
-/// The type that only service agents answer for.
-const OTHER_AGENT_TYPE: &str = "service:service-agent";
 
 /// What the request in front of bytes asks at an address, or the fault for which they are none. The header
 /// was read from them, and is that of a service, attribute or type request.
@@ -133,19 +129,19 @@ fn service_question_in(
 ) -> Result<Question, NoMemory>
     ensures { IfOk result (λ q. q ≡ service_question (kept_header (heading_in header.now)) (request_in request.now)) }
 {
-    let Some(kind) = read_kind(alloc, request.kind)? else {
+    let Some(kind) = ServiceType::read(alloc, request.kind)? else {
         return Ok(Question::Unreadable);
     };
-    if is_agent(Some(&kind)) {
+    if kind.is_directory_agent() {
         return agents_question_in(alloc, kind, request);
     }
-    if kind.text() == OTHER_AGENT_TYPE {
+    if kind.is_service_agent() {
         return Ok(Question::Silent);
     }
-    let Some(scopes) = read_scopes(alloc, request.scopes)? else {
+    let Some(scopes) = ScopeList::read(alloc, request.scopes)? else {
         return Ok(Question::Unreadable);
     };
-    let language = read_language(alloc, header.language)?;
+    let language = Key::of(alloc, header.language)?;
     match read_predicate(alloc, request.predicate)? {
         Some(filter) => Ok(Question::Services(ServiceQuery {
             kind,
@@ -168,7 +164,7 @@ fn agents_question_in(
     if read_predicate(alloc, request.predicate)?.is_none() {
         return Ok(Question::Agents(AgentQuery { kind, scopes: None }));
     }
-    let scopes = read_scopes(alloc, request.scopes)?;
+    let scopes = ScopeList::read(alloc, request.scopes)?;
     Ok(Question::Agents(AgentQuery { kind, scopes }))
 }
 
@@ -183,11 +179,11 @@ fn attribute_question_in(
     let Some(target) = read_target(alloc, request.subject)? else {
         return Ok(Question::Unreadable);
     };
-    let Some(scopes) = read_scopes(alloc, request.scopes)? else {
+    let Some(scopes) = ScopeList::read(alloc, request.scopes)? else {
         return Ok(Question::Unreadable);
     };
-    let language = read_language(alloc, header.language)?;
-    match read_tags(alloc, request.tags)? {
+    let language = Key::of(alloc, header.language)?;
+    match TagList::read(alloc, request.tags)? {
         Some(tags) => Ok(Question::Attributes(AttrQuery {
             target,
             scopes,
@@ -205,7 +201,7 @@ fn type_question_in(alloc: Global, request: &TypeRequestView<'_>) -> Result<Ques
     let Some(authority) = read_authority(alloc, request.authority)? else {
         return Ok(Question::Unreadable);
     };
-    match read_scopes(alloc, request.scopes)? {
+    match ScopeList::read(alloc, request.scopes)? {
         Some(scopes) => Ok(Question::Types(TypeQuery { authority, scopes })),
         None => Ok(Question::Unreadable),
     }
@@ -215,10 +211,10 @@ fn type_question_in(alloc: Global, request: &TypeRequestView<'_>) -> Result<Ques
 fn read_target(alloc: Global, text: &str) -> Result<Option<Target>, NoMemory>
     ensures { IfOk result (λ t. t ≡ target_of text.now) }
 {
-    if let Some(kind) = read_kind(alloc, text)? {
+    if let Some(kind) = ServiceType::read(alloc, text)? {
         return Ok(Some(Target::Kind(kind)));
     }
-    match read_url(alloc, text)? {
+    match Url::read(alloc, text)? {
         Some(url) => Ok(Some(Target::Place(url))),
         None => Ok(None),
     }
