@@ -14,7 +14,7 @@ use crate::fault::ClientFault;
 use crate::requests::{RequestHeader, withdrawal};
 use byteorder::{BigEndian, ByteOrder};
 use slp_messages::{KeptHeader, RegistrationView};
-use slp_text::{Key, NoMemory, Text, TextFault, key};
+use slp_text::{Key, NoMemory, Text};
 use slp_wire::{ChangeView, Tag, flag, offset, read_change, read_header};
 use std::alloc::{AllocError, Global};
 use std::marker::Model;
@@ -47,17 +47,6 @@ impl Model for Lease {
     ghost invariant = { λ l. (l.key ≡ key_of l.language) × (14 ≤ length l.bytes.items) × (length l.language + (length l.scopes + length l.url) + 24 ≤ 65535) };
 }
 
-/// The key of a language.
-pub(crate) fn language_key(alloc: Global, language: &str) -> Result<Key, NoMemory>
-    ensures { IfOk result (λ k. k ≡ key_of language.now) }
-{
-    match key(alloc, language) {
-        Ok(key) => Ok(key),
-        Err(TextFault::NoMemory) => Err(NoMemory),
-        Err(TextFault::BadEscape | TextFault::Reserved | TextFault::NotUtf8) => unreachable!(),
-    }
-}
-
 // A text of these characters.
 fn copied(alloc: Global, text: &str) -> Result<Text, NoMemory>
     ensures { IfOk result (λ t. t ≡ text.now) }
@@ -86,7 +75,7 @@ fn copied_parts(
     requires { IsTag kept.now.language.now }
     ensures { IfOk result (λ p. p ≡ parts_in kept.now registration.now marked) }
 {
-    let key = language_key(alloc, kept.language)?;
+    let key = Key::of(alloc, kept.language)?;
     let language = Tag::new(alloc, kept.language)?;
     let url = copied(alloc, registration.entry.url)?;
     let scopes = copied(alloc, registration.scopes)?;

@@ -8,7 +8,7 @@ ghost use Rattle.agent_clients.specs.Keeping.{Kept, Keeping, IsRegistration, pla
 ghost use Rattle.agent_clients.specs.declared.fault.ClientFault.TheVariants as fault;
 
 use crate::fault::ClientFault;
-use crate::leases::{Lease, language_key};
+use crate::leases::Lease;
 use slp_text::{Key, NoMemory};
 use std::alloc::Global;
 use std::marker::Model;
@@ -136,7 +136,7 @@ impl ServiceAgent {
         ensures err { OnErr result (self.new ≡ self.old) }
         ensures faults { IfErr result (λ e. e ≡ fault.NoMemory) }
     {
-        let key = language_key(alloc, language)?;
+        let key = Key::of(alloc, language)?;
         let Some(place) = find(self.kept.as_slice(), url, &key) else {
             return Ok(None);
         };

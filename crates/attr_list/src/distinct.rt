@@ -3,7 +3,7 @@ ghost use Rattle.attr_list.specs.Gathering.{IsIdentity};
 ghost use Rattle.attr_list.specs.Lists.{distinct_values};
 
 use attr_values::Value;
-use slp_text::{Key, NoMemory, TextFault, key};
+use slp_text::{Key, NoMemory};
 use std::alloc::Global;
 use std::collections::BTreeSet;
 
@@ -27,10 +27,7 @@ fn identity_of(alloc: Global, value: &Value) -> Result<Identity, NoMemory>
             let items = bytes.as_slice().to_vec(alloc)?;
             Ok(Identity::Opaque(items))
         }
-        Value::Text(text) => match key(alloc, text.as_str()) {
-            Ok(folded) => Ok(Identity::Text(folded)),
-            Err(_) => Err(NoMemory),
-        },
+        Value::Text(text) => Ok(Identity::Text(Key::of(alloc, text.as_str())?)),
     }
 }
 

@@ -4,7 +4,7 @@ ghost use Rattle.attr_union.specs.Unions.{IsIdentity};
 
 use crate::lent::LentValue;
 use attr_list::Value;
-use slp_text::{Key, NoMemory, key};
+use slp_text::{Key, NoMemory};
 use std::alloc::Global;
 use std::collections::BTreeSet;
 
@@ -25,10 +25,7 @@ fn identity_of<'a>(alloc: Global, value: &'a Value) -> Result<Identity<'a>, NoMe
         Value::Bool(truth) => Ok(Identity::Bool(*truth)),
         Value::Int(number) => Ok(Identity::Int(*number)),
         Value::Opaque(bytes) => Ok(Identity::Opaque(bytes.as_slice())),
-        Value::Text(text) => match key(alloc, text.as_str()) {
-            Ok(folded) => Ok(Identity::Text(folded)),
-            Err(_) => Err(NoMemory),
-        },
+        Value::Text(text) => Ok(Identity::Text(Key::of(alloc, text.as_str())?)),
     }
 }
 

@@ -1,17 +1,11 @@
 //! Who has answered a question already (RFC 2608, section 6.3).
 ghost use Rattle.std.specs.Prelude.{◌≡◌, IfOk};
-ghost use Rattle.slp_text.specs.Keys.{is_white, trim_start, trimmed_text};
+ghost use Rattle.slp_text.specs.Keys.{trim_start, trimmed_text};
 ghost use Rattle.directory_questions.specs.Questions as spec;
 
 use access_rules::Addr;
-use slp_text::{NoMemory, cut};
+use slp_text::{NoMemory, cut, is_white_byte};
 use std::alloc::Global;
-
-fn is_white_byte(b: u8) -> bool
-    ensures { result ≡ is_white b }
-{
-    b == b' ' || b == b'\t' || b == b'\n' || b == b'\r'
-}
 
 // The bytes from the first on that is not white space.
 fn after_white(text: &[u8]) -> &[u8]

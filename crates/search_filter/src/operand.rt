@@ -3,7 +3,7 @@ ghost use Rattle.search_filter.specs.Conditions as spec;
 ghost use Rattle.search_filter.specs.Operands.{operand_of};
 
 use attr_list::Value;
-use slp_text::{Key, NoMemory, Row, TextFault, key};
+use slp_text::{Key, NoMemory, Row};
 use std::alloc::Global;
 use text_patterns::compare;
 
@@ -25,11 +25,7 @@ impl Operand {
             Value::Bool(truth) => Ok(Operand::Bool(truth)),
             Value::Int(number) => Ok(Operand::Int(number)),
             Value::Opaque(bytes) => Ok(Operand::Opaque(bytes)),
-            Value::Text(text) => match key(alloc, text.as_str()) {
-                Ok(folded) => Ok(Operand::Text(folded)),
-                Err(TextFault::NoMemory) => Err(NoMemory),
-                Err(_) => unreachable!(),
-            },
+            Value::Text(text) => Ok(Operand::Text(Key::of(alloc, text.as_str())?)),
         }
     }
 

@@ -19,25 +19,25 @@ use crate::values::{is_help, operands, split_at_help, values_for};
 use crate::words::{Flags, read_words};
 use attr_list::{AttrFault, cut_at, read_tag};
 use service_url::{UrlFault, parse_service_name};
-use slp_text::{Key, NoMemory, Row, Text, TextFault, key};
+use slp_text::{Key, NoMemory, Row, Text, is_white_byte};
 use std::alloc::Global;
 use std::collections::BTreeSet;
 
 fn begins_white(line: &str) -> bool
     ensures { result ≡ spec.begins_white line.now }
 {
-    matches!(line.as_bytes(), [b' ' | b'\t' | b'\n' | b'\r', ..])
+    match line.as_bytes().first() {
+        Some(first) => is_white_byte(*first),
+        None => false,
+    }
 }
 
 // Whether the key of a text is a word.
 fn is_word(alloc: Global, text: &str, word: &str) -> Result<bool, NoMemory>
     ensures { IfOk result (λ b. b ≡ bytes_eq (folded_text (chars text.now)) word.now) }
 {
-    match key(alloc, text) {
-        Ok(folded) => Ok(folded.as_str() == word),
-        Err(TextFault::NoMemory) => Err(NoMemory),
-        Err(_) => unreachable!(),
-    }
+    let folded = Key::of(alloc, text)?;
+    Ok(folded.as_str() == word)
 }
 
 // What comes after the `=` of a line that is this name, `=` and a value.

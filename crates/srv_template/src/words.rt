@@ -4,7 +4,7 @@ ghost use Rattle.srv_template.specs.Reading.{flags_from, flags_with, no_flags, w
 ghost use Rattle.srv_template.specs.Stops.{texts_of};
 
 use crate::definition::ValueKind;
-use slp_text::{NoMemory, TextFault, key};
+use slp_text::{Key, NoMemory};
 use std::alloc::Global;
 
 /// The flags of a definition (RFC 2609, section 4.2.2).
@@ -99,11 +99,7 @@ fn kind_and_flags(words: &[&str]) -> Option<(ValueKind, Flags)>
 pub fn read_words(alloc: Global, text: &str) -> Result<Option<(ValueKind, Flags)>, NoMemory>
     ensures { IfOk result (λ o. o ≡ spec.kind_and_flags (words_of (chars text.now))) }
 {
-    let folded = match key(alloc, text) {
-        Ok(folded) => folded,
-        Err(TextFault::NoMemory) => return Err(NoMemory),
-        Err(_) => unreachable!(),
-    };
+    let folded = Key::of(alloc, text)?;
     let words: Vec<&str> = folded.as_str().split(' ').collect(alloc)?;
     Ok(kind_and_flags(&words))
 }

@@ -1,7 +1,7 @@
 ghost use Rattle.std.specs.Prelude.{◌≡◌, ◌∷◌, [], MatchOption, chars};
-ghost use Rattle.slp_text.specs.Keys as keys;
 ghost use Rattle.text_patterns.specs.Characters.{characters_left, folded_left, key_characters};
 
+use slp_text::is_white_space;
 use ucd_case::full_folding;
 
 /// The characters of the key of a text, which come one at a time: folded, and with white space squeezed.
@@ -14,12 +14,6 @@ pub struct KeyCharacters<'a> {
     begun: bool,
     // What comes after a space that stood for white space.
     ahead: Option<char>,
-}
-
-pub fn is_white_space(c: char) -> bool
-    ensures { result ≡ keys.is_white c }
-{
-    c == ' ' || c == '\t' || c == '\n' || c == '\r'
 }
 
 // The first character of a text, and what comes after it.

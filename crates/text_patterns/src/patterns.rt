@@ -7,9 +7,9 @@ ghost use Rattle.text_patterns.specs.Characters.{characters_left};
 ghost use Rattle.text_patterns.specs.Patterns.{matches_key, pattern_of, pattern_with};
 ghost use Rattle.text_patterns.specs.Runs.{IsRun};
 
-use crate::characters::{KeyCharacters, is_white_space};
+use crate::characters::KeyCharacters;
 use caseless::Caseless;
-use slp_text::NoMemory;
+use slp_text::{NoMemory, is_white_space};
 use std::alloc::Global;
 use std::marker::Model;
 

@@ -3,5 +3,5 @@ use Rattle.slp_text.specs.Words.{bytes_eq}
 use Rattle.slp_text.proofs.PrintedScopes.{key_of-folded_text}
 use Rattle.srv_template.proofs.reading.is_word.Goals as goal
 
-pub returns-in-Ok : goal.returns-in-Ok
-returns-in-Ok c = c.eq.ensures ∙ ap (λ k. bytes_eq k c.args.word.now) (c.as_str.ensures ∙ c.in-Ok.ensures.value ∙ key_of-folded_text c.args.text.now)
+pub returns : goal.returns
+returns c = c.eq.ensures ∙ ap (λ k. bytes_eq k c.args.word.now) (c.as_str.ensures ∙ c.in_ok-folded.ensures ∙ key_of-folded_text c.args.text.now)

@@ -13,4 +13,4 @@ returns c =
     let all = map_from_collect c.collect.result c.collect.ensures.ran (YieldsList-from_str_split {s = c.split.result} 32 c.as_str.result.now (lit< tt) c.split.ensures.text c.split.ensures.has_more c.split.ensures.pattern) in
     rw c.in_ok-words.was at all in
     c.kind_and_flags.ensures ∙ ap (λ ls. kind_and_flags (texts_of ls)) c.deref.ensures.value ∙ ap kind_and_flags words
-    ∙ ap (λ k. kind_and_flags (slice_split is_space k)) (c.as_str.ensures ∙ c.in-Ok.ensures.value ∙ key_of-folded_text c.args.text.now)
+    ∙ ap (λ k. kind_and_flags (slice_split is_space k)) (c.as_str.ensures ∙ c.in_ok-folded.ensures ∙ key_of-folded_text c.args.text.now)
