@@ -9,7 +9,7 @@ ghost use Rattle.slp_answer.specs.ServiceReplies.{service_reply};
 
 use directory_state::{FoundItems, Room};
 use slp_text::NoMemory;
-use slp_wire::{HeaderView, append, code, flag, function, offset, opening, put_entry, two_bytes};
+use slp_wire::{HeaderView, append, code, function, offset, put_entry, reply_opening, two_bytes};
 
 // The bytes of a reply with no item, but for the language tag: a header, a code and a count.
 const EMPTY_REPLY: usize = offset::TAG + 2 + 2;
@@ -66,8 +66,7 @@ pub fn put_found(
 {
     let tag = header.language.as_bytes();
     let total = EMPTY_REPLY + tag.len() + entries_length(found);
-    let flags = if found.is_cut { flag::OVERFLOW } else { 0 };
-    let fixed = opening(function::SERVICE_REPLY, total, flags, header.xid, tag.len());
+    let fixed = reply_opening(header, function::SERVICE_REPLY, total, found.is_cut);
     bytes.reserve(total)?;
     append(bytes, &fixed);
     append(bytes, tag);

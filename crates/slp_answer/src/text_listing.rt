@@ -6,7 +6,7 @@ ghost use Rattle.slp_answer.specs.TextLists.{form_end, form_function, head_bytes
 
 use crate::texts::{Texts, list};
 use slp_text::NoMemory;
-use slp_wire::{HeaderView, code, flag, function, offset, opening, two_bytes};
+use slp_wire::{HeaderView, code, function, offset, reply_opening, two_bytes};
 use std::alloc::Global;
 use std::mem;
 
@@ -92,8 +92,7 @@ fn fill_in(listing: &Listing<'_>, is_cut: bool, listed: usize, bytes: &mut Vec<u
 {
     let Listing { header, form, .. } = *listing;
     let tag = header.language.as_bytes();
-    let flags = if is_cut { flag::OVERFLOW } else { 0 };
-    let fixed = opening(form.function(), bytes.len(), flags, header.xid, tag.len());
+    let fixed = reply_opening(header, form.function(), bytes.len(), is_cut);
     put_over(bytes, 0, &fixed);
     put_over(bytes, offset::TAG, tag);
     put_over(bytes, offset::TAG + tag.len(), &code::OK.to_be_bytes());

@@ -12,5 +12,5 @@ mod view;
 
 pub use beginning::{VERSION, opening, two_bytes};
 pub use reading::read_header;
-pub use reply::{error_reply, reply_function};
+pub use reply::{error_reply, reply_function, reply_opening};
 pub use view::HeaderView;

@@ -1,9 +1,11 @@
-ghost use Rattle.std.specs.Prelude.{◌≡◌, ◌≤◌, ◌+◌, ◌++◌, length, take};
+ghost use Rattle.std.specs.Prelude.{◌≡◌, ◌≤◌, ◌+◌, ◌∷◌, ◌++◌, length, take, if◌then◌else◌};
+ghost use Rattle.byteorder.specs.Endian.{big_bytes};
 ghost use Rattle.slp_headers.specs.Headers.{reply_function_of, refusal_bytes};
+ghost use Rattle.slp_headers.specs.declared.flag.TheConstants.{OVERFLOW};
 
 use crate::beginning::opening;
-use crate::offset;
 use crate::view::HeaderView;
+use crate::{flag, offset};
 use slp_messages::function;
 
 /// The function of the reply to a request of this function.
@@ -17,6 +19,15 @@ pub fn reply_function(function: u8) -> Option<u8>
         function::TYPE_REQUEST => Some(function::TYPE_REPLY),
         _ => None,
     }
+}
+
+/// The bytes of a reply's header in front of its tag, of so many bytes in all: XID and tag are those of the request, and
+/// OVERFLOW says whether the reply is cut.
+pub fn reply_opening(header: &HeaderView<'_>, function: u8, total: usize, is_cut: bool) -> [u8; 14]
+    ensures { result ≡ 2 ∷ function ∷ big_bytes 3 total ++ big_bytes 2 (if is_cut then OVERFLOW else 0) ++ big_bytes 3 0 ++ big_bytes 2 header.now.xid ++ big_bytes 2 (length header.now.language.now) }
+{
+    let flags = if is_cut { flag::OVERFLOW } else { 0 };
+    opening(function, total, flags, header.xid, header.language.len())
 }
 
 // Writes a part at a place, and answers the place after it.
@@ -39,7 +50,7 @@ pub fn error_reply(header: &HeaderView<'_>, function: u8, code: u16, reply: &mut
 {
     let tag = header.language.as_bytes();
     let total = offset::TAG + tag.len() + 2;
-    let fixed = opening(function, total, 0, header.xid, tag.len());
+    let fixed = reply_opening(header, function, total, false);
     let end = put(reply, 0, &fixed);
     let end = put(reply, end, tag);
     put(reply, end, &code.to_be_bytes())

@@ -13,7 +13,7 @@ pub use reading::{
 };
 pub use slp_fields::{WireFault, append, entry_length, put_entry};
 pub use slp_headers::{
-    HeaderView, error_reply, flag, offset, opening, read_header, reply_function, two_bytes,
+    HeaderView, error_reply, flag, offset, read_header, reply_function, reply_opening, two_bytes,
 };
 pub use slp_messages::{
     AttributeReply, AttributeRequest, AttributeRequestView, Authority, AuthorityView, ChangeView,
