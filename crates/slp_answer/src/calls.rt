@@ -20,9 +20,9 @@ use slp_text::NoMemory;
 use slp_wire::read_header;
 use std::alloc::Global;
 
-// Answers a call, and hands out the change where one is accepted. Where no header is readable, or the function
-// is none that is answered, there is no answer.
-fn answer_request_in<R: Registry>(
+// Answers a call into an answer that is empty, and hands out the change where one is accepted. Where no header is readable, or
+// the function is none that is answered, it stays empty.
+fn answer_into<R: Registry>(
     alloc: Global,
     directory: &Directory<R>,
     call: &Call<'_>,
@@ -69,7 +69,7 @@ fn answer_call<R: Registry>(
     ensures no_line { OnErr result (answer.new.audit.items ≡ []) }
 {
     answer.clear();
-    match answer_request_in(alloc, directory, call, answer) {
+    match answer_into(alloc, directory, call, answer) {
         Ok(told) => Ok(told),
         Err(fault) => {
             answer.clear();

@@ -20,4 +20,5 @@ pub use answer::{Answer, Sent};
 pub use calls::{acknowledge, reply, step};
 pub use copies::{Audit, audit_line};
 pub use directory_questions::{Call, is_change};
-pub use refusals::refusal;
+pub use refusals::{ShortReply, refusal, refused_line, refused_reply};
+pub use sink::ShortLine;

@@ -52,10 +52,62 @@ fn put_refusal(told: &mut ShortLine, action: Action, asker: Addr)
     }
 }
 
-/// What a message that found no memory gets: the bytes of a reply with code 10, and those of its
-/// audit line, each with its number of bytes. Where the header is not readable, or the function is
-/// none that is answered, there is neither; a request that was sent to many gets the line alone.
-/// Takes no memory.
+/// A reply of at most 80 bytes. It takes no memory.
+#[derive(Drop)]
+pub struct ShortReply {
+    bytes: [u8; 80],
+    end: usize,
+    ghost within: { end ≤ 80 },
+}
+
+impl ShortReply {
+    /// The reply.
+    pub fn as_slice(&self) -> &[u8]
+        ensures { result.now ≡ take self.now.end self.now.bytes }
+    {
+        &self.bytes[..self.end]
+    }
+}
+
+/// The reply to a message that found no memory, with code 10. It is empty where the header is not readable, where the function
+/// is none that is answered, and where a request was sent to many. Takes no memory.
+pub fn refused_reply(bytes: &[u8]) -> ShortReply
+    ensures { take result.end result.bytes ≡ (refusal_outcome (heading_of bytes.now)).reply }
+{
+    let mut reply = [0; 80];
+    let Some(header) = read_header(bytes) else {
+        return ShortReply {
+            bytes: reply,
+            end: 0,
+        };
+    };
+    let Some(request) = Request::of(header.function) else {
+        return ShortReply {
+            bytes: reply,
+            end: 0,
+        };
+    };
+    let end = put_reply(&header, request, &mut reply);
+    ShortReply { bytes: reply, end }
+}
+
+/// The audit line of a message that found no memory. It is empty where the header is not readable, and where the function is
+/// none that is answered. Takes no memory.
+pub fn refused_line(bytes: &[u8], asker: Addr) -> ShortLine
+    ensures { take result.end result.bytes ≡ line_of no_rules asker (heading_of bytes.now) (refusal_outcome (heading_of bytes.now)) }
+{
+    let mut told = ShortLine::new();
+    let Some(header) = read_header(bytes) else {
+        return told;
+    };
+    let Some(request) = Request::of(header.function) else {
+        return told;
+    };
+    put_refusal(&mut told, request.action(), asker);
+    told
+}
+
+/// Both, for who sends and tells at one place: what is written, with the number of bytes of each.
 pub fn refusal(
     bytes: &[u8],
     asker: Addr,
@@ -67,14 +119,10 @@ pub fn refusal(
     ensures room { result.0 ≤ 80 }
     ensures line_room { result.1 ≤ 128 }
 {
-    let Some(header) = read_header(bytes) else {
-        return (0, 0);
-    };
-    let Some(request) = Request::of(header.function) else {
-        return (0, 0);
-    };
-    let mut told = ShortLine::new();
-    put_refusal(&mut told, request.action(), asker);
-    *line = told.bytes;
-    (put_reply(&header, request, reply), told.end)
+    let sent = refused_reply(bytes);
+    let told = refused_line(bytes, asker);
+    let (replied, written) = (sent.bytes, told.bytes);
+    *reply = replied;
+    *line = written;
+    (sent.end, told.end)
 }

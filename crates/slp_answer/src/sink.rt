@@ -33,7 +33,7 @@ impl Sink for Vec<u8> {
 
 /// A line of at most 128 bytes. It takes no memory.
 #[derive(Drop)]
-pub(crate) struct ShortLine {
+pub struct ShortLine {
     pub bytes: [u8; 128],
     pub end: usize,
     ghost within: { end ≤ 128 },
@@ -41,13 +41,20 @@ pub(crate) struct ShortLine {
 
 impl ShortLine {
     /// A line of no byte.
-    pub fn new() -> ShortLine
+    pub(crate) fn new() -> ShortLine
         ensures { result.end ≡ 0 }
     {
         ShortLine {
             bytes: [0; 128],
             end: 0,
         }
+    }
+
+    /// The line.
+    pub fn as_slice(&self) -> &[u8]
+        ensures { result.now ≡ take self.now.end self.now.bytes }
+    {
+        &self.bytes[..self.end]
     }
 }
 

@@ -5,7 +5,7 @@ use crate::serve::Serve;
 use access_rules::Addr;
 use mio::net::UdpSocket;
 use mio::{Interest, Registry, Token};
-use slp_answer::{Answer, Sent, refusal};
+use slp_answer::{Answer, Sent, refused_reply};
 use std::alloc::{AllocError, Global};
 use std::io::{self, ErrorKind};
 use std::net::{Ipv4Addr, SocketAddr};
@@ -76,11 +76,10 @@ impl Exchange {
             Ok(Sent::Bytes(_)) => self.is_answered = true,
             Ok(Sent::Silence) => {}
             Err(_) => {
-                let mut reply = [0; 80];
-                let mut line = [0; 128];
-                let (length, _) = refusal(message, asker, &mut reply, &mut line);
-                if length > 0 {
-                    let _ = socket.send_to(&reply[..length], self.from);
+                let reply = refused_reply(message);
+                let bytes = reply.as_slice();
+                if !bytes.is_empty() {
+                    let _ = socket.send_to(bytes, self.from);
                 }
             }
         }

@@ -3,7 +3,7 @@ use crate::serve::Serve;
 use access_rules::Addr;
 use directory_state::Directory;
 use registry_core::ListRegistry;
-use slp_answer::{Answer, Call, Sent, refusal, step};
+use slp_answer::{Answer, Call, Sent, refused_line, step};
 use slp_text::NoMemory;
 use std::alloc::Global;
 use std::io::Write;
@@ -103,10 +103,8 @@ impl<'r, 's, R: Wait, M: Moments + Drop, W: Write> Serve for Desk<'r, 's, R, M, 
                 Ok(sent)
             }
             Err(_) => {
-                let mut reply = [0; 80];
-                let mut line = [0; 128];
-                let (_, length) = refusal(message, asker, &mut reply, &mut line);
-                self.tell(&line[..length]);
+                let line = refused_line(message, asker);
+                self.tell(line.as_slice());
                 Err(NoMemory)
             }
         }

@@ -7,7 +7,7 @@ ghost use Rattle.slp_stream.specs.Cutting.{front_of};
 use crate::connection::{LONGEST_ON_STREAM, Stage};
 use crate::serve::Serve;
 use access_rules::Addr;
-use slp_answer::{Answer, refusal};
+use slp_answer::{Answer, refused_reply};
 use slp_stream::Framer;
 use std::alloc::{AllocError, Global};
 
@@ -25,10 +25,8 @@ fn serve_one<S: Serve>(
     match server.serve(asker, message, LONGEST_ON_STREAM, answer) {
         Ok(_) => output.extend_from_slice(answer.bytes.as_slice()),
         Err(_) => {
-            let mut reply = [0; 80];
-            let mut line = [0; 128];
-            let (length, _) = refusal(message, asker, &mut reply, &mut line);
-            output.extend_from_slice(&reply[..length])
+            let reply = refused_reply(message);
+            output.extend_from_slice(reply.as_slice())
         }
     }
 }

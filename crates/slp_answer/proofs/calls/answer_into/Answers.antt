@@ -5,7 +5,7 @@ use Rattle.directory_questions.specs.Answers.{is_change_of}
 use Rattle.directory_questions.specs.Calls.{call_in}
 use Rattle.directory_questions.specs.Requests.{function_in}
 use Rattle.slp_answer.proofs.AnswersTold.{acknowledged-call, asks-change, quiet-call, replied-call, unheaded-call}
-use Rattle.slp_answer.proofs.calls.answer_request_in.Goals as goal
+use Rattle.slp_answer.proofs.calls.answer_into.Goals as goal
 
 pub returns-in_default : goal.returns-in_default
 returns-in_default g c = λ o h fold legal.

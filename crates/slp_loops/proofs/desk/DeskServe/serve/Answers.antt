@@ -1,3 +1,4 @@
+use Rattle.std.proofs.Common.{◌∙◌}
 use Rattle.slp_loops.proofs.desk.DeskServe.serve.Goals as goal
 
 pub returns-in-Ok : goal.returns-in-Ok
@@ -13,5 +14,5 @@ returns-in-Err g c = record {
   moment = c.now.result;
   told = rw c.tell-in-Err.ensures.moments c.now.ensures;
   own = c.tell-in-Err.ensures.own;
-  unsettled = rw (← c.refusal-length.ensures.line) c.tell-in-Err.ensures.unsettled;
+  unsettled = rw (← c.as_slice-in-Err.ensures ∙ c.refused_line-line.ensures) c.tell-in-Err.ensures.unsettled;
 }

@@ -5,10 +5,10 @@ use Rattle.directory_questions.specs.Outcomes.{refusal_outcome}
 use Rattle.directory_questions.specs.Requests.{action_of}
 use Rattle.slp_answer.specs.Answers.{line_of}
 use Rattle.slp_answer.proofs.RefusalLines.{answered, line_is_refused}
-use Rattle.slp_answer.proofs.refusals.refusal.Goals as goal
+use Rattle.slp_answer.proofs.refusals.refused_line.Goals as goal
 
-pub returns-clause-line : goal.returns-clause-line
-returns-clause-line c =
+pub returns : goal.returns
+returns c =
     let some = answered c.in-Some-of.request in
     line_is_refused c.args.asker (heading_in c.in-Some.header) some.0 c.action.result (take c.put_refusal.new.told.end c.put_refusal.new.told.bytes)
     (some.1 ∙ ap reply_function_of c.in-Some-of.ensures.some) (c.action.ensures ∙ ap action_of c.in-Some-of.ensures.some) c.put_refusal.ensures
