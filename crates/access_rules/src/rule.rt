@@ -82,6 +82,7 @@ pub struct Rule {
     pub allow: bool,
 }
 
+#[inline(always)]
 fn is_same(a: Action, b: Action) -> bool
     ensures { result ≡ action_eq a b }
 {
@@ -118,6 +119,7 @@ impl Rule {
     }
 
     /// Whether the rule is about a deed in a scope.
+    #[inline(always)]
     pub(crate) fn fits(&self, deed: &Deed<'_>, scope: &Key) -> bool
         ensures { result ≡ spec.fits (deed_in deed.now) scope.now self.now }
     {

@@ -32,6 +32,23 @@ impl Model for Rules {
     ghost view = { λ a. a.rules.items };
 }
 
+// The place of the first rule that fits.
+#[inline(always)]
+fn first_fitting(rules: &[Rule], deed: &Deed<'_>, scope: &Key) -> Option<usize>
+    ensures { result ≡ position (fits (deed_in deed.now) scope.now) rules.now }
+{
+    let mut place = 0;
+    let mut rest = rules;
+    while let Some((rule, more)) = rest.split_first() {
+        if rule.fits(deed, scope) {
+            return Some(place);
+        }
+        place += 1;
+        rest = more;
+    }
+    None
+}
+
 impl Rules {
     /// These rules, of which the first that fits decides.
     pub fn new(rules: Vec<Rule>) -> Rules
@@ -56,13 +73,13 @@ impl Rules {
     }
 
     /// The verdict of the first rule that fits a deed in a scope, else a denial by default. Takes no memory.
-    // Inlined, as the search below, so that a deed lies in registers while the rules are passed over.
+    // Inlined, as the search is, so that a deed lies in registers while the rules are passed over.
     #[inline(always)]
     pub fn verdict(&self, deed: &Deed<'_>, scope: &Key) -> Verdict
         ensures value { result ≡ deciding self.now (deed_in deed.now) scope.now }
         ensures within { IfSome result.rule (λ place. place < number self.now) }
     {
-        match self.first_fitting(deed, scope) {
+        match first_fitting(&self.rules, deed, scope) {
             Some(place) => Verdict {
                 allow: self.rules[place].allow,
                 rule: Some(place),
@@ -87,12 +104,5 @@ impl Rules {
             },
             scope,
         )
-    }
-
-    #[inline(always)]
-    fn first_fitting(&self, deed: &Deed<'_>, scope: &Key) -> Option<usize>
-        ensures { result ≡ position (fits (deed_in deed.now) scope.now) (rules_in self.now) }
-    {
-        self.rules.iter().position(|r| r.fits(deed, scope))
     }
 }

@@ -58,8 +58,12 @@ fn copies(alloc: Global, entries: &[Attribute]) -> Result<Vec<Attribute>, NoMemo
     Ok(copied)
 }
 
+/// So few tags are compared one after the other, since most differ in length.
+const FEW: usize = 8;
+
 impl Attrs {
     ghost use Rattle.std.specs.Prelude.{ℕ, List};
+    ghost use Rattle.slp_text.specs.Words.{bytes_cmp};
     ghost use Rattle.attr_list.specs.Stored.{attributes_stored, AreStored, pairs_in};
 
     // Those that stand in key order, each tag once.
@@ -96,14 +100,37 @@ impl Attrs {
         }
     }
 
-    /// What a tag holds, if it is there. It takes time for the logarithm of the length, and no memory.
-    pub fn get(&self, tag: &Key) -> Option<&Held>
+    // What a tag holds of attributes that are searched from the front.
+    fn found<'a>(entries: &'a [Attribute], tag: &Key) -> Option<&'a Held>
+        ensures { option_copied result ≡ fin.find bytes_cmp tag.now (pairs_in entries.now) }
+    {
+        for place in 0..entries.len() {
+            let entry = &entries[place];
+            if *tag == entry.tag {
+                return Some(&entry.held);
+            }
+        }
+        None
+    }
+
+    // What a tag holds, if it is there, by halves.
+    fn halved(&self, tag: &Key) -> Option<&Held>
         ensures { option_copied result ≡ fin.get self.now tag.now }
     {
         match self.entries.binary_search_by(|entry| entry.tag.cmp(tag)) {
             Ok(place) => Some(&self.entries[place].held),
             Err(_) => None,
         }
+    }
+
+    /// What a tag holds, if it is there. It takes time for the logarithm of the length, and no memory.
+    pub fn get(&self, tag: &Key) -> Option<&Held>
+        ensures { option_copied result ≡ fin.get self.now tag.now }
+    {
+        if self.entries.len() > FEW {
+            return self.halved(tag);
+        }
+        Attrs::found(&self.entries, tag)
     }
 
     /// Equal attributes.

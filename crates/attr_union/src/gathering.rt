@@ -44,10 +44,18 @@ fn add<'a>(
     ensures { IfOk result (λ _. (tag : List ℕ) → values_at named.new tag ≡ values_with (values_at named.old) (piece_element piece.entry) tag) }
 {
     let tag = LentTag { key: piece.tag };
-    let mut all = named.remove(&tag).unwrap_or(Vec::new(alloc));
-    lend(piece.held.values(), &mut all)?;
-    named.insert(tag, all)?;
-    Ok(())
+    match named.get_mut(&tag) {
+        Some(all) => {
+            lend(piece.held.values(), all)?;
+            Ok(())
+        }
+        None => {
+            let mut all = Vec::new(alloc);
+            lend(piece.held.values(), &mut all)?;
+            named.insert(tag, all)?;
+            Ok(())
+        }
+    }
 }
 
 /// All values of each tag. It takes time for the number of pieces and values, and the logarithm of that of tags.

@@ -1,7 +1,8 @@
-ghost use Rattle.std.specs.Prelude.{◌≡◌, ◌<◌, ◌≤◌, ◌&&◌, [], IfOk, OnErr, position};
+ghost use Rattle.std.specs.Prelude.{◌≡◌, ◌<◌, ◌≤◌, ◌&&◌, [], ◌∷◌, IfOk, IfSome, MatchOption, OnErr, None, Some, position};
 ghost use Rattle.std.specs.Arc.{arc_value};
 ghost use Rattle.std.specs.FinMap as fin;
 ghost use Rattle.std.specs.Option.{option_copied};
+ghost use Rattle.registry_core.specs.Lists.{entries_from, kinds_from};
 ghost use Rattle.registry_core.specs.Entries.{is_of, is_at_place, is_kind, is_of_url, is_within, entries_of_list};
 
 use crate::entry::Entry;
@@ -58,6 +59,57 @@ fn place_of(entries: &[Arc<Entry>], url: &Url, language: &Key) -> Option<usize>
     entries
         .iter()
         .position(|e| *url == e.url && *language == e.language)
+}
+
+// The next entry of a type that is covered, with the place after it. It is a call of its own in the machine's code, since its
+// loop passes over most entries.
+#[inline(never)]
+fn next_of_kind<'a>(
+    entries: &'a [Arc<Entry>],
+    kind: &ServiceType,
+    from: usize,
+) -> Option<(&'a Entry, usize)>
+    ensures next { MatchOption result (kinds_from (Some kind.now) entries.now from ≡ []) (λ p. kinds_from (Some kind.now) entries.now from ≡ p.0.now ∷ kinds_from (Some kind.now) entries.now p.1) }
+    ensures onward { IfSome result (λ p. from < p.1) }
+{
+    for at in from..entries.len() {
+        let entry: &Entry = &entries[at];
+        if kind.covers(&entry.kind) {
+            return Some((entry, at + 1));
+        }
+    }
+    None
+}
+
+// The entry at a place, with the place after it.
+fn next_entry(entries: &[Arc<Entry>], from: usize) -> Option<(&Entry, usize)>
+    ensures next { MatchOption result (entries_from entries.now from ≡ []) (λ p. entries_from entries.now from ≡ p.0.now ∷ entries_from entries.now p.1) }
+    ensures onward { IfSome result (λ p. from < p.1) }
+{
+    if from >= entries.len() {
+        return None;
+    }
+    let entry: &Entry = &entries[from];
+    Some((entry, from + 1))
+}
+
+// The next entry of a type that is covered. In most walks it is the next one of all.
+#[inline(always)]
+fn next_of<'a>(
+    entries: &'a [Arc<Entry>],
+    kind: &ServiceType,
+    from: usize,
+) -> Option<(&'a Entry, usize)>
+    ensures next { MatchOption result (kinds_from (Some kind.now) entries.now from ≡ []) (λ p. kinds_from (Some kind.now) entries.now from ≡ p.0.now ∷ kinds_from (Some kind.now) entries.now p.1) }
+    ensures onward { IfSome result (λ p. from < p.1) }
+{
+    let Some((entry, next)) = next_entry(entries, from) else {
+        return None;
+    };
+    if kind.covers(&entry.kind) {
+        return Some((entry, next));
+    }
+    next_of_kind(entries, kind, next)
 }
 
 // Whether an entry is of a type that is covered.
@@ -153,16 +205,15 @@ impl Registry for ListRegistry {
         None
     }
 
+    #[inline(always)]
     fn by_kind(&self, kind: Option<&ServiceType>, from: usize) -> Option<(&Entry, usize)> {
-        for at in from..self.entries.len() {
-            let entry: &Entry = &self.entries[at];
-            if is_of_kind(entry, kind) {
-                return Some((entry, at + 1));
-            }
+        match kind {
+            Some(kind) => next_of(&self.entries, kind, from),
+            None => next_entry(&self.entries, from),
         }
-        None
     }
 
+    #[inline(never)]
     fn by_kind_within(
         &self,
         kind: Option<&ServiceType>,
