@@ -1,6 +1,6 @@
 -- Service types (RFC 2609, section 2; RFC 2608, section 4.1).
-use Rattle.std.specs.Prelude.{ℕ, Bool, ◌==◌, ◌-◌, ◌&&◌, ◌||◌, List, [], ◌∷◌, ◌++◌, length, take, drop, slice_index, codes, nat_eq, nat_lt, Option, Some, None, unwrap_or, Result, Ok, Err, if◌then◌else◌}
-use Rattle.std.specs.List.{list_all, starts_with, before_first, after_first}
+use Rattle.std.specs.Prelude.{ℕ, Bool, ◌==◌, ◌+◌, ◌-◌, ◌&&◌, ◌||◌, List, [], ◌∷◌, ◌++◌, length, take, drop, slice_index, codes, nat_eq, nat_lt, Option, Some, None, unwrap_or, Result, Ok, Err, if◌then◌else◌}
+use Rattle.std.specs.List.{list_all, starts_with, before_first, after_first, position_or_len}
 use Rattle.slp_text.specs.Ascii.{colon, dot, hyphen, plus_sign, underscore}
 use Rattle.slp_text.specs.Keys.{key_of}
 use Rattle.slp_text.specs.Words.{is_plain, bytes_eq}
@@ -68,6 +68,10 @@ is_service_agent kind = bytes_eq kind service_agent
 -- A type covers itself, and an abstract one each that is made from it.
 abbrev pub covers : List ℕ → List ℕ → Bool
 covers kind other = bytes_eq kind other || (is_abstract kind && starts_with nat_eq other (kind ++ colon ∷ []))
+
+-- the type that one is made from: `service:A` of `service:A` and `service:A:C`, else the type itself
+abbrev pub root_of : List ℕ → List ℕ
+root_of kind = if is_service kind then take (8 + position_or_len is_colon (drop 8 kind)) kind else kind
 
 abbrev pub is_dot : ℕ → Bool
 is_dot b = b == dot

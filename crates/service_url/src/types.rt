@@ -5,7 +5,7 @@ ghost use Rattle.std.specs.List.{list_all, starts_with, position_or_len, before_
 ghost use Rattle.service_url.specs.Reading.{IsReading};
 ghost use Rattle.slp_text.specs.Ascii.{colon};
 ghost use Rattle.service_url.specs.Types as spec;
-ghost use Rattle.service_url.specs.Types.{is_colon, type_of, is_dot, authority_of, named_authority, named_service, service_name_of};
+ghost use Rattle.service_url.specs.Types.{is_colon, type_of, is_dot, authority_of, named_authority, named_service, root_of, service_name_of};
 
 use crate::fault::UrlFault;
 use slp_text::{Key, NoMemory, Text, TextFault, folded};
@@ -17,19 +17,21 @@ use std::marker::Model;
 #[derive(Drop)]
 pub struct ServiceType {
     text: String,
+    // How many bytes its root has.
+    root: usize,
     is_abstract: bool,
 }
 
 impl Model for ServiceType {
-    ghost use Rattle.std.specs.Prelude.{◌≡◌, List, ℕ, string_bytes, IsTrue};
+    ghost use Rattle.std.specs.Prelude.{◌≡◌, List, ℕ, length, string_bytes, IsTrue};
     ghost use Rattle.service_url.specs.Types as spec;
-    ghost use Rattle.service_url.specs.Types.{is_type};
+    ghost use Rattle.service_url.specs.Types.{is_type, root_of};
 
     ghost Value = { List ℕ };
 
     ghost view = { λ a. string_bytes a.text };
 
-    ghost invariant = { λ a. IsTrue (is_type (string_bytes a.text)) × (a.is_abstract ≡ spec.is_abstract (string_bytes a.text)) };
+    ghost invariant = { λ a. IsTrue (is_type (string_bytes a.text)) × (a.is_abstract ≡ spec.is_abstract (string_bytes a.text)) × (a.root ≡ length (root_of (string_bytes a.text))) };
 }
 
 const SERVICE: &[u8] = b"service:";
@@ -110,6 +112,17 @@ fn is_abstract_with_colon(bytes: &[u8]) -> bool
     }
 }
 
+// How many bytes the root of a type has.
+fn root_len(bytes: &[u8]) -> usize
+    ensures value { result ≡ length (root_of bytes.now) }
+    ensures within { length (root_of bytes.now) ≤ length bytes.now }
+{
+    if !is_service(bytes) {
+        return bytes.len();
+    }
+    SERVICE.len() + colon_at(&bytes[SERVICE.len()..])
+}
+
 // Whether a text begins with a front and a colon.
 fn is_followed_by_colon(front: &[u8], text: &[u8]) -> bool
     ensures { result ≡ starts_with nat_eq text.now (front.now ++ colon ∷ []) }
@@ -179,8 +192,10 @@ impl ServiceType {
         };
         if is_abstract_with_colon(text.as_bytes()) {
             text.truncate(text.len() - 1);
+            let root = root_len(text.as_bytes());
             return Ok(ServiceType {
                 text,
+                root,
                 is_abstract: true,
             });
         }
@@ -188,7 +203,12 @@ impl ServiceType {
         if !is_abstract && !is_made_or_named(text.as_bytes()) {
             return Err(UrlFault::BadType);
         }
-        Ok(ServiceType { text, is_abstract })
+        let root = root_len(text.as_bytes());
+        Ok(ServiceType {
+            text,
+            root,
+            is_abstract,
+        })
     }
 
     /// The same, or `None` where a text is no type.
@@ -217,6 +237,22 @@ impl ServiceType {
     {
         let (kind, made) = (self.text.as_bytes(), other.text.as_bytes());
         kind == made || (self.is_abstract && is_followed_by_colon(kind, made))
+    }
+
+    /// Whether others are made from it: it is `service:A`. Takes no memory.
+    #[inline(always)]
+    pub fn is_abstract(&self) -> bool
+        ensures { result ≡ spec.is_abstract self.now }
+    {
+        self.is_abstract
+    }
+
+    /// The type that it is made from: `service:A` of `service:A` and `service:A:C`, else all its bytes. Takes no memory.
+    #[inline(always)]
+    pub fn root(&self) -> &[u8]
+        ensures { result.now ≡ root_of self.now }
+    {
+        &self.text.as_bytes()[..self.root]
     }
 
     /// Whether it is the type of directory agents (RFC 2608, section 8.5). Takes no memory.
@@ -259,6 +295,7 @@ impl ServiceType {
         let text = String::from_str(alloc, self.text.as_str())?;
         Ok(ServiceType {
             text,
+            root: self.root,
             is_abstract: self.is_abstract,
         })
     }
