@@ -4,6 +4,7 @@ pub mod AskedEvents
 pub mod AskedPlaces
 pub mod Conforming
 pub mod Cuts
+pub mod EachKind
 pub mod EventContents
 pub mod Folds
 pub mod Founders

@@ -128,3 +128,8 @@ pub record IsArranged (text : Entry → List ℕ) (es arranged : List Entry) : T
   pub ordered : IsAscending (map text arranged)
   pub within : (e : Entry) → Contains arranged e → Contains es e
   pub covers : (e : Entry) → Contains es e → Contains (map text arranged) (text e)
+
+-- some of these entries, one of each type among them
+pub record HasEachKind (es some : List Entry) : Type 0 where
+  pub within : (e : Entry) → Contains some e → Contains es e
+  pub kinds : (e : Entry) → Contains es e → (f : Entry) × Contains some f × (f.kind ≡ e.kind)

@@ -282,7 +282,7 @@ impl<R: Registry> Directory<R> {
             return Err(QueryFault::Scope);
         };
         match &query.target {
-            Target::Kind(kind) => Ok(viewer.gather(alloc, &self.registry, Some(kind))?),
+            Target::Kind(kind) => Ok(viewer.gather(alloc, &self.registry, kind)?),
             Target::Place(url) => Ok(viewer.gather_url(alloc, &self.registry, url)?),
         }
     }
@@ -325,7 +325,7 @@ impl<R: Registry> Directory<R> {
         let Some(viewer) = self.viewer(moment, asker, &query.scopes) else {
             return Err(QueryFault::Scope);
         };
-        let found = viewer.gather(alloc, &self.registry, None)?;
+        let found = viewer.gather_types(alloc, &self.registry)?;
         Ok(name_types(found, query))
     }
 }

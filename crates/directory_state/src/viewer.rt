@@ -1,8 +1,7 @@
 //! What is open to who asks.
-ghost use Rattle.std.specs.Prelude.{◌≡◌, ◌+◌, ◌∷◌, [], drop, filter, get_or, is_some, IfOk, IfSome, MatchOption};
-ghost use Rattle.std.specs.Option.{option_copied};
+ghost use Rattle.std.specs.Prelude.{◌≡◌, ◌+◌, ◌∷◌, [], drop, filter, get_or, is_some, IfOk, IfSome, MatchOption, None, Some};
 ghost use Rattle.registry_core.specs.Entries.{is_kind, is_of_url, IsListing};
-ghost use Rattle.directory_state.specs.Searches.{entries_lent, is_open_in, is_seen, open_scopes};
+ghost use Rattle.directory_state.specs.Searches.{entries_lent, is_open_in, is_seen, open_scopes, HasEachKind};
 
 use crate::asked::Asked;
 use access_rules::{Action, Addr, Deed, Rules};
@@ -71,23 +70,46 @@ impl Viewer<'_> {
         Some(Sight { first })
     }
 
-    /// What is open of the types that one covers, or of all.
+    /// What is open of the types that one covers.
     pub fn gather<'a, R: Registry>(
         &self,
         alloc: Global,
         registry: &'a R,
-        kind: Option<&ServiceType>,
+        kind: &ServiceType,
     ) -> Result<Vec<&'a Entry>, NoMemory>
-        ensures found { IfOk result (λ v. entries_lent v.items ≡ filter (is_seen self.now) (R.rest_of_kind registry.now (option_copied kind.entry) 0)) }
-        ensures listing { IfOk result (λ _. IsListing (is_kind (option_copied kind.entry)) (R.contents registry.now) (R.rest_of_kind registry.now (option_copied kind.entry) 0)) }
+        ensures found { IfOk result (λ v. entries_lent v.items ≡ filter (is_seen self.now) (R.rest_of_kind registry.now (Some kind.now) 0)) }
+        ensures listing { IfOk result (λ _. IsListing (is_kind (Some kind.now)) (R.contents registry.now) (R.rest_of_kind registry.now (Some kind.now) 0)) }
     {
         let mut found = Vec::new(alloc);
         let mut from = 0;
-        while let Some((entry, next)) = registry.by_kind(kind, from) {
+        while let Some((entry, next)) = registry.by_kind(Some(kind), from) {
             if self.view(entry).is_some() {
                 found.push(entry)?;
             }
             from = next;
+        }
+        Ok(found)
+    }
+
+    /// Of what is open an entry of each type, and it may be more. Where one of a type is seen, the walk goes on past the others of the
+    /// type, if the registry knows where they end.
+    pub fn gather_types<'a, R: Registry>(
+        &self,
+        alloc: Global,
+        registry: &'a R,
+    ) -> Result<Vec<&'a Entry>, NoMemory>
+        ensures found { IfOk result (λ v. HasEachKind (filter (is_seen self.now) (R.rest_of_kind registry.now None 0)) (entries_lent v.items)) }
+        ensures listing { IfOk result (λ _. IsListing (is_kind None) (R.contents registry.now) (R.rest_of_kind registry.now None 0)) }
+    {
+        let mut found = Vec::new(alloc);
+        let mut from = 0;
+        while let Some((entry, next)) = registry.by_kind(None, from) {
+            from = next;
+            if self.view(entry).is_none() {
+                continue;
+            }
+            found.push(entry)?;
+            from = registry.past_kind(&entry.kind, next);
         }
         Ok(found)
     }

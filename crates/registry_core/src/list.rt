@@ -229,6 +229,10 @@ impl Registry for ListRegistry {
         None
     }
 
+    fn past_kind(&self, _kind: &ServiceType, from: usize) -> usize {
+        from
+    }
+
     fn by_url(&self, url: &Url, from: usize) -> Option<(&Entry, usize)> {
         for at in from..self.entries.len() {
             let entry: &Entry = &self.entries[at];

@@ -2,7 +2,7 @@ ghost use Rattle.std.specs.Prelude.{◌≡◌, ◌<◌, ◌≤◌, ◌∷◌, []
 ghost use Rattle.std.specs.Arc.{arc_value};
 ghost use Rattle.std.specs.FinMap as fin;
 ghost use Rattle.std.specs.Option.{option_copied};
-ghost use Rattle.registry_core.specs.Entries.{Pair, pair_of, outlives, if_kept, passing_entries, is_at_place, is_kind, is_of_url, is_within, is_registered, IsListing};
+ghost use Rattle.registry_core.specs.Entries.{Pair, pair_of, outlives, if_kept, passing_entries, is_at_place, is_kind, is_of_url, is_within, is_registered, IsListing, Passes};
 ghost use Rattle.registry_core.specs.declared.registry.RegistryFault.TheVariants as fault;
 
 use crate::entry::Entry;
@@ -118,6 +118,12 @@ pub trait Registry {
             (λ p. filter (is_within bound.now) (rest_of_kind self.now (option_copied kind.entry) from) ≡ p.0.now ∷ filter (is_within bound.now) (rest_of_kind self.now (option_copied kind.entry) p.1)) }
         ensures whole { IsListing (is_kind (option_copied kind.entry)) (contents self.now) (rest_of_kind self.now (option_copied kind.entry) 0) }
         ensures onward { IfSome result (λ p. from < p.1) };
+
+    /// A number from which on `by_kind` gives, of all types, what it gives from another one on without some entries of one type at its
+    /// front. A registry that walks by type passes over all that come next, another one over none.
+    fn past_kind(&self, kind: &ServiceType, from: usize) -> usize
+        ensures passes { Passes kind.now (rest_of_kind self.now None from) (rest_of_kind self.now None result) }
+        ensures onward { from ≤ result };
 
     /// The next entry of a URL, with the number to go on from. The first number is 0. On a registry
     /// that stays as it is each such entry comes once.
