@@ -4,7 +4,7 @@ ghost use Rattle.std.specs.FinMap as fin;
 ghost use Rattle.access_rules.specs.RuleFiles.{rules_in_text};
 ghost use Rattle.agent_program.specs.Openings.{AreRules, AreTemplates, IsOpened, site_with, templates_and};
 ghost use Rattle.directory_state.specs.State.{opening_state};
-ghost use Rattle.registry_core.specs.Entries.{entries_of_list};
+ghost use Rattle.table_registry.specs.Tables.{contents_of};
 ghost use Rattle.site_config.specs.Configurations.{IsWithin};
 
 use crate::fault::StartFault;
@@ -12,13 +12,14 @@ use crate::files;
 use access_rules::Rules;
 use directory_judge::Site;
 use directory_state::Directory;
-use registry_core::{ListRegistry, RegistryFault};
+use registry_core::RegistryFault;
 use site_config::{Config, ConfigFault};
 use slp_text::Text;
 use srv_template::{Template, Templates};
 use std::alloc::Global;
 use std::rt::Files;
 use std::sync::Arc;
+use table_registry::SiteRegistry;
 
 /// The configuration in a file. For now it has one address.
 pub(crate) fn config<R: Files>(rt: &R, alloc: Global, path: &str) -> Result<Config, StartFault>
@@ -94,13 +95,13 @@ fn site(alloc: Global, config: &Config, templates: Templates, boot: u32) -> Resu
 }
 
 // A registry with so much room.
-fn registry(alloc: Global, capacity: usize) -> Result<ListRegistry, StartFault>
+fn registry(alloc: Global, capacity: usize) -> Result<SiteRegistry, StartFault>
     requires some { 0 < capacity }
     requires few { capacity ≤ 65536 }
-    ensures empty { IfOk result (λ r. entries_of_list r.entries ≡ fin.empty) }
-    ensures limit { IfOk result (λ r. r.limit ≡ capacity) }
+    ensures empty { IfOk result (λ r. contents_of r ≡ fin.empty) }
+    ensures limit { IfOk result (λ r. length r.slots ≡ capacity) }
 {
-    match ListRegistry::new(alloc, capacity) {
+    match SiteRegistry::with_capacity(alloc, capacity) {
         Ok(registry) => Ok(registry),
         Err(RegistryFault::NoMemory) => Err(StartFault::NoMemory),
         Err(RegistryFault::Full) => unreachable!(),
@@ -108,7 +109,7 @@ fn registry(alloc: Global, capacity: usize) -> Result<ListRegistry, StartFault>
 }
 
 // The directory of a site with these rules, to which nothing happened.
-fn opened(alloc: Global, site: &Site, rules: Rules) -> Result<Directory<ListRegistry>, StartFault>
+fn opened(alloc: Global, site: &Site, rules: Rules) -> Result<Directory<SiteRegistry>, StartFault>
     ensures { IfOk result (λ d. d ≡ opening_state (record { rules = rules; site = site.now })) }
 {
     let rules = Arc::new(alloc, rules)?;
@@ -123,7 +124,7 @@ pub(crate) fn directory<R: Files>(
     alloc: Global,
     config: &Config,
     boot: u32,
-) -> Result<Directory<ListRegistry>, StartFault>
+) -> Result<Directory<SiteRegistry>, StartFault>
     requires { IsWithin config.now }
     ensures { IfOk result (IsOpened config.now boot) }
 {

@@ -6,7 +6,6 @@ use crate::console::Console;
 use crate::fault::StartFault;
 use crate::opening;
 use directory_state::Directory;
-use registry_core::ListRegistry;
 use site_config::Config;
 use slp_loops::{AgentLoop, Desk, LoopFault, Moments, Serve, Shared, WallClock};
 use std::alloc::Global;
@@ -18,6 +17,7 @@ use std::sync::{Mutex, Wait};
 use std::thread;
 use std::thread::{Scope, Threads};
 use std::time::Clock;
+use table_registry::SiteRegistry;
 
 /// The status of a call with words that are not understood.
 const USAGE: u8 = 64;
@@ -98,7 +98,7 @@ fn serve_at<R, I, W>(
     rt: &R,
     alloc: Global,
     config: &Config,
-    directory: &Mutex<Directory<ListRegistry>>,
+    directory: &Mutex<Directory<SiteRegistry>>,
     ends: (&Mutex<I>, &Mutex<W>),
 ) -> Result<u8, StartFault>
 where

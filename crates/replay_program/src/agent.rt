@@ -20,13 +20,14 @@ use crate::opening;
 use access_rules::{Addr, RuleFault, Rules};
 use directory_judge::Site;
 use directory_state::Directory;
-use registry_core::{ListRegistry, RegistryFault};
+use registry_core::RegistryFault;
 use site_config::{Config, ConfigFault};
 use slp_answer::{Answer, Call, Sent, step};
 use slp_text::{NoMemory, Row, ScopeList, TextFault};
 use srv_template::{ParseFault, Template, Templates};
 use std::alloc::Global;
 use std::sync::Arc;
+use table_registry::SiteRegistry;
 
 /// The entries of the opening site.
 const CAPACITY: usize = 16;
@@ -50,7 +51,7 @@ const SECOND_LOOP: Addr = Addr(0x7f00_0002);
 /// of them (counted from 0) to which messages come, the moment that was set, and from where they come.
 #[derive(Drop)]
 pub struct Agent {
-    pub directory: Directory<ListRegistry>,
+    pub directory: Directory<SiteRegistry>,
     pub listen: Row<(Addr, u16)>,
     pub loop_index: usize,
     pub moment: u32,
@@ -125,12 +126,12 @@ fn site_with(alloc: Global, site: &Site, templates: Templates) -> Result<Site, N
 }
 
 // A directory to which nothing happened, with rules that allow everything to everyone.
-fn begin(alloc: Global, site: &Site) -> Result<Directory<ListRegistry>, NoMemory>
+fn begin(alloc: Global, site: &Site) -> Result<Directory<SiteRegistry>, NoMemory>
     ensures state { IfOk result (λ d. d ≡ opening_state (record { rules = opening_rules; site = site.now })) }
     ensures fold { IfOk result (λ d. Fold (record { rules = opening_rules; site = site.now }) [] d) }
 {
     let rules = Arc::new(alloc, opening::rules(alloc)?)?;
-    match ListRegistry::new(alloc, site.capacity()) {
+    match SiteRegistry::with_capacity(alloc, site.capacity()) {
         Ok(registry) => Directory::open(alloc, registry, site, rules),
         Err(RegistryFault::NoMemory) => Err(NoMemory),
         Err(RegistryFault::Full) => unreachable!(),

@@ -2,17 +2,17 @@ use crate::clock::Moments;
 use crate::serve::Serve;
 use access_rules::Addr;
 use directory_state::Directory;
-use registry_core::ListRegistry;
 use slp_answer::{Answer, Call, Sent, refused_line, step};
 use slp_text::NoMemory;
 use std::alloc::Global;
 use std::io::Write;
 use std::sync::{Mutex, Wait};
+use table_registry::SiteRegistry;
 
 /// What threads share: the directory, and the output to which lines are written.
 #[derive(Drop)]
 pub struct Shared<'s, W: Write> {
-    pub directory: &'s Mutex<Directory<ListRegistry>>,
+    pub directory: &'s Mutex<Directory<SiteRegistry>>,
     pub output: &'s Mutex<W>,
 }
 
