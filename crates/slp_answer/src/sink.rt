@@ -34,8 +34,8 @@ impl Sink for Vec<u8> {
 /// A line of at most 128 bytes. It takes no memory.
 #[derive(Drop)]
 pub struct ShortLine {
-    pub bytes: [u8; 128],
-    pub end: usize,
+    pub(crate) bytes: [u8; 128],
+    pub(crate) end: usize,
     ghost within: { end ≤ 128 },
 }
 
