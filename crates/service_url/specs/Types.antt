@@ -33,6 +33,10 @@ is_abstract text = is_service text && is_name (drop 8 text)
 abbrev pub is_concrete : List ℕ → Bool
 is_concrete text = is_service text && is_name (before_first is_colon (drop 8 text)) && is_name (after_first is_colon (drop 8 text))
 
+-- what follows `service:`: a name, or two names with a colon in between
+abbrev pub are_names : List ℕ → Bool
+are_names rest = is_name rest || (is_name (before_first is_colon rest) && is_name (after_first is_colon rest))
+
 -- the three forms of a folded type: the third is a name, as of another scheme
 abbrev pub is_type : List ℕ → Bool
 is_type text = is_abstract text || is_concrete text || is_name text

@@ -1,4 +1,4 @@
-ghost use Rattle.std.specs.Prelude.{◌≡◌, ◌&&◌, ◌||◌, ◌∷◌, ◌++◌, ◌≤◌, [], nat_eq, length, drop, IsTrue, IfOk};
+ghost use Rattle.std.specs.Prelude.{◌≡◌, ◌+◌, ◌&&◌, ◌||◌, ◌∷◌, ◌++◌, ◌≤◌, [], nat_eq, length, drop, IsTrue, IfOk, MatchOption, true, false};
 ghost use Rattle.std.specs.Option.{option_copied};
 ghost use Rattle.std.specs.Result.{result_ok};
 ghost use Rattle.std.specs.List.{list_all, starts_with, position_or_len, before_first, after_first};
@@ -83,26 +83,6 @@ fn colon_at(bytes: &[u8]) -> usize
     bytes.iter().take_while(|b| **b != b':').count()
 }
 
-fn are_two_names(bytes: &[u8]) -> bool
-    ensures { result ≡ (spec.is_name (before_first is_colon bytes.now) && spec.is_name (after_first is_colon bytes.now)) }
-{
-    let colon = colon_at(bytes);
-    colon < bytes.len() && is_name(&bytes[..colon]) && is_name(&bytes[colon + 1..])
-}
-
-fn is_concrete(bytes: &[u8]) -> bool
-    ensures { result ≡ spec.is_concrete bytes.now }
-{
-    is_service(bytes) && are_two_names(&bytes[SERVICE.len()..])
-}
-
-// Whether a folded text is `service:A:C` or a name, the types that are not `service:A`.
-fn is_made_or_named(bytes: &[u8]) -> bool
-    ensures { result ≡ (spec.is_concrete bytes.now || spec.is_name bytes.now) }
-{
-    is_concrete(bytes) || is_name(bytes)
-}
-
 fn is_abstract_with_colon(bytes: &[u8]) -> bool
     ensures { result ≡ spec.is_abstract_with_colon bytes.now }
 {
@@ -112,15 +92,52 @@ fn is_abstract_with_colon(bytes: &[u8]) -> bool
     }
 }
 
-// How many bytes the root of a type has.
-fn root_len(bytes: &[u8]) -> usize
-    ensures value { result ≡ length (root_of bytes.now) }
-    ensures within { length (root_of bytes.now) ≤ length bytes.now }
+// What a folded text is that is a type: how many bytes its root has, and whether others are made from it.
+#[derive(Clone, Copy)]
+struct Form {
+    root: usize,
+    is_abstract: bool,
+}
+
+// The form of what follows `service:`.
+fn service_form(rest: &[u8]) -> Option<Form>
+    ensures { MatchOption result (spec.are_names rest.now ≡ false)
+        (λ f. (spec.are_names rest.now ≡ true) × (f.root ≡ 8 + position_or_len is_colon rest.now) × (f.is_abstract ≡ spec.is_name rest.now)) }
 {
-    if !is_service(bytes) {
-        return bytes.len();
+    let colon = colon_at(rest);
+    if !is_name(&rest[..colon]) {
+        return None;
     }
-    SERVICE.len() + colon_at(&bytes[SERVICE.len()..])
+    if colon == rest.len() {
+        return Some(Form {
+            root: SERVICE.len() + colon,
+            is_abstract: true,
+        });
+    }
+    if !is_name(&rest[colon + 1..]) {
+        return None;
+    }
+    Some(Form {
+        root: SERVICE.len() + colon,
+        is_abstract: false,
+    })
+}
+
+// The form of a folded text, if it is a type. Each byte is looked at once or twice.
+fn form_of(bytes: &[u8]) -> Option<Form>
+    ensures { MatchOption result (spec.is_type bytes.now ≡ false)
+        (λ f. (spec.is_type bytes.now ≡ true) × (f.root ≡ length (root_of bytes.now)) × (f.is_abstract ≡ spec.is_abstract bytes.now)) }
+{
+    if is_service(bytes) {
+        return service_form(&bytes[SERVICE.len()..]);
+    }
+    if !is_name(bytes) {
+        return None;
+    }
+    Some(Form {
+        root: bytes.len(),
+        is_abstract: false,
+    })
 }
 
 // Whether a text begins with a front and a colon.
@@ -192,22 +209,20 @@ impl ServiceType {
         };
         if is_abstract_with_colon(text.as_bytes()) {
             text.truncate(text.len() - 1);
-            let root = root_len(text.as_bytes());
+            let root = text.len();
             return Ok(ServiceType {
                 text,
                 root,
                 is_abstract: true,
             });
         }
-        let is_abstract = is_abstract(text.as_bytes());
-        if !is_abstract && !is_made_or_named(text.as_bytes()) {
+        let Some(form) = form_of(text.as_bytes()) else {
             return Err(UrlFault::BadType);
-        }
-        let root = root_len(text.as_bytes());
+        };
         Ok(ServiceType {
             text,
-            root,
-            is_abstract,
+            root: form.root,
+            is_abstract: form.is_abstract,
         })
     }
 
