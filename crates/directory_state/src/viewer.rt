@@ -1,5 +1,6 @@
 //! What is open to who asks.
-ghost use Rattle.std.specs.Prelude.{◌≡◌, ◌+◌, ◌∷◌, [], drop, filter, get_or, is_some, IfOk, IfSome, MatchOption, None, Some};
+ghost use Rattle.std.specs.Prelude.{◌≡◌, ◌+◌, ◌∷◌, [], drop, filter, get_or, is_some, IfOk, Contains, IfSome, IsTrue, MatchOption, None, Some};
+ghost use Rattle.registry_core.specs.declared.entry.Entry as spec;
 ghost use Rattle.registry_core.specs.Entries.{is_kind, is_of_url, IsListing};
 ghost use Rattle.directory_state.specs.Searches.{entries_lent, is_open_in, is_seen, open_scopes, HasEachKind};
 
@@ -24,6 +25,19 @@ pub struct Viewer<'q> {
 #[derive(Clone, Copy)]
 pub struct Sight {
     pub first: usize,
+}
+
+/// Memory is taken for so many types at once.
+const AT_ONCE: usize = 64;
+
+// Whether an entry is of the type of the last one that was found.
+fn is_of_last(found: &[&Entry], entry: &Entry) -> bool
+    ensures { IsTrue result → (f : spec.Entry) × Contains (entries_lent found.now) f × (f.kind ≡ entry.now.kind) }
+{
+    match found.last() {
+        Some(last) => last.kind.text() == entry.kind.text(),
+        None => false,
+    }
 }
 
 impl Viewer<'_> {
@@ -91,7 +105,7 @@ impl Viewer<'_> {
         Ok(found)
     }
 
-    /// Of what is open an entry of each type, and it may be more. Where one of a type is seen, the walk goes on past the others of the
+    /// Of what is open an entry of each type, and it may be more. Where one of a type was seen, the walk goes on past the others of the
     /// type, if the registry knows where they end.
     pub fn gather_types<'a, R: Registry>(
         &self,
@@ -101,15 +115,18 @@ impl Viewer<'_> {
         ensures found { IfOk result (λ v. HasEachKind (filter (is_seen self.now) (R.rest_of_kind registry.now None 0)) (entries_lent v.items)) }
         ensures listing { IfOk result (λ _. IsListing (is_kind None) (R.contents registry.now) (R.rest_of_kind registry.now None 0)) }
     {
-        let mut found = Vec::new(alloc);
+        let mut found = Vec::with_capacity(alloc, AT_ONCE)?;
         let mut from = 0;
         while let Some((entry, next)) = registry.by_kind(None, from) {
             from = next;
+            if is_of_last(&found, entry) {
+                from = registry.past_kind(&entry.kind, next);
+                continue;
+            }
             if self.view(entry).is_none() {
                 continue;
             }
             found.push(entry)?;
-            from = registry.past_kind(&entry.kind, next);
         }
         Ok(found)
     }
