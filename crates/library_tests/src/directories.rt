@@ -1,4 +1,4 @@
-ghost use Rattle.std.specs.Prelude.{◌≡◌, ◌≤◌, length, IfOk};
+ghost use Rattle.std.specs.Prelude.{◌≡◌, ◌≤◌, ◌<◌, length, IfOk};
 ghost use Rattle.slp_text.specs.Scopes.{printed_scopes};
 
 mod rows;
@@ -31,7 +31,8 @@ rule = [
 ]
 ";
 
-fn rules_of(alloc: Global, text: &str) -> Result<Arc<Rules>, NoMemory> {
+/// The rules of a text.
+pub fn rules_of(alloc: Global, text: &str) -> Result<Arc<Rules>, NoMemory> {
     let rules = found(Rules::from_text(alloc, text))?;
     Ok(Arc::new(alloc, rules)?)
 }
@@ -51,17 +52,20 @@ fn one_scope(alloc: Global, scope: &str) -> Result<ScopeList, NoMemory>
     }
 }
 
-fn site(alloc: Global) -> Result<Site, NoMemory>
-    ensures { IfOk result (λ site. site.capacity ≡ 4) }
+/// A site of one scope, with room for so many entries.
+pub fn site(alloc: Global, capacity: usize) -> Result<Site, NoMemory>
+    requires some { 0 < capacity }
+    requires few { capacity ≤ 65536 }
+    ensures { IfOk result (λ site. site.capacity ≡ capacity) }
 {
     let scopes = one_scope(alloc, "DEFAULT")?;
     let templates = Arc::new(alloc, Templates::new(alloc))?;
-    Ok(Site::new(scopes, 4, templates, 1))
+    Ok(Site::new(scopes, capacity, templates, 1))
 }
 
 // A directory of one scope and open rules. It is boxed, since the proof of a function that lets go of one is long.
 fn opened(alloc: Global) -> Result<Box<Directory<ListRegistry>>, NoMemory> {
-    let site = site(alloc)?;
+    let site = site(alloc, 4)?;
     let rules = rules_of(alloc, OPEN)?;
     let Ok(registry) = ListRegistry::new(alloc, 4) else {
         return Err(NoMemory);

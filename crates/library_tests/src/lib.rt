@@ -14,9 +14,17 @@ mod configurations;
 #[cfg(test)]
 mod directories;
 #[cfg(test)]
+mod entries;
+#[cfg(test)]
 mod filters;
 #[cfg(test)]
+mod hoard;
+#[cfg(test)]
 mod messages;
+#[cfg(test)]
+mod refusals;
+#[cfg(test)]
+mod registries;
 #[cfg(test)]
 mod rules;
 #[cfg(test)]

@@ -1,0 +1,60 @@
+use std::alloc::{AllocError, Global};
+
+// The largest block that is asked for: 2 ^ 46 bytes. A process of Linux has 2 ^ 47 addresses.
+const LARGEST: u32 = 46;
+
+// The least of the blocks that are halved.
+const LEAST: u32 = 11;
+
+// How many blocks there may be: 2 ^ 47 bytes in blocks of 2 ^ 30, and some for what is left.
+const BLOCKS: usize = 140_000;
+
+/// Blocks that nobody uses. While they are kept, each request for memory is refused, but for a growth within the block
+/// that is there: the C library gives 24 bytes, or 16 more, and so on.
+#[derive(Drop)]
+pub struct Hoard {
+    blocks: Vec<Vec<u8>>,
+}
+
+impl Hoard {
+    /// All memory that there is.
+    pub fn new(alloc: Global) -> Result<Hoard, AllocError> {
+        let blocks = Vec::with_capacity(alloc, BLOCKS)?;
+        let mut hoard = Hoard { blocks };
+        hoard.fill(alloc);
+        Ok(hoard)
+    }
+
+    // Takes blocks of one size until one is refused.
+    fn take(&mut self, alloc: Global, size: usize) {
+        for _ in self.blocks.len()..BLOCKS {
+            let Ok(block) = Vec::with_capacity(alloc, size) else {
+                return;
+            };
+            if self.blocks.push(block).is_err() {
+                return;
+            }
+        }
+    }
+
+    fn fill(&mut self, alloc: Global) {
+        for power in (LEAST..=LARGEST).rev() {
+            self.take(alloc, 1usize << power);
+        }
+        // The C library keeps a list of blocks for each of these sizes.
+        for count in (1..=128usize).rev() {
+            self.take(alloc, 16 * count - 8);
+        }
+    }
+}
+
+/// Whether requests of all sizes are refused.
+pub fn are_refused(alloc: Global) -> bool {
+    for count in 1..=300usize {
+        let block: Result<Vec<u8>, AllocError> = Vec::with_capacity(alloc, 8 * count);
+        if block.is_ok() {
+            return false;
+        }
+    }
+    true
+}
