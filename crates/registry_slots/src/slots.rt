@@ -247,10 +247,54 @@ impl Slots {
                 Some(due.slot)
             }
             None => {
-                self.since = self.since.max(now);
+                self.raise(now);
                 None
             }
         }
+    }
+
+    // Where nothing is dead at a moment, no deadline is below it.
+    fn raise(&mut self, now: u64)
+        requires { (x : ℕ) (e : Held) → slot_at self.old.slots x ≡ Some e → is_due now e ≡ false }
+        ensures { self.new.slots ≡ self.old.slots }
+    {
+        self.since = self.since.max(now);
+    }
+
+    /// Whether more seconds went by since the last sweep than there are chains by deadline. To look at each slot is less then.
+    pub fn is_far(&self, now: u64) -> bool {
+        now.saturating_sub(self.since) >= TURN as u64
+    }
+
+    // Empties the slots of the entries whose deadline is at most `now`, chain by chain.
+    fn clear_chained(&mut self, now: u64)
+        ensures each { (x : ℕ) → slot_at self.new.slots x ≡ if_kept (outlives now) (slot_at self.old.slots x) }
+        ensures room { length self.new.slots ≡ length self.old.slots }
+    {
+        while let Some(x) = self.due_slot(now) {
+            self.clear(x);
+        }
+    }
+
+    // Whether a slot has an entry whose deadline is at most `now`.
+    fn is_dead_at(&self, x: usize, now: u64) -> bool
+        ensures { result ≡ tests (is_due now) (slot_at self.now.slots x) }
+    {
+        is_dead(&self.slots, x, now)
+    }
+
+    // The same, slot by slot.
+    fn clear_dead(&mut self, now: u64)
+        ensures each { (x : ℕ) → slot_at self.new.slots x ≡ if_kept (outlives now) (slot_at self.old.slots x) }
+        ensures room { length self.new.slots ≡ length self.old.slots }
+    {
+        for x in 0..self.len() {
+            if !self.is_dead_at(x, now) {
+                continue;
+            }
+            self.clear(x);
+        }
+        self.raise(now);
     }
 
     /// Empties the slots of the entries whose deadline is at most `now`.
@@ -258,8 +302,10 @@ impl Slots {
         ensures each { (x : ℕ) → slot_at self.new.slots x ≡ if_kept (outlives now) (slot_at self.old.slots x) }
         ensures room { length self.new.slots ≡ length self.old.slots }
     {
-        while let Some(x) = self.due_slot(now) {
-            self.clear(x);
+        if self.is_far(now) {
+            self.clear_dead(now);
+        } else {
+            self.clear_chained(now);
         }
     }
 

@@ -457,7 +457,12 @@ impl Registry for TableRegistry {
     }
 
     fn sweep(&mut self, now: u64) {
-        for _ in 0..self.places.len().min(FEW) {
+        let few = if self.slots.is_far(now) {
+            0
+        } else {
+            self.places.len().min(FEW)
+        };
+        for _ in 0..few {
             match self.due_slot(now) {
                 Some(x) => self.take(x),
                 None => return,
