@@ -8,7 +8,7 @@ use Rattle.std.specs.FinMap as fin
 use Rattle.registry_core.specs.declared.entry.Entry.{Entry}
 use Rattle.registry_core.specs.Entries.{Pair, Entries, pair_eq, pair_of, is_of, entries_of_list, if_kept, IsDistinct, IsListing}
 use Rattle.registry_slots.specs.Slots.{Apart, slot_at, somes, gathered, prepend, tests}
-use Rattle.registry_core.proofs.Lists.{pair_total, pair_exact, cmp-pair_eq, pair_eq-true, pair_eq-same, pair_eq-differ, get-entries_of_list, len-entries_of_list}
+use Rattle.registry_core.proofs.Lists.{pair_total, pair_exact, cmp-pair_eq, pair_eq-true, pair_eq-same, pair_eq-differ, get-entries_of_list}
 use Rattle.slot_chains.specs.Links.{count}
 
 pub same_option : {A : Type 0} (a b : Option A) → ((e : A) → a ≡ Some e → b ≡ Some e) → ((e : A) → b ≡ Some e → a ≡ Some e) → a ≡ b
@@ -107,9 +107,6 @@ pub len_full : (slots : List (Option Entry)) → ((x : ℕ) → x < length slots
 len_full [] h = refl
 len_full (None ∷ slots) h = absurd (h zero (omega arith) refl)
 len_full (Some f ∷ slots) h = let t = len_full slots (λ x l. h (suc x) (omega arith)) in omega arith
-
-pub len_map : (slots : List (Option Entry)) → Apart slots → fin.len (entries_of_list (somes slots)) ≡ length (somes slots)
-len_map slots a = len-entries_of_list (somes slots) (distinct_somes slots a)
 
 -- ---- one slot filled
 

@@ -273,9 +273,3 @@ module _ (c : Links) (prev : List ℕ) (nexts : length c.next ≡ length c.home 
     there = λ a h. ap (at prev) (same a h) ∙ sames a h;
     back = λ a h. ap (at c.next) (sames a h) ∙ same a h;
   }
-
-pub chain_once : (c : Links) → IsStanding c → (h : ℕ) → h < c.heads → (y : ℕ) → count y (chain c h) ≤ 1
-chain_once c s = once c (length c.home) refl (chain c) s.ends s.each s.homes
-
-pub rest_at_end : (c : Links) (a : ℕ) → length c.home ≤ a → rest c a ≡ []
-rest_at_end c a = rest_past c (length c.home) refl a

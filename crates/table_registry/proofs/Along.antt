@@ -200,11 +200,6 @@ pub hit_was : (p : Entry → Bool) (o : Option Entry) (e : Entry) → if_kept p 
 hit_was p None e h = absurd (none-some e h)
 hit_was p (Some f) e h = let t = cond_some (p f) f e h in (ap Some t.1, ap p (sym t.1) ∙ t.0)
 
--- what is kept of nothing, or of an entry, tells of the test
-pub tests_kept : (p : Entry → Bool) (o : Option Entry) → if_kept p o ≡ None → tests p o ≡ false
-tests_kept p None h = refl
-tests_kept p (Some e) h = elim (p e) as (λ b. cond b (Some e) None ≡ None → b ≡ false) [ true ↦ λ k. absurd (none-some e (sym k)) | false ↦ λ k. refl ] h
-
 pub whole : (way : By) (slots : List (Option Entry)) (order : List ℕ) → IsOrder way slots order → Apart slots → (p : Entry → Bool) → IsListing p (entries_of_list (somes slots)) (gathered (λ x. if_kept p (slot_at slots x)) order)
 whole way slots order o a p =
     listing_gathered (λ x. if_kept p (slot_at slots x)) (entries_of_list (somes slots)) p
