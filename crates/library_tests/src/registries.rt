@@ -66,9 +66,17 @@ static SCOPES: [&str; 4] = ["a", "b", "a,b", "b,c"];
 static LIVES: [usize; 4] = [50, 500, 5_000, 65_536];
 
 // So few that the registries are full now and then, and more than a table takes out one by one.
-const CAPACITY: usize = 80;
+const SMALL: usize = 80;
+
+// More than the numbers of a block, of which an order has several then.
+const LARGE: usize = 700;
+
+const BLOCK: usize = 256;
 
 const TIMES: usize = 100_000;
+
+// With as many the list is slow.
+const LARGE_TIMES: usize = 10_000;
 
 // Two registries to which the same happens.
 #[derive(Drop)]
@@ -76,6 +84,9 @@ struct Twins {
     list: ListRegistry,
     table: TableRegistry,
     numbers: Numbers,
+    capacity: usize,
+    // How many entries were held at most.
+    most: usize,
     now: u64,
 }
 
@@ -103,11 +114,16 @@ fn take_step<R: Registry>(
 }
 
 impl Twins {
-    fn new(alloc: Global) -> Result<Twins, NoMemory> {
+    fn new(alloc: Global, capacity: usize) -> Result<Twins, NoMemory>
+        requires some { 0 < capacity }
+        requires few { capacity ≤ 65536 }
+    {
         Ok(Twins {
-            list: found(ListRegistry::new(alloc, CAPACITY))?,
-            table: found(TableRegistry::with_capacity(alloc, CAPACITY))?,
+            list: found(ListRegistry::new(alloc, capacity))?,
+            table: found(TableRegistry::with_capacity(alloc, capacity))?,
             numbers: Numbers::new(),
+            capacity,
+            most: 0,
             now: 0,
         })
     }
@@ -128,7 +144,7 @@ impl Twins {
         ensures few { IfOk result (λ e. length (arc_value e).scopes ≤ 16) }
     {
         let parts = self.some_parts();
-        let number = self.numbers.below(CAPACITY);
+        let number = self.numbers.below(self.capacity.max(1));
         let url = format!(in alloc; "service:a://{number}")?;
         entry_of(alloc, url.as_str(), parts)
     }
@@ -149,7 +165,9 @@ impl Twins {
         let entry = self.some_entry(alloc)?;
         let share = Arc::try_clone(&entry)?;
         let told = take_step(&mut self.list, step, share, self.now);
-        Ok(take_step(&mut self.table, step, entry, self.now) == told)
+        let is_told_alike = take_step(&mut self.table, step, entry, self.now) == told;
+        self.most = self.most.max(self.table.len());
+        Ok(is_told_alike)
     }
 
     // Whether both count and find alike.
@@ -218,13 +236,14 @@ impl Twins {
         &mut self,
         alloc: Global,
         kinds: &[Option<ServiceType>],
+        times: usize,
     ) -> Result<usize, NoMemory> {
-        for step in 0..TIMES {
+        for step in 0..times {
             if !self.are_alike_then(alloc, kinds, step % 16 == 0)? {
                 return Ok(step);
             }
         }
-        Ok(TIMES)
+        Ok(times)
     }
 }
 
@@ -238,14 +257,26 @@ fn walked_kinds(alloc: Global) -> Result<Vec<Option<ServiceType>>, NoMemory> {
     Ok(kinds)
 }
 
-// How many steps the two are alike after.
-fn steps_alike(alloc: Global) -> Result<usize, NoMemory> {
+// How many steps the two are alike after, of so many, and how many entries were held at most.
+fn steps_alike(alloc: Global, capacity: usize, times: usize) -> Result<(usize, usize), NoMemory>
+    requires some { 0 < capacity }
+    requires few { capacity ≤ 65536 }
+{
     let kinds = walked_kinds(alloc)?;
-    let mut twins = Box::new(alloc, Twins::new(alloc)?)?;
-    twins.take_steps(alloc, kinds.as_slice())
+    let mut twins = Box::new(alloc, Twins::new(alloc, capacity)?)?;
+    let steps = twins.take_steps(alloc, kinds.as_slice(), times)?;
+    Ok((steps, twins.most))
 }
 
 #[test]
 fn a_table_is_as_a_list(rt: HostRuntime) {
-    assert_eq!(rt; steps_alike(rt.alloc()), Ok(TIMES));
+    assert_eq!(rt; steps_alike(rt.alloc(), SMALL, TIMES), Ok((TIMES, SMALL)));
+}
+
+#[test]
+fn a_table_of_several_blocks_is_as_a_list(rt: HostRuntime) {
+    assert!(rt;
+        matches!(steps_alike(rt.alloc(), LARGE, LARGE_TIMES), Ok((LARGE_TIMES, most)) if most > BLOCK),
+        "as a list, and in more than one block"
+    );
 }
