@@ -1,0 +1,5 @@
+pub mod Allowing
+pub mod Denials
+pub mod Kept
+pub mod Promises
+pub mod WholeReplies

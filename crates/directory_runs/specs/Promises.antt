@@ -1,0 +1,103 @@
+-- What users are promised of each thing that happens.
+use Rattle.std.specs.Prelude.{◌≡◌, ◌≢◌, ◌↔◌, ℕ, Bool, false, List, [], ◌∷◌, ◌++◌, codes, length, Option, Some, None}
+use Rattle.std.specs.Fmt.{decimal}
+use Rattle.slp_headers.specs.Headers.{Heading, fields_of, flags_of, heading_of, refusal_bytes}
+use Rattle.slp_messages.specs.declared.code.TheConstants.{OK}
+use Rattle.slp_messages.specs.declared.message.UrlEntry.{UrlEntry}
+use Rattle.slp_wire.specs.Spelling.{plain_bytes}
+use Rattle.attr_list.specs.Lists.{Attributes}
+use Rattle.access_rules.specs.Deciding.{SiteRules, deciding, deed}
+use Rattle.directory_judge.specs.History.{Event}
+use Rattle.directory_judge.specs.Judgements.{code_by, decider_of}
+use Rattle.directory_judge.specs.Meaning.{rules}
+use Rattle.directory_judge.specs.declared.reason.Because.{Because}
+use Rattle.directory_judge.specs.declared.reason.Decider.TheVariants as decider
+use Rattle.directory_questions.specs.Answers.{Sense, Settled, Lists, Describes, Names, Changes, sense_of}
+use Rattle.directory_questions.specs.Calls.{Opening, Call, Standpoint, standpoint_of}
+use Rattle.directory_questions.specs.Cuts.{attributes_with, services_with, types_with}
+use Rattle.directory_questions.specs.Items.{AreAttributesOf, AreServices, AreTypesOf, attribute_texts}
+use Rattle.directory_questions.specs.Outcomes.{Outcome, code_sent, sent_of}
+use Rattle.directory_questions.specs.Requests.{action_of}
+use Rattle.directory_questions.specs.Verdicts.{IsLegal}
+use Rattle.slp_answer.specs.Answers.{line_of}
+use Rattle.slp_answer.specs.Audits.{decider_text, rule_named}
+use Rattle.history_log.specs.Pasts.{IsPast}
+use Rattle.directory_runs.specs.Allowing.{IsAllowed}
+use Rattle.directory_runs.specs.Runs.{Happening, Publish, Sweep, Reload, Entry, Look, Tell, Learn, Refusal, Run, World, happened, world}
+
+-- ---- a reply
+
+-- it has the flag that says that items are left out (RFC 2608, section 8)
+abbrev pub is_overflowed : List ℕ → Bool
+is_overflowed reply = (flags_of (fields_of reply).flags).overflow
+
+-- The reply is the message of exactly the services, the attributes or the types that answer, all of them. An advert and an acknowledgement hold none.
+abbrev pub HoldsExactly : Standpoint → Sense → List ℕ → Type 0
+HoldsExactly from (Lists head q) reply = (items : List UrlEntry) × AreServices from q items × (reply ≡ plain_bytes (services_with head items (length items)))
+HoldsExactly from (Describes head q) reply = (a : Attributes) × AreAttributesOf from q a × (reply ≡ plain_bytes (attributes_with head (attribute_texts a) (length (attribute_texts a))))
+HoldsExactly from (Names head q) reply = (types : List (List ℕ)) × AreTypesOf from q types × (reply ≡ plain_bytes (types_with head types (length types)))
+HoldsExactly from (Settled it) reply = Unit {0}
+HoldsExactly from (Changes head sent) reply = Unit {0}
+
+-- ---- a denial
+
+-- a rule that decided is the one that decides on what was asked, in the scope that is named, and denies it; by default no rule fits
+pub record IsRuledOut (rs : SiteRules) (asker function : ℕ) (because : Because) : Type 0 where
+  pub kind : List ℕ
+  pub scope : List ℕ
+  pub of_kind : because.kind ≡ Some kind
+  pub in_scope : because.scope ≡ Some scope
+  pub denied : (deciding rs (deed asker (action_of function) kind) scope).allow ≡ false
+  pub by : because.decider ≡ decider_of (deciding rs (deed asker (action_of function) kind) scope)
+
+-- A denial has the code of who decided, in the reply, of which none goes out to what was sent to many, and in its line, which names who decided: a rule by its name.
+pub record IsDenial (rs : SiteRules) (asker : ℕ) (head : Heading) (r : Outcome) (code : ℕ) (because : Because) : Type 0 where
+  pub coded : code ≡ code_by because.decider
+  pub carried : (function : ℕ) × (r.reply ≡ sent_of head code false (refusal_bytes function code head.xid head.language))
+  pub line : (rest : List ℕ) × (line_of rs asker (Some head) r ≡ codes "# deny code=" ++ decimal code ++ codes " by=" ++ decider_text (rule_named rs because.decider) because.decider ++ rest)
+  pub by_rule : (index : ℕ) → because.decider ≡ decider.Rule index → IsRuledOut rs asker head.function because
+  pub by_default : because.decider ≡ decider.Default → IsRuledOut rs asker head.function because
+
+-- every denial among what may come of bytes is one
+abbrev pub DenialsAreKept : SiteRules → Call → Outcome → Type 0
+DenialsAreKept rs c r = (code : ℕ) (because : Because) → r.verdict ≡ Some (code, because) → code ≢ OK → (head : Heading) × (heading_of c.bytes ≡ Some head) × IsDenial rs c.asker head r code because
+
+-- ---- what happens
+
+-- A loop answers at one published state, which begins with all that the loop had seen and was told. A reply of code 0 without the flag holds exactly what is live, matches and is open to the asker there.
+pub record IsReplyKept (o : Opening) (w : World) (loop : ℕ) (c : Call) (r : Outcome) : Type 0 where
+  pub legal : IsLegal o w.published
+  pub known : IsPast (w.seen loop) w.published
+  pub exact : code_sent r ≡ Some OK → is_overflowed r.reply ≡ false → HoldsExactly (standpoint_of o w.published c) (sense_of o.site c) r.reply
+  pub denials : DenialsAreKept (rules o.rules w.published) c r
+
+-- what bytes ask for is allowed
+abbrev pub IsAllowedBy : Standpoint → Sense → Event → Type 0
+IsAllowedBy from (Changes head sent) event = IsAllowed from sent event
+IsAllowedBy from (Settled it) event = ⊥
+IsAllowedBy from (Lists head q) event = ⊥
+IsAllowedBy from (Describes head q) event = ⊥
+IsAllowedBy from (Names head q) event = ⊥
+
+-- a change is published exactly where it is allowed, and else what is published stays
+pub record IsChangeKept (o : Opening) (w : World) (c : Call) (r : Outcome) (change : Option Event) : Type 0 where
+  pub legal : IsLegal o w.published
+  pub exact : (event : Event) → ((happened w (Publish c r change)).published ≡ event ∷ w.published) ↔ IsAllowedBy (standpoint_of o w.published c) (sense_of o.site c) event
+  pub kept : change ≡ None → (happened w (Publish c r change)).published ≡ w.published
+  pub denials : DenialsAreKept (rules o.rules w.published) c r
+
+-- what is promised of a thing that happens to a world
+abbrev pub IsKept : Opening → World → Happening → Type 0
+IsKept o w (Entry loop c r) = IsReplyKept o w loop c r
+IsKept o w (Publish c r change) = IsChangeKept o w c r change
+IsKept o w (Sweep m) = Unit {0}
+IsKept o w (Reload m rs) = Unit {0}
+IsKept o w (Look loop) = Unit {0}
+IsKept o w Tell = Unit {0}
+IsKept o w (Learn loop n) = Unit {0}
+IsKept o w Refusal = Unit {0}
+
+-- it is so of each thing that happened
+abbrev pub IsKeptThroughout : Opening → Run → Type 0
+IsKeptThroughout o [] = Unit {0}
+IsKeptThroughout o (e ∷ es) = IsKept o (world es) e × IsKeptThroughout o es

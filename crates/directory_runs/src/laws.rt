@@ -1,0 +1,56 @@
+//! What holds of every run. The functions do nothing: their contracts are the laws.
+ghost use Rattle.std.specs.Prelude.{◌≡◌, ◌↔◌, ◌∷◌, ◌++◌, ℕ, List, Contains};
+ghost use Rattle.registry_core.specs.declared.entry.Entry.{Entry as AnyEntry};
+ghost use Rattle.directory_judge.specs.History.{History, clock};
+ghost use Rattle.directory_questions.specs.Answers.{IsOpenTo};
+ghost use Rattle.directory_questions.specs.Calls.{Opening};
+ghost use Rattle.directory_questions.specs.Verdicts.{IsLegal};
+ghost use Rattle.history_log.specs.Pasts.{IsPast};
+ghost use Rattle.directory_runs.specs.Promises.{IsKeptThroughout};
+ghost use Rattle.directory_runs.specs.Runs.{Learn, Reply, Run, IsRun, world};
+
+/// What users are promised, over every interleaving of changes, sweeps, reloads and questions. A loop answers at one
+/// published state, which begins with all that the loop had seen and was told; a reply of code 0 without the flag holds exactly
+/// the live entries that match and that scopes and rules open to its asker there. A change is published exactly where template,
+/// scope and rules allow it. Every denial carries its code, and its line names its rule. What is answered for want of memory
+/// is no part of it (`Look` and `Refusal` change nothing); moments and addresses are those that calls are made with.
+pub fn what_users_are_promised()
+    ensures { (o : Opening) (run : Run) → IsRun o run → IsKeptThroughout o run }
+{}
+
+/// What is published is a legal history.
+pub fn what_is_published_is_legal()
+    ensures { (o : Opening) (run : Run) → IsRun o run → IsLegal o (world run).published }
+{}
+
+/// What a loop has seen, what a note tells and where a reply was given are pasts of what is published.
+pub fn all_is_of_one_history()
+    ensures seen { (o : Opening) (run : Run) (i : ℕ) → IsRun o run → IsPast ((world run).seen i) (world run).published }
+    ensures notes { (o : Opening) (run : Run) (n : History) → IsRun o run → Contains (world run).notes n → IsPast n (world run).published }
+    ensures replies { (o : Opening) (run : Run) (r : Reply) → IsRun o run → Contains (world run).replies r → IsPast r.at (world run).published }
+{}
+
+/// What is published and what a loop has seen only get longer.
+pub fn nothing_is_forgotten()
+    ensures published { (o : Opening) (later run : Run) → IsRun o (later ++ run) → IsPast (world run).published (world (later ++ run)).published }
+    ensures seen { (o : Opening) (later run : Run) (i : ℕ) → IsRun o (later ++ run) → IsPast ((world run).seen i) ((world (later ++ run)).seen i) }
+{}
+
+/// A reply is given at a history that goes on from those of the replies before it, of whatever loops.
+pub fn replies_go_on()
+    ensures { (o : Opening) (run : Run) (newer older : List Reply) (r s : Reply) → IsRun o run → (world run).replies ≡ newer ++ r ∷ older → Contains older s → IsPast s.at r.at }
+{}
+
+/// What a loop has seen and learnt, its later replies go on from. (`fresh` are the replies since.)
+pub fn replies_know_what_their_loop_saw()
+    ensures seen { (o : Opening) (later run : Run) → IsRun o (later ++ run) → (fresh : List Reply) × ((world (later ++ run)).replies ≡ fresh ++ (world run).replies)
+        × ((r : Reply) → Contains fresh r → IsPast ((world run).seen r.loop) r.at) }
+    ensures learnt { (o : Opening) (later run : Run) (i : ℕ) (n : History) → IsRun o (later ++ Learn i n ∷ run) → (fresh : List Reply) × ((world (later ++ Learn i n ∷ run)).replies ≡ fresh ++ (world run).replies)
+        × ((r : Reply) → Contains fresh r → r.loop ≡ i → IsPast n r.at) }
+{}
+
+/// Two replies of a run, of whatever loops, to the same call are the same where the clocks of their histories are, and the entries open to the asker.
+pub fn replies_differ_by_what_is_open()
+    ensures { (o : Opening) (run : Run) (r s : Reply) → IsRun o run → Contains (world run).replies r → Contains (world run).replies s → r.call ≡ s.call → clock r.at ≡ clock s.at
+        → ((e : AnyEntry) → IsOpenTo o r.at r.call e ↔ IsOpenTo o s.at r.call e) → r.outcome ≡ s.outcome }
+{}
