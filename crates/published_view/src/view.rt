@@ -1,0 +1,143 @@
+//! What answers in one thread, and what it learns of the writer.
+ghost use Rattle.std.specs.Prelude.{◌≡◌, ◌⊎◌, ◌≤◌, [], false, length, All, vec_len, IfOk, IfErr, OnOk, OnErr, IsErrOf};
+ghost use Rattle.directory_questions.specs.Answers.{is_change_of};
+ghost use Rattle.directory_questions.specs.Verdicts.{IsLegal};
+ghost use Rattle.history_log.specs.Pasts.{IsPast};
+ghost use Rattle.slp_answer.specs.Answers.{Replies};
+
+use crate::fault::ViewFault;
+use crate::gate::Gate;
+use crate::rule::{RuledFactory, RuledReader, answered, learnt};
+use access_rules::Addr;
+use history_log::{Front, Naming};
+use slp_answer::{Answer, Call, Sent};
+use std::alloc::Global;
+use std::marker::Model;
+
+/// How far a writer had come. Contracts see it as the history that was published then.
+#[derive(Drop)]
+pub struct Note<J: Naming> {
+    pub(crate) front: Front<J>,
+}
+
+impl<J: Naming> Model for Note<J> {
+    ghost use Rattle.std.specs.Coded.{coded_list};
+    ghost use Rattle.directory_judge.specs.History.{History};
+    ghost use Rattle.history_log.specs.Events.{event_code};
+
+    ghost Value = { History };
+
+    ghost coded = { coded_list event_code };
+
+    ghost view = { λ n. n.front };
+}
+
+/// What answers in one thread, without waiting. Contracts see it as the history that it has seen.
+#[derive(Drop)]
+pub struct LoopView<J: Naming> {
+    // It is there between any two calls.
+    reader: Option<RuledReader<J>>,
+    front: Front<J>,
+    place: usize,
+}
+
+impl<J: Naming> Model for LoopView<J> {
+    ghost use Rattle.std.specs.Prelude.{IsSomeAnd};
+    ghost use Rattle.std.specs.Coded.{coded_list};
+    ghost use Rattle.left_right.specs.Sides.{view as view_of};
+    ghost use Rattle.directory_judge.specs.History.{History};
+    ghost use Rattle.history_log.specs.Pasts.{IsPast};
+    ghost use Rattle.history_log.specs.Events.{event_code};
+
+    ghost Value = { History };
+
+    ghost coded = { coded_list event_code };
+
+    ghost view = { λ l. l.front };
+
+    ghost invariant = { λ l. IsSomeAnd l.reader (λ r. IsPast l.front (view_of r.place)) };
+}
+
+impl<J: Naming> LoopView<J> {
+    /// Answers bytes that ask for no change, in at most `limit` bytes, at one history that was published, which goes on from all that
+    /// was seen before. `own` is the address of the loop that they came to, the moment is in seconds. It takes no lock, and never
+    /// waits. After a refusal the answer is empty; where memory was wanting, what was published counts as seen.
+    pub fn answer<G: Gate>(
+        &mut self,
+        alloc: Global,
+        gate: &G,
+        own: Addr,
+        moment: u32,
+        asker: Addr,
+        bytes: &[u8],
+        limit: usize,
+        answer: &mut Answer,
+    ) -> Result<Sent, ViewFault>
+        requires no_change { is_change_of bytes.now ≡ false }
+        requires datagram { 1400 ≤ limit }
+        requires stream { limit ≤ 65535 }
+        ensures later { IsPast self.old self.new }
+        ensures legal { OnOk result (IsLegal J.opening self.new) }
+        ensures told { IfOk result (λ what. Replies J.opening self.new (record { own = own; moment = moment; asker = asker; bytes = bytes.now; limit = limit }) what answer.new.bytes.items answer.new.audit.items) }
+        ensures no_reply { OnErr result (answer.new.bytes.items ≡ []) }
+        ensures no_line { OnErr result (answer.new.audit.items ≡ []) }
+        ensures closed { IsErrOf result ViewFault.Closed → self.new ≡ self.old }
+        ensures faults { IfErr result (λ e. (e ≡ ViewFault.NoMemory) ⊎ (e ≡ ViewFault.Closed)) }
+    {
+        let call = Call {
+            own,
+            moment,
+            asker,
+            bytes,
+            limit,
+        };
+        let reader = self.reader.take().unwrap();
+        let (reader, entered) = answered(alloc, reader, gate, self.place, &call, answer);
+        self.reader = Some(reader);
+        let (front, sent) = entered?;
+        self.front = front;
+        Ok(sent?)
+    }
+
+    /// Sees no less than the note from now on. It is an entry without an answer.
+    pub fn learn(&mut self, note: &Note<J>) -> Result<(), ViewFault>
+        ensures later { IsPast self.old self.new }
+        ensures learnt { OnOk result (IsPast note.now self.new) }
+        ensures refused { IfErr result (λ e. (e ≡ ViewFault.Closed) × (self.new ≡ self.old)) }
+    {
+        let reader = self.reader.take().unwrap();
+        let (reader, learnt) = learnt(reader, &note.front);
+        self.reader = Some(reader);
+        self.front = learnt?;
+        Ok(())
+    }
+}
+
+/// So many loops, that have seen nothing.
+pub(crate) fn loops_of<J: Naming>(
+    alloc: Global,
+    from: &RuledFactory<J>,
+    front: &Front<J>,
+    loops: usize,
+) -> Result<Vec<LoopView<J>>, ViewFault>
+    requires { front.now ≡ [] }
+    ensures count { IfOk result (λ v. vec_len v ≡ loops) }
+    ensures loops { IfOk result (λ v. All (λ l. l ≡ []) v.items) }
+    ensures faults { IfErr result (λ e. (e ≡ ViewFault.NoMemory) ⊎ (e ≡ ViewFault.NoPlace)) }
+{
+    let mut all = Vec::new(alloc);
+    for place in 0..loops {
+        let Ok(reader) = from.reader() else {
+            return Err(ViewFault::NoPlace);
+        };
+        let one = LoopView {
+            reader: Some(reader),
+            front: front.again(),
+            place,
+        };
+        if all.push(one).is_err() {
+            return Err(ViewFault::NoMemory);
+        }
+    }
+    Ok(all)
+}
