@@ -42,6 +42,8 @@ wrong:
 
 bench:
 	@bench/instructions bin/slpreplay
+	@$(MAKE) $(parallel) bin/view_rows
+	@bench/views bin/view_rows
 	@bench/server bin/slpda
 
 # A crate is proved once those that crates.txt names in its line are: it says so, and what it waited for.
@@ -68,3 +70,4 @@ endef
 $(eval $(call program,slpreplay,0))
 $(eval $(call program,slpda,64))
 $(eval $(call program,slptool,64))
+$(eval $(call program,view_rows,0))

@@ -1,0 +1,84 @@
+//! Runs rows against a directory that is published: a writer, loops, notes, and a directory of its own beside them. A line
+//! `---` parts scenes, of which each begins with a row `open`. `CONTRIBUTING.md` has the rows.
+#![tactic(auto)]
+
+ghost use Rattle.std.specs.Prelude.{◌≡◌, ◌<◌, ◌≤◌};
+ghost use Rattle.std.specs.Arc.{arc_value};
+
+mod entries;
+mod numbers;
+mod opening;
+mod random;
+mod scene;
+mod words;
+
+use crate::opening::{Beginning, read_scene};
+use crate::scene::Scene;
+use access_rules::Rules;
+use directory_judge::Site;
+use history_log::{Naming, Opened};
+use published_view::{ViewFault, open};
+use std::alloc::{AllocError, Global};
+use std::io::{self, Read, Write};
+use std::marker::Brand;
+use std::sync::{Arc, Wait};
+use std::thread::Threads;
+use std::time::Clock;
+
+const END: &str = "---\n";
+
+// The scenes on standard input.
+fn scenes(rt: &HostRuntime) -> io::Result<String> {
+    let mut text = String::new(rt.alloc());
+    rt.reader().read_to_string(&mut text)?;
+    Ok(text)
+}
+
+// Runs the rows of a scene over a writer and so many loops.
+fn run<J, R>(rt: &R, alloc: Global, opened: Opened, begun: Beginning) -> io::Result<Vec<u8>>
+where
+    J: Naming + Send + Sync,
+    R: Threads + Wait + Clock + Sync,
+    requires book { opened.seen.book ≡ J.book }
+    requires opening { J.opening ≡ record { rules = arc_value begun.rules; site = begun.site } }
+{
+    let Beginning {
+        site,
+        rules,
+        loops,
+        plain,
+        rows,
+    } = begun;
+    let mut out = Vec::new(alloc);
+    match open::<J, &R>(alloc, rt, opened, &site, rules, loops) {
+        Ok((writer, views)) => {
+            writeln!(out, "# open {}", views.len())?;
+            let mut scene = Scene::new(rt, alloc, writer, views, plain);
+            scene.run(rows.as_str(), &mut out)?;
+        }
+        Err(fault) => writeln!(out, "! {}", fault as u8)?,
+    }
+    Ok(out)
+}
+
+// Runs a scene, and gives what its rows bring.
+fn run_scene<R>(rt: &R, alloc: Global, scene: &str) -> io::Result<Vec<u8>>
+where
+    R: Threads + Wait + Clock + Sync,
+{
+    let Ok(begun) = read_scene(alloc, scene) else {
+        return Err(AllocError.into());
+    };
+    let opened = Opened::new();
+    run::<Brand, _>(rt, alloc, opened, begun)
+}
+
+fn main(rt: HostRuntime) -> io::Result<()> {
+    let text = scenes(&rt)?;
+    for scene in text.split(END) {
+        let out = run_scene(&rt, rt.alloc(), scene)?;
+        io::writer(&rt).write_all(out.as_slice())?;
+        io::writer(&rt).write_all(END.as_bytes())?;
+    }
+    Ok(())
+}
