@@ -12,7 +12,7 @@ mod random;
 mod scene;
 mod words;
 
-use crate::opening::{Beginning, read_scene};
+use crate::opening::{Beginning, read_head};
 use crate::scene::Scene;
 use access_rules::Rules;
 use directory_judge::Site;
@@ -34,8 +34,13 @@ fn scenes(rt: &HostRuntime) -> io::Result<String> {
     Ok(text)
 }
 
-// Runs the rows of a scene over a writer and so many loops.
-fn run<J, R>(rt: &R, alloc: Global, opened: Opened, begun: Beginning) -> io::Result<Vec<u8>>
+// A writer and so many loops, and what rows do with them.
+fn open_scene<J, R>(
+    rt: &R,
+    alloc: Global,
+    opened: Opened,
+    begun: Beginning,
+) -> Result<Box<Scene<'_, J, R>>, ViewFault>
 where
     J: Naming + Send + Sync,
     R: Threads + Wait + Clock + Sync,
@@ -47,17 +52,42 @@ where
         rules,
         loops,
         plain,
-        rows,
     } = begun;
-    let mut out = Vec::new(alloc);
-    match open::<J, &R>(alloc, rt, opened, &site, rules, loops) {
-        Ok((writer, views)) => {
-            writeln!(out, "# open {}", views.len())?;
-            let mut scene = Scene::new(rt, alloc, writer, views, plain);
-            scene.run(rows.as_str(), &mut out)?;
+    let told = open::<J, &R>(alloc, rt, opened, &site, rules, loops);
+    drop(site);
+    match told {
+        Ok((writer, views)) => Ok(Box::new(alloc, Scene::new(rt, alloc, writer, views, plain))?),
+        Err(fault) => {
+            drop(plain);
+            Err(fault)
         }
-        Err(fault) => writeln!(out, "! {}", fault as u8)?,
     }
+}
+
+// Runs the rows of a scene, and gives what they bring.
+fn run<J, R>(
+    rt: &R,
+    alloc: Global,
+    opened: Opened,
+    begun: Beginning,
+    rows: &String,
+) -> io::Result<Vec<u8>>
+where
+    J: Naming + Send + Sync,
+    R: Threads + Wait + Clock + Sync,
+    requires book { opened.seen.book ≡ J.book }
+    requires opening { J.opening ≡ record { rules = arc_value begun.rules; site = begun.site } }
+{
+    let mut out = Vec::new(alloc);
+    let told = match open_scene::<J, R>(rt, alloc, opened, begun) {
+        Ok(mut scene) => {
+            let told = scene.run(rows.as_str(), &mut out);
+            drop(scene);
+            told
+        }
+        Err(fault) => writeln!(out, "! {}", fault as u8),
+    };
+    told?;
     Ok(out)
 }
 
@@ -66,11 +96,13 @@ fn run_scene<R>(rt: &R, alloc: Global, scene: &str) -> io::Result<Vec<u8>>
 where
     R: Threads + Wait + Clock + Sync,
 {
-    let Ok(begun) = read_scene(alloc, scene) else {
+    let (head, rows) = scene.split_once('\n').unwrap_or((scene, ""));
+    let rows = String::from_str(alloc, rows)?;
+    let Ok(begun) = read_head(alloc, head) else {
         return Err(AllocError.into());
     };
     let opened = Opened::new();
-    run::<Brand, _>(rt, alloc, opened, begun)
+    run::<Brand, _>(rt, alloc, opened, begun, &rows)
 }
 
 fn main(rt: HostRuntime) -> io::Result<()> {

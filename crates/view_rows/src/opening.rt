@@ -33,14 +33,13 @@ rule = [
 /// The directory of a site.
 pub(crate) type Plain = Directory<SiteRegistry>;
 
-/// A site with its rules, how many loops are to be there, a directory of its own, to which the same can be done, and the rows.
+/// A site with its rules, how many loops are to be there, and a directory of its own, to which the same can be done.
 #[derive(Drop)]
 pub(crate) struct Beginning {
     pub site: Site,
     pub rules: Arc<Rules>,
     pub loops: usize,
     pub plain: Box<Plain>,
-    pub rows: String,
 }
 
 fn config(alloc: Global) -> Result<Config, NoMemory>
@@ -79,13 +78,11 @@ fn plain(alloc: Global, site: &Site, rules: &Arc<Rules>) -> Result<Box<Plain>, N
     Ok(Box::new(alloc, directory)?)
 }
 
-/// What a scene says: a line `open LOOPS CAPACITY`, and rows.
-pub(crate) fn read_scene(alloc: Global, scene: &str) -> Result<Beginning, NoMemory> {
-    let (head, rows) = scene.split_once('\n').unwrap_or((scene, ""));
+/// What a line `open LOOPS CAPACITY` says.
+pub(crate) fn read_head(alloc: Global, head: &str) -> Result<Beginning, NoMemory> {
     let (_, numbers) = cut(head);
     let (loops, capacity) = cut(numbers);
     let capacity = (number_of(capacity, 65_536) as usize).max(1);
-    let rows = String::from_str(alloc, rows)?;
     let site = site(alloc, capacity)?;
     let rules = Arc::new(alloc, rules_of(alloc, OPENING_RULES)?)?;
     let plain = plain(alloc, &site, &rules)?;
@@ -94,6 +91,5 @@ pub(crate) fn read_scene(alloc: Global, scene: &str) -> Result<Beginning, NoMemo
         rules,
         loops: number_of(loops, 100) as usize,
         plain,
-        rows,
     })
 }

@@ -4,7 +4,7 @@ use crate::words::{address_of, cut, message_of, number_of};
 use access_rules::Addr;
 use history_log::Naming;
 use published_view::{DirectoryWriter, Gate, LoopView, Note, OpenGate, ViewFault};
-use slp_answer::{Answer, Call, Sent, is_change, step};
+use slp_answer::{Answer, Call, Sent, is_change, reply, step};
 use slp_text::NoMemory;
 use std::alloc::Global;
 use std::io::{self, Write};
@@ -35,12 +35,22 @@ pub(crate) struct Scene<'r, J: Naming, R: Wait> {
     asker: Addr,
     // The lines of a block that has begun.
     block: Option<String>,
+    // Nothing is printed of messages.
+    is_quiet: bool,
 }
 
-// Prints an answer: the bytes of the reply, and its line.
-fn print_answer<W: Write>(out: &mut W, told: Result<Sent, u8>, answer: &Answer) -> io::Result<()> {
+// Prints an answer, the bytes of the reply and its line, or its fault, which is printed also where nothing else is.
+fn print_answer<W: Write>(
+    out: &mut W,
+    told: Result<Sent, u8>,
+    answer: &Answer,
+    is_quiet: bool,
+) -> io::Result<()> {
     if let Err(fault) = told {
         return writeln!(out, "! {fault}");
+    }
+    if is_quiet {
+        return Ok(());
     }
     out.write_all(b"> ")?;
     if answer.bytes.is_empty() {
@@ -105,6 +115,7 @@ impl<'r, J: Naming, R: Wait> Scene<'r, J, R> {
             moment: 0,
             asker: Addr(0x0a00_0001),
             block: None,
+            is_quiet: false,
         }
     }
 
@@ -141,7 +152,17 @@ impl<'r, J: Naming, R: Wait> Scene<'r, J, R> {
         let Some(view) = self.views.get_mut(self.place) else {
             return Err(0);
         };
-        match ask(self.alloc, view, &OpenGate, asked_now, &mut self.answer) {
+        let told = view.answer(
+            self.alloc,
+            &OpenGate,
+            OWN,
+            moment,
+            asker,
+            bytes,
+            DATAGRAM,
+            &mut self.answer,
+        );
+        match told {
             Ok(sent) => Ok(sent),
             Err(fault) => Err(fault as u8),
         }
@@ -149,14 +170,33 @@ impl<'r, J: Naming, R: Wait> Scene<'r, J, R> {
 
     /// The same bytes, as one directory answers them.
     pub(crate) fn step(&mut self, asked_now: &Asked<'_>) -> Result<Sent, u8> {
+        let Asked {
+            moment,
+            asker,
+            bytes,
+        } = *asked_now;
         let call = Call {
             own: OWN,
-            moment: asked_now.moment,
-            asker: asked_now.asker,
-            bytes: asked_now.bytes,
+            moment,
+            asker,
+            bytes,
             limit: DATAGRAM,
         };
-        match step(self.alloc, &mut *self.plain, &call, &mut self.plain_answer) {
+        let told = if is_change(bytes) {
+            step(self.alloc, &mut *self.plain, &call, &mut self.plain_answer)
+        } else {
+            reply(
+                self.alloc,
+                &*self.plain,
+                OWN,
+                moment,
+                asker,
+                bytes,
+                DATAGRAM,
+                &mut self.plain_answer,
+            )
+        };
+        match told {
             Ok(sent) => Ok(sent),
             Err(NoMemory) => Err(2),
         }
@@ -230,6 +270,7 @@ where
             "at" => self.moment = number_of(rest, u32::MAX),
             "from" => self.asker = address_of(rest),
             "rules" => self.block = Some(String::new(self.alloc)),
+            "quiet" => self.is_quiet = true,
             "#" | "" => {}
             _ => writeln!(out, "? {word}")?,
         }
@@ -240,14 +281,15 @@ where
     fn tell(&mut self, word: &str, rest: &str, out: &mut Vec<u8>) -> io::Result<()> {
         let bytes = message_of(self.alloc, rest)?;
         let asked_now = self.asked_now(bytes.as_slice());
+        let is_quiet = self.is_quiet;
         match word {
             "send" => {
                 let told = self.send(&asked_now);
-                print_answer(out, told, &self.answer)
+                print_answer(out, told, &self.answer, is_quiet)
             }
             "step" => {
                 let told = self.step(&asked_now);
-                print_answer(out, told, &self.plain_answer)
+                print_answer(out, told, &self.plain_answer, is_quiet)
             }
             _ => Ok(()),
         }
@@ -282,6 +324,7 @@ where
 
     /// Runs rows, and prints what each brings.
     pub(crate) fn run(&mut self, rows: &str, out: &mut Vec<u8>) -> io::Result<()> {
+        writeln!(out, "# open {}", self.views.len())?;
         for line in rows.lines() {
             match self.block.take() {
                 Some(block) => self.read_line(block, line, out)?,
