@@ -6,6 +6,6 @@ mod book;
 mod front;
 mod happening;
 
-pub use book::{Add, Book, Law, Naming, Nothing, Opened};
+pub use book::{Book, Law, Naming, Opened};
 pub use front::{Front, Trail};
-pub use happening::{Happened, Happening, Names};
+pub use happening::{Happened, Happening};

@@ -15,33 +15,38 @@ use Rattle.slp_answer.specs.Answers.{Acknowledges}
 use Rattle.slp_answer.specs.declared.answer.Sent.{Sent}
 use Rattle.published_view.specs.Changes.{IsChanged, event_or_sweep, sweep_at}
 
-module _ (o : Opening) (h : History) (m asker : ℕ) (bytes : List ℕ) (what : Sent) (reply line : List ℕ) where
-  module _ (legal : IsLegal o h) (c : Change) (told : Acknowledges o h m asker bytes what (Some c) reply line) where
-    it_is : event_or_sweep o h m asker bytes ≡ told.handed.0
+module _ {o : Opening} {h : History} {m asker : ℕ} {bytes : List ℕ} {what : Sent} {change : Option Change} {reply line : List ℕ} (told : Acknowledges o h m asker bytes what change reply line) where
+  module _ (legal : IsLegal o h) (c : Change) (is : change ≡ Some c) where
+    made : Acknowledges o h m asker bytes what (Some c) reply line
+    made = subst (λ (x : Option Change). Acknowledges o h m asker bytes what x reply line) is told
+
+    it_is : event_or_sweep o h m asker bytes ≡ made.handed.0
     it_is =
-        let asked = event_is_asked o h (state_after o h) (Fold-events o h legal) (call_anywhere m asker bytes) told.outcome told.event (told.is 0 0) in
-        ap (λ (x : Option Event). unwrap_or x (sweep_at m)) (sym asked ∙ told.handed.1)
+        let asked = event_is_asked o h (state_after o h) (Fold-events o h legal) (call_anywhere m asker bytes) made.outcome made.event (made.is 0 0) in
+        ap (λ (x : Option Event). unwrap_or x (sweep_at m)) (sym asked ∙ made.handed.1)
 
     pub handed_out : IsLegal o (event_or_sweep o h m asker bytes ∷ h) × StandsFor h (content c) (event_or_sweep o h m asker bytes)
     handed_out = (
-      subst (λ (e : Event). IsLegal o (e ∷ h)) (sym it_is) told.handed.3,
-      subst (λ (e : Event). StandsFor h (content c) e) (sym it_is) told.handed.2,
+      subst (λ (e : Event). IsLegal o (e ∷ h)) (sym it_is) made.handed.3,
+      subst (λ (e : Event). StandsFor h (content c) e) (sym it_is) made.handed.2,
     )
 
     pub changed_so : (after : History) → after ≡ event_or_sweep o h m asker bytes ∷ h → IsChanged o h m asker bytes what reply line after
-    changed_so after is = record {
-      outcome = told.outcome;
-      event = told.event;
-      is = told.is;
-      told = told.told;
-      left = is ∙ (ap (λ (e : Event). e ∷ h) it_is ∙ ap (λ (x : Option Event). history_with x h) (sym told.handed.1));
+    changed_so after left = record {
+      outcome = made.outcome;
+      event = made.event;
+      is = made.is;
+      told = made.told;
+      left = left ∙ (ap (λ (e : Event). e ∷ h) it_is ∙ ap (λ (x : Option Event). history_with x h) (sym made.handed.1));
     }
 
-  pub unchanged : Acknowledges o h m asker bytes what None reply line → (after : History) → after ≡ h → IsChanged o h m asker bytes what reply line after
-  unchanged told after is = record {
-    outcome = told.outcome;
-    event = told.event;
-    is = told.is;
-    told = told.told;
-    left = is ∙ ap (λ (x : Option Event). history_with x h) (sym told.handed);
-  }
+  pub unchanged : change ≡ None → IsChanged o h m asker bytes what reply line h
+  unchanged none =
+      let kept : Acknowledges o h m asker bytes what None reply line = subst (λ (x : Option Change). Acknowledges o h m asker bytes what x reply line) none told in
+      record {
+        outcome = kept.outcome;
+        event = kept.event;
+        is = kept.is;
+        told = kept.told;
+        left = ap (λ (x : Option Event). history_with x h) (sym kept.handed);
+      }

@@ -1,13 +1,12 @@
 -- A step that only goes on from the published history keeps the rule.
-use Rattle.std.proofs.Common.{◌≡◌, ℕ, max, arith, ◌≢◌, List, [], ◌∷◌, ◌++◌, refl, sym, ap, ◌∙◌, subst, ⊎_elim}
+use Rattle.std.proofs.Common.{◌≡◌, ℕ, ◌≢◌, List, [], ◌∷◌, ◌++◌, refl, sym, ap, ◌∙◌, subst, ⊎_elim}
 use mathlib.Core.Option.{some, some-ne-none}
 use lib.ListN.{get_elem?}
 use Rattle.logbook.specs.Pages.{Book}
 use Rattle.left_right.specs.Register.{Admits, TurnsAt}
 use Rattle.atomic_table.proofs.Lists.{at_set, at_snoc}
 use Rattle.directory_judge.specs.Contents.{content}
-use Rattle.access_rules.specs.Deciding.{SiteRules}
-use Rattle.directory_judge.specs.History.{History, Sweep, Reload, now}
+use Rattle.directory_judge.specs.History.{History}
 use Rattle.directory_questions.specs.Calls.{Opening}
 use Rattle.directory_questions.specs.Verdicts.{IsLegal}
 use Rattle.history_log.specs.Pasts.{IsPast}
@@ -66,14 +65,3 @@ module _ (book : Book) (o : Opening) where
     legal = subst (λ (h : History). IsLegal o h) (sym empty) tt;
     left = is ∙ ap (λ (h : History). state_after o h) (sym empty);
   }
-
-  -- the moment at which a call acts
-  pub acts_at : (k : PublishedCopy) (m n : ℕ) → IsAfter book o k → n ≡ max m k.directory.clock → n ≡ now (history_of k) m
-  acts_at k m n is at = at ∙ ap (max m) (folded k is).clocks
-
-  -- what the operator does at it is legal
-  pub sweep_is_legal : (k : PublishedCopy) (m n : ℕ) → IsAfter book o k → n ≡ max m k.directory.clock → IsLegal o (record { moment = n; act = Sweep } ∷ history_of k)
-  sweep_is_legal k m n is at = (omega (arith, acts_at k m n is at), tt, is.legal)
-
-  pub reload_is_legal : (k : PublishedCopy) (m n : ℕ) (rs : SiteRules) → IsAfter book o k → n ≡ max m k.directory.clock → IsLegal o (record { moment = n; act = Reload rs } ∷ history_of k)
-  reload_is_legal k m n rs is at = (omega (arith, acts_at k m n is at), tt, is.legal)

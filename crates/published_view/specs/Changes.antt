@@ -2,6 +2,7 @@
 use Rattle.std.specs.Prelude.{◌≡◌, ℕ, Bool, false, List, Option, unwrap_or, refl}
 use Rattle.std.specs.Coded.{Coded, code_by, coded×, coded_bool, coded_list}
 use Rattle.slp_headers.specs.Headers.{heading_of}
+use Rattle.access_rules.specs.Deciding.{SiteRules}
 use Rattle.directory_judge.specs.Contents.{Content, Stores, Edits, Withdraws, Sweeps, Reloads}
 use Rattle.directory_judge.specs.History.{Event, History, Sweep, Reload}
 use Rattle.directory_judge.specs.Meaning.{rules}
@@ -40,6 +41,9 @@ pub record IsChanged (o : Opening) (h : History) (m asker : ℕ) (bytes : List �
 abbrev pub sweep_at : ℕ → Event
 sweep_at moment = record { moment = moment; act = Sweep }
 
+abbrev pub reload_at : ℕ → SiteRules → Event
+reload_at moment rs = record { moment = moment; act = Reload rs }
+
 -- the event that bytes ask for at a history, and a sweep where they ask for none
 abbrev pub event_or_sweep : Opening → History → ℕ → ℕ → List ℕ → Event
 event_or_sweep o h m asker bytes = unwrap_or (event_asked (state_after o h) m asker bytes) (sweep_at m)
@@ -47,7 +51,7 @@ event_or_sweep o h m asker bytes = unwrap_or (event_asked (state_after o h) m as
 -- the event of a change of the operator's, which is a sweep or a reload
 abbrev pub event_of_operator : Content → Event
 event_of_operator (Sweeps m) = sweep_at m
-event_of_operator (Reloads m rs) = record { moment = m; act = Reload rs }
+event_of_operator (Reloads m rs) = reload_at m rs
 event_of_operator (Stores m e) = sweep_at m
 event_of_operator (Edits m e) = sweep_at m
 event_of_operator (Withdraws m w) = sweep_at m

@@ -10,7 +10,6 @@ mod rule;
 mod view;
 mod writer;
 
-pub use copies::{AgentDirectory, Operation, PublishedCopy, Step};
 pub use fault::ViewFault;
 pub use gate::{Gate, OpenGate};
 pub use history_log::{Naming, Opened};

@@ -1,12 +1,12 @@
 //! The writer: what changes the directory, and publishes it.
 ghost use Rattle.std.specs.Prelude.{◌≡◌, ◌⊎◌, ◌↔◌, [], ◌∷◌, true, false, IsOkAnd, IfOk, IfErr, OnOk, OnErr, IsErrOf, Some};
 ghost use Rattle.directory_judge.specs.Contents.{content};
-ghost use Rattle.directory_judge.specs.History.{Reload, now};
+ghost use Rattle.directory_judge.specs.History.{now};
 ghost use Rattle.directory_questions.specs.Answers.{is_change_of};
 ghost use Rattle.directory_questions.specs.Verdicts.{IsLegal};
 ghost use Rattle.directory_state.specs.Folds.{StandsFor};
 ghost use Rattle.history_log.specs.Events.{history_in};
-ghost use Rattle.published_view.specs.Changes.{IsChanged, at_history, event_or_sweep, sweep_at};
+ghost use Rattle.published_view.specs.Changes.{IsChanged, at_history, event_or_sweep, reload_at, sweep_at};
 ghost use Rattle.published_view.specs.Rules.{NextOf};
 
 use crate::copies::{PublishedCopy, Step};
@@ -200,7 +200,7 @@ impl<J: Naming, R: Wait + Drop> DirectoryWriter<J, R> {
     /// Publishes a reload: from a moment on, in seconds, or from the clock on where that is greater, these rules decide. A refusal consumes
     /// them.
     pub fn reload(&mut self, alloc: Global, moment: u32, rules: Rules) -> Result<(), ViewFault>
-        ensures made { OnOk result (self.new ≡ at_history (record { moment = now self.old.history moment; act = Reload rules } ∷ self.old.history)) }
+        ensures made { OnOk result (self.new ≡ at_history (reload_at (now self.old.history moment) rules ∷ self.old.history)) }
         ensures kept { OnErr result (self.new.history ≡ self.old.history) }
         ensures closed { IsErrOf result ViewFault.Closed ↔ (self.old.is_shut ≡ true) }
         ensures stays_shut { self.old.is_shut ≡ true → self.new.is_shut ≡ true }

@@ -1,33 +1,15 @@
-use Rattle.std.proofs.Common.{◌≡◌, ◌∷◌, ap, ◌∙◌, subst, false}
-use Rattle.directory_judge.specs.History.{Act, History, Reload, now}
-use Rattle.directory_questions.specs.Verdicts.{IsLegal}
-use Rattle.published_view.specs.Changes.{Writing}
-use Rattle.published_view.specs.Rules.{IsAfter, history_of}
+use Rattle.std.proofs.Common.{◌∷◌, ap, ◌∙◌}
 use Rattle.std.specs.Prelude.{ℕ}
 use Rattle.access_rules.specs.Deciding.{SiteRules}
-use Rattle.published_view.proofs.Turns.{acts_at, reload_is_legal}
+use Rattle.published_view.specs.Changes.{at_history, reload_at}
+use Rattle.published_view.proofs.Writers.{acts_at, published, reload_is_legal}
 use Rattle.published_view.proofs.writer.DirectoryWriter.reload.Goals as goal
 
-abbrev with_event : History → ℕ → Act → Writing
-with_event h n a = record { history = record { moment = n; act = a } ∷ h; is_shut = false }
-
 pub put_out-requires-clause-legal : goal.put_out-requires-clause-legal
-put_out-requires-clause-legal g c =
-    let book = g.J.Naming.book in
-    let o = g.J.Naming.opening in
-    let own = c.self.inside.own in
-    let h = c.args.self.now.history in
-    let after : IsAfter book o own = c.self.invariant.1 in
-    let same : history_of own ≡ h = ap (λ (w : Writing). w.history) c.self.view_is in
-    subst (λ (x : History). IsLegal o (record { moment = c.now-now.result; act = Reload c.args.rules } ∷ x)) same (reload_is_legal book o own c.args.moment c.now-now.result c.args.rules after c.now-now.ensures)
+put_out-requires-clause-legal g c = reload_is_legal c.self.inside.own c.args.self.now.history c.self.invariant.1 (ap published c.self.view_is) c.args.moment c.now-now.result c.now-now.ensures c.args.rules
 
 pub returns-clause-made : goal.returns-clause-made
 returns-clause-made g c =
-    let book = g.J.Naming.book in
-    let o = g.J.Naming.opening in
-    let own = c.self.inside.own in
     let h = c.args.self.now.history in
-    let after : IsAfter book o own = c.self.invariant.1 in
-    let same : history_of own ≡ h = ap (λ (w : Writing). w.history) c.self.view_is in
-    let at : c.now-now.result ≡ now h c.args.moment = subst (λ (x : History). c.now-now.result ≡ now x c.args.moment) same (acts_at book o own c.args.moment c.now-now.result after c.now-now.ensures) in
-    c.in_ok-put_out.ensures.made ∙ (ap (λ (rs : SiteRules). with_event h c.now-now.result (Reload rs)) c.in_ok-rules.ensures.ok ∙ ap (λ (n : ℕ). with_event h n (Reload c.args.rules)) at)
+    let at = acts_at c.self.inside.own h c.self.invariant.1 (ap published c.self.view_is) c.args.moment c.now-now.result c.now-now.ensures in
+    c.in_ok-put_out.ensures.made ∙ (ap (λ (rs : SiteRules). at_history (reload_at c.now-now.result rs ∷ h)) c.in_ok-rules.ensures.ok ∙ ap (λ (n : ℕ). at_history (reload_at n c.args.rules ∷ h)) at)
