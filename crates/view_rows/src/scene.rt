@@ -4,7 +4,7 @@ use crate::words::{address_of, cut, message_of, number_of};
 use access_rules::Addr;
 use history_log::Naming;
 use published_view::{DirectoryWriter, Gate, LoopView, Note, OpenGate, ViewFault};
-use slp_answer::{Answer, Call, Sent, is_change, reply, step};
+use slp_answer::{Answer, Call, Sent, is_change, step};
 use slp_text::NoMemory;
 use std::alloc::Global;
 use std::io::{self, Write};
@@ -37,6 +37,8 @@ pub(crate) struct Scene<'r, J: Naming, R: Wait> {
     block: Option<String>,
     // Nothing is printed of messages.
     is_quiet: bool,
+    // How many changes the directory of its own was asked for.
+    changes: u64,
 }
 
 // Prints an answer, the bytes of the reply and its line, or its fault, which is printed also where nothing else is.
@@ -116,6 +118,7 @@ impl<'r, J: Naming, R: Wait> Scene<'r, J, R> {
             asker: Addr(0x0a00_0001),
             block: None,
             is_quiet: false,
+            changes: 0,
         }
     }
 
@@ -182,20 +185,9 @@ impl<'r, J: Naming, R: Wait> Scene<'r, J, R> {
             bytes,
             limit: DATAGRAM,
         };
-        let told = if is_change(bytes) {
-            step(self.alloc, &mut *self.plain, &call, &mut self.plain_answer)
-        } else {
-            reply(
-                self.alloc,
-                &*self.plain,
-                OWN,
-                moment,
-                asker,
-                bytes,
-                DATAGRAM,
-                &mut self.plain_answer,
-            )
-        };
+        // It costs what the agent pays to tell a change from a question.
+        self.changes = self.changes.saturating_add(u64::from(is_change(bytes)));
+        let told = step(self.alloc, &mut *self.plain, &call, &mut self.plain_answer);
         match told {
             Ok(sent) => Ok(sent),
             Err(NoMemory) => Err(2),
