@@ -1,9 +1,9 @@
 -- Beginnings of one log, and the histories that they tell.
-use Rattle.std.proofs.Common.{◌≡◌, ℕ, ◌+◌, ◌≤◌, List, [], ◌∷◌, ◌++◌, length, refl, ap, sym, ◌∙◌, arith}
+use Rattle.std.proofs.Common.{◌≡◌, ◌≤◌, List, [], ◌∷◌, length, refl, ap, sym, ◌∙◌, arith}
 use Rattle.std.specs.Prelude.{reverse}
-use Rattle.std.proofs.lemmas.List.{reverse-append, length-reverse}
+use Rattle.std.proofs.lemmas.List.{reverse-append}
 use mathlib.Core.List.{IsPrefix}
-use Rattle.directory_judge.specs.History.{Event, History}
+use Rattle.directory_judge.specs.History.{Event}
 use Rattle.history_log.specs.Pasts.{IsPast}
 use Rattle.history_log.specs.Events.{history_in}
 
@@ -28,10 +28,3 @@ prefix_whole (x ∷ xs) (y ∷ ys) p le =
 -- the history of a beginning is a past
 pub past_of_prefix : (xs ys : List Event) → IsPrefix xs ys → IsPast (history_in xs) (history_in ys)
 past_of_prefix xs ys p = (reverse p.0, sym (reverse-append xs p.0) ∙ ap (λ (l : List Event). reverse l) p.1)
-
--- the event that was added last is the newest
-pub history-added : (xs : List Event) (c : Event) → history_in (xs ++ c ∷ []) ≡ c ∷ history_in xs
-history-added xs c = reverse-append xs (c ∷ [])
-
-pub history-length : (xs : List Event) → length (history_in xs) ≡ length xs
-history-length xs = length-reverse xs
