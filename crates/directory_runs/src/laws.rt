@@ -13,7 +13,7 @@ ghost use Rattle.directory_runs.specs.Runs.{Learn, Reply, Run, IsRun, world};
 /// published state, which begins with all that the loop had seen and was told; a reply of code 0 without the flag holds exactly
 /// the live entries that match and that scopes and rules open to its asker there. A change is published exactly where template,
 /// scope and rules allow it. Every denial carries its code, and its line names its rule. What is answered for want of memory
-/// is no part of it (`Look` and `Refusal` change nothing); moments and addresses are those that calls are made with.
+/// is no part of it (`Look` and `Refusal` publish nothing); moments and addresses are those that calls are made with.
 pub fn what_users_are_promised()
     ensures { (o : Opening) (run : Run) → IsRun o run → IsKeptThroughout o run }
 {}
