@@ -4,7 +4,7 @@ use Rattle.std.specs.FinMap as fin
 use Rattle.access_rules.specs.Deciding.{SiteRules, no_rules}
 use Rattle.access_rules.specs.RuleFiles.{rules_in_text}
 use Rattle.directory_judge.specs.Sites.{Site}
-use Rattle.directory_state.specs.State.{State, opening_state}
+use Rattle.site_config.specs.Configurations.{IsWithin}
 use Rattle.site_config.specs.declared.config.Config.{Config}
 use Rattle.slp_text.specs.Reading.{read_then}
 use Rattle.srv_template.specs.Conformity.{SiteTemplates}
@@ -34,8 +34,9 @@ AreTemplates number templates = (texts : List (List ℕ)) × (length texts ≡ n
 abbrev pub site_with : Config → SiteTemplates → ℕ → Site
 site_with c templates boot = record { scopes = c.scopes; capacity = c.capacity; templates = templates; boot = boot }
 
--- the directory of a configuration, with the rules and templates of its files, to which nothing happened
-pub record IsOpened (c : Config) (boot : ℕ) (s : State) : Type 0 where
-  pub rules : AreRules c.rules s.rules
-  pub templates : AreTemplates (length c.templates) s.site.templates
-  pub new : s ≡ opening_state (record { rules = s.rules; site = site_with c s.site.templates boot })
+-- what a server begins with: a configuration, and the rules and templates of the files that it names
+pub record IsBegun (c : Config) (boot : ℕ) (deciding : SiteRules) (opened : Site) : Type 0 where
+  pub limits : IsWithin c
+  pub rules : AreRules c.rules deciding
+  pub templates : AreTemplates (length c.templates) opened.templates
+  pub site : opened ≡ site_with c opened.templates boot

@@ -7,6 +7,7 @@ use Rattle.site_config.specs.declared.fault.ConfigFault.TheVariants as config_fa
 use Rattle.srv_template.specs.declared.fault.ParseFault.{ParseFault}
 use Rattle.srv_template.specs.declared.fault.ParseFault.TheVariants as template_fault
 use Rattle.site_reports.specs.Reports.{config_fault_text, rule_fault_text, ruled_text, template_fault_text}
+use Rattle.published_view.specs.declared.fault.ViewFault.{ViewFault}
 use Rattle.slp_loops.specs.declared.fault.LoopFault.{LoopFault}
 use Rattle.slp_loops.specs.declared.fault.LoopFault.TheVariants as loop_fault
 use Rattle.slp_text.specs.Ascii.{line_feed}
@@ -38,11 +39,16 @@ reload_text (Err (Rules e)) = rule_fault_text e
 reload_text (Err (Template e)) = codes "! file" ++ line_feed ∷ []
 reload_text (Err NoMemory) = rule_fault_text rule_fault.NoMemory
 
--- the status of an agent whose loop ended
-abbrev pub end_status : Result (Unit {0}) LoopFault → ℕ
-end_status (Ok x) = 0
-end_status (Err loop_fault.Io) = 1
-end_status (Err loop_fault.NoMemory) = 3
+-- what the console prints of a sweep; a writer that is shut wants memory too
+abbrev pub sweep_text : Result (Unit {0}) ViewFault → List ℕ
+sweep_text (Ok x) = codes "# sweep" ++ line_feed ∷ []
+sweep_text (Err e) = codes "! memory" ++ line_feed ∷ []
+
+-- the status of an agent one of whose loops ended, beside those that ended before it
+abbrev pub end_status : ℕ → Result (Unit {0}) LoopFault → ℕ
+end_status before (Ok x) = before
+end_status before (Err loop_fault.Io) = 1
+end_status before (Err loop_fault.NoMemory) = 3
 
 -- why it does not start where a file is refused, or a loop is; want of memory is one thing wherever it is met
 abbrev pub config_start : ConfigFault → StartFault

@@ -1,19 +1,21 @@
 //! The words on standard input.
-ghost use Rattle.std.specs.Prelude.{◌≤◌, length, IfOk, OnOk};
+ghost use Rattle.std.specs.Prelude.{◌≡◌, ◌≤◌, length, IfOk, OnOk};
 ghost use Rattle.std.specs.Io.KnownBytes.{Appends};
-ghost use Rattle.agent_program.specs.Statuses.{reload_text};
+ghost use Rattle.agent_program.specs.Statuses.{reload_text, sweep_text};
 
 use crate::fault::StartFault;
 use crate::opening;
+use crate::threads::Task;
 use access_rules::{RuleFault, Rules};
+use published_view::{DirectoryWriter, Naming, ViewFault};
 use site_reports::print_rules;
-use slp_loops::{Moments, Shared, WallClock};
+use slp_loops::{Moments, WallClock};
 use slp_text::Text;
 use std::alloc::Global;
 use std::io::{self, ErrorKind, Read, Write};
 use std::rt::Files;
 use std::sync::atomic::{AtomicBool, Ordering};
-use std::sync::{Arc, Mutex, Wait};
+use std::sync::{Mutex, Wait};
 use std::time::Clock;
 
 /// The bytes of a line that are kept: more than any word has.
@@ -31,12 +33,13 @@ enum Word {
     Unknown,
 }
 
-/// What reads the words and acts on them: the directory and the output, the rule file and the clock.
+/// What reads the words and acts on them: the writer and the output, which it shares with the loops, the rule file and the clock.
 #[derive(Drop)]
-pub(crate) struct Console<'r, 's, R: Wait + Clock, I: Read, W: Write> {
+pub(crate) struct Console<'r, 's, J: Naming, R: Wait + Clock, I: Read, W: Write> {
     pub rt: &'r R,
     pub alloc: Global,
-    pub shared: Shared<'s, W>,
+    pub writer: &'s Mutex<DirectoryWriter<J, &'r R>>,
+    pub output: &'s Mutex<W>,
     pub rules: Option<&'s Text>,
     pub clock: WallClock<'r, R>,
     pub input: &'s Mutex<I>,
@@ -103,15 +106,26 @@ fn print_reload<W: Write>(told: Result<usize, StartFault>, writer: &mut W) -> io
     }
 }
 
-impl<'r, 's, R, I, W> Console<'r, 's, R, I, W>
+// What is printed of a sweep.
+fn sweep_line(told: Result<(), ViewFault>) -> &'static str
+    ensures { result.now ≡ sweep_text told }
+{
+    match told {
+        Ok(()) => "# sweep\n",
+        Err(_) => "! memory\n",
+    }
+}
+
+impl<'r, 's, J, R, I, W> Console<'r, 's, J, R, I, W>
 where
+    J: Naming,
     R: Files + Wait + Clock,
     I: Read,
     W: Write,
 {
     // Prints a line, which is out at once. A failing write is ignored, as for every line of an agent.
-    pub(crate) fn print(&self, line: &str) {
-        let mut output = self.shared.output.lock(self.rt);
+    fn print(&self, line: &str) {
+        let mut output = self.output.lock(self.rt);
         let _ = output.write_all(line.as_bytes());
         let _ = output.flush();
     }
@@ -119,10 +133,9 @@ where
     // Lets these rules decide from now on, and answers how many there are.
     fn put(&mut self, rules: Rules) -> Result<usize, StartFault> {
         let number = rules.len();
-        let rules = Arc::new(self.alloc, rules)?;
         let moment = self.clock.now();
-        let mut directory = self.shared.directory.lock(self.rt);
-        directory.reload(moment, rules);
+        let mut writer = self.writer.lock(self.rt);
+        writer.reload(self.alloc, moment, rules)?;
         Ok(number)
     }
 
@@ -132,18 +145,18 @@ where
             Ok(rules) => self.put(rules),
             Err(fault) => Err(fault),
         };
-        let mut output = self.shared.output.lock(self.rt);
+        let mut output = self.output.lock(self.rt);
         let _ = print_reload(told, &mut *output);
         let _ = output.flush();
     }
 
-    // Drops what is dead.
+    // Drops what has expired.
     fn sweep(&mut self) {
         let moment = self.clock.now();
-        let mut directory = self.shared.directory.lock(self.rt);
-        directory.sweep(moment);
-        drop(directory);
-        self.print("# sweep\n");
+        let mut writer = self.writer.lock(self.rt);
+        let told = writer.sweep(moment);
+        drop(writer);
+        self.print(sweep_line(told));
     }
 
     // Does what a line asks for, and answers whether it is not `stop`.
@@ -201,9 +214,17 @@ where
             self.act(line.word());
         }
     }
+}
 
-    /// Says that the agent is ready, acts on each line until one is `stop` or the input ends, and sets the flag.
-    pub(crate) fn run(&mut self, stop: &AtomicBool) {
+impl<'r, 's, J, R, I, W> Task for Console<'r, 's, J, R, I, W>
+where
+    J: Naming,
+    R: Files + Wait + Clock,
+    I: Read,
+    W: Write,
+{
+    // Says that the agent is ready, acts on each line until one is `stop` or the input ends, and sets the flag.
+    fn run(&mut self, stop: &AtomicBool) {
         self.print("ready\n");
         self.act_on_lines();
         stop.store(true, Ordering::SeqCst);

@@ -4,6 +4,7 @@ ghost use Rattle.agent_program.specs.Statuses.{start_status, start_text};
 ghost use Rattle.agent_program.specs.declared.fault.StartFault.TheVariants as start;
 
 use access_rules::RuleFault;
+use published_view::ViewFault;
 use site_config::ConfigFault;
 use site_reports::{print_config_fault, print_rules_fault, print_template_fault};
 use slp_loops::LoopFault;
@@ -68,6 +69,15 @@ impl From<NoMemory> for StartFault {
     ghost from_gives = { λ _ e. e ≡ start.NoMemory };
 
     fn from(_e: NoMemory) -> StartFault {
+        StartFault::NoMemory
+    }
+}
+
+// A place for each loop is there, so memory was wanting.
+impl From<ViewFault> for StartFault {
+    ghost from_gives = { λ _ e. e ≡ start.NoMemory };
+
+    fn from(_e: ViewFault) -> StartFault {
         StartFault::NoMemory
     }
 }

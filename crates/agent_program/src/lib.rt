@@ -1,4 +1,4 @@
-//! The program `slpda`: a directory agent that listens at the address of its configuration.
+//! The program `slpda`: a directory agent that listens at the addresses of its configuration.
 #![tactic(auto)]
 
 mod console;
@@ -6,5 +6,9 @@ mod fault;
 mod files;
 mod opening;
 mod program;
+mod starting;
+mod sweeping;
+mod threads;
 
 pub use program::agent_run;
+pub use starting::{Ends, start_loops};

@@ -1,37 +1,27 @@
 //! What an agent starts with: its configuration, its rules and its templates, read in this order.
-ghost use Rattle.std.specs.Prelude.{◌≡◌, ◌<◌, ◌≤◌, length, Ok, IfOk, OnOk};
-ghost use Rattle.std.specs.FinMap as fin;
+ghost use Rattle.std.specs.Prelude.{◌≡◌, length, Ok, IfOk, OnOk};
+ghost use Rattle.std.specs.Arc.{arc_value};
 ghost use Rattle.access_rules.specs.RuleFiles.{rules_in_text};
-ghost use Rattle.agent_program.specs.Openings.{AreRules, AreTemplates, IsOpened, site_with, templates_and};
-ghost use Rattle.directory_state.specs.State.{opening_state};
-ghost use Rattle.table_registry.specs.Tables.{contents_of};
+ghost use Rattle.agent_program.specs.Openings.{AreRules, AreTemplates, IsBegun, site_with, templates_and};
 ghost use Rattle.site_config.specs.Configurations.{IsWithin};
 
 use crate::fault::StartFault;
 use crate::files;
 use access_rules::Rules;
 use directory_judge::Site;
-use directory_state::Directory;
-use registry_core::RegistryFault;
-use site_config::{Config, ConfigFault};
+use site_config::Config;
 use slp_text::Text;
 use srv_template::{Template, Templates};
 use std::alloc::Global;
 use std::rt::Files;
 use std::sync::Arc;
-use table_registry::SiteRegistry;
 
-/// The configuration in a file. For now it has one address.
-pub(crate) fn config<R: Files>(rt: &R, alloc: Global, path: &str) -> Result<Config, StartFault>
-    ensures limits { IfOk result IsWithin }
-    ensures one { IfOk result (λ c. length c.listen ≡ 1) }
+// The configuration in a file.
+fn config<R: Files>(rt: &R, alloc: Global, path: &str) -> Result<Config, StartFault>
+    ensures { IfOk result IsWithin }
 {
     let text = files::read(rt, alloc, path)?;
-    let config = Config::from_text(alloc, text.as_str())?;
-    if config.listen.as_slice().len() != 1 {
-        return Err(StartFault::Config(ConfigFault::Range));
-    }
-    Ok(config)
+    Ok(Config::from_text(alloc, text.as_str())?)
 }
 
 // The rules that a text reads as.
@@ -94,42 +84,50 @@ fn site(alloc: Global, config: &Config, templates: Templates, boot: u32) -> Resu
     Ok(Site::new(scopes, config.capacity, templates, boot))
 }
 
-// A registry with so much room.
-fn registry(alloc: Global, capacity: usize) -> Result<SiteRegistry, StartFault>
-    requires some { 0 < capacity }
-    requires few { capacity ≤ 65536 }
-    ensures empty { IfOk result (λ r. contents_of r ≡ fin.empty) }
-    ensures limit { IfOk result (λ r. length r.slots ≡ capacity) }
-{
-    match SiteRegistry::with_capacity(alloc, capacity) {
-        Ok(registry) => Ok(registry),
-        Err(RegistryFault::NoMemory) => Err(StartFault::NoMemory),
-        Err(RegistryFault::Full) => unreachable!(),
-    }
+/// What a server begins with: its configuration, and what the files say that it names.
+#[derive(Drop)]
+pub(crate) struct Beginning {
+    pub config: Config,
+    pub site: Site,
+    pub rules: Arc<Rules>,
 }
 
-// The directory of a site with these rules, to which nothing happened.
-fn opened(alloc: Global, site: &Site, rules: Rules) -> Result<Directory<SiteRegistry>, StartFault>
-    ensures { IfOk result (λ d. d ≡ opening_state (record { rules = rules; site = site.now })) }
-{
-    let rules = Arc::new(alloc, rules)?;
-    let registry = registry(alloc, site.capacity())?;
-    Ok(Directory::open(alloc, registry, site, rules)?)
-}
-
-/// The directory of a configuration, with its rules and templates, to which nothing happened; `boot` is its
-/// stamp.
-pub(crate) fn directory<R: Files>(
+// The rules in the file that a configuration names, and its site with the templates in the files that it names.
+fn named<R: Files>(
     rt: &R,
     alloc: Global,
     config: &Config,
     boot: u32,
-) -> Result<Directory<SiteRegistry>, StartFault>
+) -> Result<(Arc<Rules>, Site), StartFault>
     requires { IsWithin config.now }
-    ensures { IfOk result (IsOpened config.now boot) }
+    ensures { IfOk result (λ p. IsBegun config.now boot (arc_value p.0) p.1) }
 {
     let rules = rules(rt, alloc, config.rules.as_ref())?;
     let templates = templates(rt, alloc, config.templates.as_slice())?;
     let site = site(alloc, config, templates, boot)?;
-    opened(alloc, &site, rules)
+    Ok((Arc::new(alloc, rules)?, site))
+}
+
+/// What the configuration in a file says, and the files that it names, which are read in this order: configuration, rules, templates.
+/// `boot` is the stamp of the site.
+pub(crate) fn begun<R: Files>(
+    rt: &R,
+    alloc: Global,
+    path: &str,
+    boot: u32,
+) -> Result<Beginning, StartFault>
+    ensures { IfOk result (λ b. IsBegun b.config boot (arc_value b.rules) b.site) }
+{
+    let config = config(rt, alloc, path)?;
+    match named(rt, alloc, &config, boot) {
+        Ok((rules, site)) => Ok(Beginning {
+            config,
+            site,
+            rules,
+        }),
+        Err(fault) => {
+            drop(config);
+            Err(fault)
+        }
+    }
 }

@@ -17,6 +17,7 @@ pub(crate) enum PlaceRow {
     From,
     Near,
     Xid,
+    Clock,
 }
 
 /// How a directory that is none answers: as another sender, itself, or on a stream.
@@ -60,6 +61,7 @@ pub(crate) enum AgentRow {
     Log,
     /// A line is typed, and this after it.
     Console(&'static str),
+    TwoLoopsAtOnce,
     Pause,
 }
 
@@ -73,11 +75,12 @@ pub(crate) enum ToolRow {
 }
 
 /// The rows by their words.
-static ROWS: [(&str, Row); 35] = [
+static ROWS: [(&str, Row); 37] = [
     ("at", Row::Place(PlaceRow::At)),
     ("from", Row::Place(PlaceRow::From)),
     ("near", Row::Place(PlaceRow::Near)),
     ("xid", Row::Place(PlaceRow::Xid)),
+    ("clock", Row::Place(PlaceRow::Clock)),
     ("file", Row::Prepare(PrepareRow::File)),
     ("remove", Row::Prepare(PrepareRow::Remove)),
     ("taken", Row::Prepare(PrepareRow::Taken)),
@@ -103,6 +106,7 @@ static ROWS: [(&str, Row); 35] = [
     ("log", Row::Agent(AgentRow::Log)),
     ("console", Row::Agent(AgentRow::Console("\n"))),
     ("unended", Row::Agent(AgentRow::Console(""))),
+    ("two_loops_at_once", Row::Agent(AgentRow::TwoLoopsAtOnce)),
     ("pause", Row::Agent(AgentRow::Pause)),
     ("tool", Row::Tool(ToolRow::Tool)),
     ("keep", Row::Tool(ToolRow::Keep)),

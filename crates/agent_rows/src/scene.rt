@@ -3,11 +3,11 @@ use crate::fake::{Answers, Fake};
 use crate::handed::Handed;
 use crate::kinds::{AgentRow, PlaceRow, PrepareRow, Row, StreamRow, ToolRow, Way};
 use crate::printing::{Times, print_bytes, print_lines, print_request, print_runs};
+use crate::props::Props;
 use crate::sockets::{
     Sent, free_port, pair, read_message, receive, replies_in_order, seconds, send_datagrams,
     send_messages, socket, stream,
 };
-use crate::terminal::Gate;
 use crate::words::{address_of, cut, expanded, message_of, number_of, words_of};
 use std::alloc::Global;
 use std::fs::File;
@@ -15,7 +15,7 @@ use std::io::{self, BufRead, BufReader, ErrorKind, Read, Write};
 use std::net::{Ipv4Addr, Net, SocketAddr, TcpListener, TcpStream};
 use std::rt::Files;
 use std::sync::Wait;
-use std::sync::atomic::AtomicU64;
+use std::sync::atomic::{AtomicU64, Ordering};
 use std::thread::{Threads, join};
 use std::time::{Clock, Duration};
 use std::{fs, thread};
@@ -58,13 +58,13 @@ struct Place {
     near: u16,
 }
 
-/// What the rows of a scene act on: the two ends of the agent's terminal, the gate before its output, the streams that are open,
+/// What the rows of a scene act on: the two ends of the agent's terminal, what is held of it, the streams that are open,
 /// what was sent and is not yet answered, what a directory that is none answers, and what is held.
 #[derive(Drop)]
 pub(crate) struct Scene<'r, R> {
-    rt: &'r R,
-    alloc: Global,
-    gate: &'r Gate,
+    pub rt: &'r R,
+    pub alloc: Global,
+    pub props: &'r Props,
     place: Place,
     // How long a reply or a line is waited for, in milliseconds: less once one did not come, and 0 once the tool had none.
     patience: u64,
@@ -93,7 +93,7 @@ where
     pub(crate) fn new(
         rt: &'r R,
         alloc: Global,
-        gate: &'r Gate,
+        props: &'r Props,
         patience: u64,
         (console, log): (TcpStream, TcpStream),
     ) -> io::Result<Scene<'r, R>> {
@@ -101,7 +101,7 @@ where
         Ok(Scene {
             rt,
             alloc,
-            gate,
+            props,
             place: Place {
                 port,
                 to: Ipv4Addr::LOCALHOST,
@@ -123,6 +123,10 @@ where
         })
     }
 
+    pub(crate) fn port(&self) -> u16 {
+        self.place.port
+    }
+
     fn peer(&self) -> SocketAddr {
         SocketAddr::from((self.place.to, self.place.port))
     }
@@ -135,23 +139,23 @@ where
     }
 
     // How long is waited, in milliseconds.
-    fn wait(&self) -> u64 {
+    pub(crate) fn wait(&self) -> u64 {
         self.patience.max(1)
     }
 
-    fn message(&self, text: &str) -> io::Result<Vec<u8>> {
+    pub(crate) fn message(&self, text: &str) -> io::Result<Vec<u8>> {
         Ok(message_of(self.alloc, self.place.xid, text)?)
     }
 
     // Prints a reply.
-    fn print_reply(&self, reply: &[u8], out: &mut Vec<u8>) -> io::Result<()> {
+    pub(crate) fn print_reply(&self, reply: &[u8], out: &mut Vec<u8>) -> io::Result<()> {
         out.write_all(b"> ")?;
         print_bytes(out, reply, self.times())?;
         out.write_all(b"\n")
     }
 
     // Prints that no reply came.
-    fn print_no_reply(&mut self, out: &mut Vec<u8>) -> io::Result<()> {
+    pub(crate) fn print_no_reply(&mut self, out: &mut Vec<u8>) -> io::Result<()> {
         self.patience = self.patience.min(HASTY);
         out.write_all(b"> -\n")
     }
@@ -180,11 +184,11 @@ where
         }
     }
 
-    // Closes the gate once all lines are out, sends a datagram whose line the agent then can't write out, and waits until it waits there.
+    // Closes the valve once all lines are out, sends a datagram whose line the agent then can't write out, and waits until it waits there.
     fn hold(&mut self, text: &str, out: &mut Vec<u8>) -> io::Result<()> {
-        self.gate.close(self.rt);
+        self.props.valve.close(self.rt);
         self.udp(text, out)?;
-        if self.gate.is_reached(self.rt) {
+        if self.props.valve.is_reached(self.rt) {
             Ok(())
         } else {
             out.write_all(b"(not held)\n")
@@ -398,6 +402,7 @@ where
         let handed = Handed {
             rt: self.rt,
             moment: &moment,
+            seconds: &self.props.seconds,
         };
         let (mut printed, mut moments) = (Vec::new(self.alloc), Vec::new(self.alloc));
         let (_, status) = join(
@@ -456,6 +461,10 @@ where
             PlaceRow::From => self.place.from = address_of(rest),
             PlaceRow::Near => self.place.near = number_of(rest, 65_535) as u16,
             PlaceRow::Xid => self.place.xid = number_of(rest, 65_535) as u16,
+            PlaceRow::Clock => {
+                let seconds = number_of(rest, u64::from(u32::MAX));
+                self.props.seconds.store(seconds, Ordering::SeqCst);
+            }
         }
     }
 
@@ -506,7 +515,7 @@ where
             AgentRow::Quiet => self.quiet(rest, out),
             AgentRow::Hold => self.hold(rest, out),
             AgentRow::Release => {
-                self.gate.open();
+                self.props.valve.open();
                 Ok(())
             }
             AgentRow::Log => self.log(out),
@@ -514,6 +523,7 @@ where
                 self.type_in(rest, end);
                 Ok(())
             }
+            AgentRow::TwoLoopsAtOnce => self.two_loops_at_once(rest, out),
             AgentRow::Pause => {
                 thread::sleep(self.rt, Duration::from_millis(number_of(rest, 10_000)));
                 Ok(())
@@ -589,13 +599,13 @@ where
     }
 
     /// Runs the rows that meet an agent, prints what comes of them, and then ends the agent's input.
-    pub(crate) fn meet(&mut self, text: &str, out: &mut Vec<u8>) {
-        let told = match out.write_all(b": start\n") {
+    pub(crate) fn meet(&mut self, start: &str, text: &str, out: &mut Vec<u8>) {
+        let told = match writeln!(out, ": start{start}") {
             Ok(()) => self.run(text, out),
             Err(fault) => Err(fault),
         };
         self.keep_fault(told);
-        self.gate.open();
+        self.props.valve.open();
         self.console = None;
         if let Ok(now) = self.rt.monotonic() {
             self.ended = now;

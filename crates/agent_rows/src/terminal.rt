@@ -9,22 +9,22 @@ use std::time::{Clock, Duration};
 /// How many bytes one write takes.
 const TAKEN: usize = 10;
 
-/// How often a closed gate is looked at, and how long between, in milliseconds.
+/// How often a closed valve is looked at, and how long between, in milliseconds.
 const LOOKS: u32 = 1_000;
 
 const NAP: u64 = 5;
 
 /// Holds who writes lines out, and tells that one waits, and whether lines are written that are not out.
 #[derive(Drop)]
-pub(crate) struct Gate {
+pub(crate) struct Valve {
     is_closed: AtomicBool,
     is_waited_at: AtomicBool,
     is_unsettled: AtomicBool,
 }
 
-impl Gate {
-    pub(crate) fn new() -> Gate {
-        Gate {
+impl Valve {
+    pub(crate) fn new() -> Valve {
+        Valve {
             is_closed: AtomicBool::new(false),
             is_waited_at: AtomicBool::new(false),
             is_unsettled: AtomicBool::new(false),
@@ -46,7 +46,7 @@ impl Gate {
         self.is_closed.store(false, Ordering::SeqCst);
     }
 
-    // Waits until the gate is open, for five seconds at most.
+    // Waits until the valve is open, for five seconds at most.
     fn pass<R: Clock>(&self, rt: &R) {
         for _ in 0..LOOKS {
             if !self.is_closed.load(Ordering::SeqCst) {
@@ -58,7 +58,7 @@ impl Gate {
         self.is_waited_at.store(false, Ordering::SeqCst);
     }
 
-    /// Waits until someone waits at the gate, for five seconds at most, and answers whether one does.
+    /// Waits until someone waits at the valve, for five seconds at most, and answers whether one does.
     pub(crate) fn is_reached<R: Clock>(&self, rt: &R) -> bool {
         for _ in 0..LOOKS {
             if self.is_waited_at.load(Ordering::SeqCst) {
@@ -70,11 +70,11 @@ impl Gate {
     }
 }
 
-/// What an agent writes to. Only what it has flushed comes out, through the gate; and a write takes some bytes alone.
+/// What an agent writes to. Only what it has flushed comes out, through the valve; and a write takes some bytes alone.
 #[derive(Drop)]
 pub(crate) struct Terminal<'g, R> {
     rt: &'g R,
-    gate: &'g Gate,
+    valve: &'g Valve,
     stream: TcpStream,
     waiting: Vec<u8>,
 }
@@ -83,12 +83,12 @@ impl<'g, R: Clock> Terminal<'g, R> {
     pub(crate) fn new(
         rt: &'g R,
         alloc: Global,
-        gate: &'g Gate,
+        valve: &'g Valve,
         stream: TcpStream,
     ) -> Terminal<'g, R> {
         Terminal {
             rt,
-            gate,
+            valve,
             stream,
             waiting: Vec::new(alloc),
         }
@@ -98,16 +98,16 @@ impl<'g, R: Clock> Terminal<'g, R> {
 impl<'g, R: Clock> Write for Terminal<'g, R> {
     fn write(&mut self, buf: &[u8]) -> io::Result<usize> {
         let count = buf.len().min(TAKEN);
-        self.gate.is_unsettled.store(true, Ordering::SeqCst);
+        self.valve.is_unsettled.store(true, Ordering::SeqCst);
         self.waiting.extend_from_slice(&buf[..count])?;
         Ok(count)
     }
 
     fn flush(&mut self) -> io::Result<()> {
-        self.gate.pass(self.rt);
+        self.valve.pass(self.rt);
         let told = self.stream.write_all(self.waiting.as_slice());
         self.waiting.clear();
-        self.gate.is_unsettled.store(false, Ordering::SeqCst);
+        self.valve.is_unsettled.store(false, Ordering::SeqCst);
         told
     }
 }

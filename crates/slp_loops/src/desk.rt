@@ -1,82 +1,162 @@
+//! The desk: what serves the messages of one address.
+ghost use Rattle.std.specs.Prelude.{◌≡◌, ◌≤◌, ◌||◌, true, false, nat_lt, length, IfOk, OnErr};
+ghost use Rattle.directory_questions.specs.Answers.{is_change_of};
+ghost use Rattle.directory_questions.specs.Calls.{call_in};
+ghost use Rattle.history_log.specs.Pasts.{IsPast};
+ghost use Rattle.published_view.specs.Changes.{IsChanged};
+ghost use Rattle.slp_answer.specs.Answers.{Replies};
+ghost use Rattle.slp_loops.specs.Desks.{IsServedChange};
+
 use crate::clock::Moments;
 use crate::serve::Serve;
 use access_rules::Addr;
-use directory_state::Directory;
-use slp_answer::{Answer, Call, Sent, refused_line, step};
+use published_view::{DirectoryWriter, Gate, LoopView, Naming, Note, ViewFault};
+use slp_answer::{Answer, Call, Sent, is_change, refused_line};
 use slp_text::NoMemory;
 use std::alloc::Global;
 use std::io::Write;
 use std::sync::{Mutex, Wait};
-use table_registry::SiteRegistry;
 
-/// What threads share: the directory, and the output to which lines are written.
+/// What the threads of a server share: the writer, what is called inside each entry, and the output to which lines are written.
 #[derive(Drop)]
-pub struct Shared<'s, W: Write> {
-    pub directory: &'s Mutex<Directory<SiteRegistry>>,
+pub struct Shared<'r, 's, J: Naming, R: Wait, G: Gate, W: Write> {
+    pub rt: &'r R,
+    pub alloc: Global,
+    pub writer: &'s Mutex<DirectoryWriter<J, &'r R>>,
+    pub gate: &'s G,
     pub output: &'s Mutex<W>,
 }
 
-/// Serves messages from a directory that threads share, and writes the line of each that is judged, whole and
-/// once, to an output that they share.
+/// Serves messages: questions from what is published, without waiting for it, and changes under the writer's lock. It
+/// writes the line of each that is judged, whole and once, to an output that threads share.
 #[derive(Drop)]
-pub struct Desk<'r, 's, R: Wait, M: Moments + Drop, W: Write> {
+pub struct Desk<'r, 's, J: Naming, R: Wait, M: Moments + Drop, G: Gate, W: Write> {
     rt: &'r R,
     alloc: Global,
-    shared: Shared<'s, W>,
+    view: LoopView<J>,
+    writer: &'s Mutex<DirectoryWriter<J, &'r R>>,
+    gate: &'s G,
+    output: &'s Mutex<W>,
     /// The address of the directory to which the messages come.
     pub own: Addr,
     pub moments: M,
+    /// Whether this desk sees what the last change that it answered published, and all that was published before. At first it is set.
+    pub told: bool,
     // Whether a line was written since the last time that the output was flushed.
     is_unsettled: bool,
 }
 
-impl<'r, 's, R: Wait, M: Moments + Drop, W: Write> Desk<'r, 's, R, M, W> {
-    ghost use Rattle.std.specs.Prelude.{◌≡◌, ◌||◌, nat_lt, length, false};
+// What came of a change, and how far its writer then was.
+fn change_and_note<J: Naming, Q: Wait + Drop>(
+    writer: &mut DirectoryWriter<J, Q>,
+    alloc: Global,
+    call: &Call<'_>,
+    answer: &mut Answer,
+) -> Result<(Sent, Result<Note<J>, ViewFault>), ViewFault>
+    requires { is_change_of call.now.bytes.now ≡ true }
+    ensures made { IfOk result (λ p. IsChanged J.opening writer.old.history call.now.moment call.now.asker call.now.bytes.now p.0 answer.new.bytes.items answer.new.audit.items writer.new.history) }
+    ensures noted { IfOk result (λ p. IfOk p.1 (λ n. n ≡ writer.new.history)) }
+{
+    let sent = writer.change(alloc, call.moment, call.asker, call.bytes, answer)?;
+    Ok((sent, writer.note()))
+}
 
+impl<'r, 's, J: Naming, R: Wait, M: Moments + Drop, G: Gate, W: Write> Desk<'r, 's, J, R, M, G, W> {
     /// A desk for messages that come to an address of the directory. Takes no memory.
     pub fn new(
-        rt: &'r R,
-        alloc: Global,
-        shared: Shared<'s, W>,
+        view: LoopView<J>,
+        shared: &Shared<'r, 's, J, R, G, W>,
         own: Addr,
         moments: M,
-    ) -> Desk<'r, 's, R, M, W>
+    ) -> Desk<'r, 's, J, R, M, G, W>
         ensures own { result.own ≡ own }
         ensures moments { result.moments ≡ moments }
+        ensures view { result.view ≡ view }
+        ensures told { result.told ≡ true }
         ensures settled { result.is_unsettled ≡ false }
     {
         Desk {
-            rt,
-            alloc,
-            shared,
+            rt: shared.rt,
+            alloc: shared.alloc,
+            view,
+            writer: shared.writer,
+            gate: shared.gate,
+            output: shared.output,
             own,
             moments,
+            told: true,
             is_unsettled: false,
         }
     }
 
     // Writes a line. A failing write is ignored: what is answered does not depend on who reads the lines.
     fn tell(&mut self, line: &[u8])
-        ensures own { self.new.own ≡ self.old.own }
-        ensures moments { self.new.moments ≡ self.old.moments }
+        ensures kept { self.new ≡ record self.old { is_unsettled = self.new.is_unsettled } }
         ensures unsettled { self.new.is_unsettled ≡ (self.old.is_unsettled || nat_lt 0 (length line.now)) }
     {
         if line.is_empty() {
             return;
         }
-        let mut output = self.shared.output.lock(self.rt);
+        let mut output = self.output.lock(self.rt);
         let _ = output.write_all(line);
         self.is_unsettled = true;
     }
+
+    // Has the writer make a change, gives its lock back, and then sees what it published.
+    fn change(&mut self, call: &Call<'_>, answer: &mut Answer) -> Result<Sent, ViewFault>
+        requires { is_change_of call.now.bytes.now ≡ true }
+        ensures later { IsPast self.old.view self.new.view }
+        ensures served { IfOk result (λ what. IsServedChange J.opening (call_in call.now) what answer.new self.new.told self.new.view) }
+        ensures refused { OnErr result (self.new.told ≡ self.old.told) }
+        ensures kept { self.new ≡ record self.old { view = self.new.view; told = self.new.told } }
+    {
+        let mut writer = self.writer.lock(self.rt);
+        let changed = change_and_note(&mut *writer, self.alloc, call, answer);
+        drop(writer);
+        let (sent, note) = changed?;
+        self.told = match note {
+            Ok(note) => self.view.learn(&note).is_ok(),
+            Err(_) => false,
+        };
+        Ok(sent)
+    }
+
+    // Answers a message.
+    fn answer(&mut self, call: &Call<'_>, answer: &mut Answer) -> Result<Sent, ViewFault>
+        requires least { 1400 ≤ call.now.limit }
+        requires most { call.now.limit ≤ 65535 }
+        ensures later { IsPast self.old.view self.new.view }
+        ensures asked { is_change_of call.now.bytes.now ≡ false → IfOk result (λ what. Replies J.opening self.new.view (call_in call.now) what answer.new.bytes.items answer.new.audit.items) }
+        ensures served { is_change_of call.now.bytes.now ≡ true → IfOk result (λ what. IsServedChange J.opening (call_in call.now) what answer.new self.new.told self.new.view) }
+        ensures refused { OnErr result (self.new.told ≡ self.old.told) }
+        ensures unasked { is_change_of call.now.bytes.now ≡ false → self.new.told ≡ self.old.told }
+        ensures kept { self.new ≡ record self.old { view = self.new.view; told = self.new.told } }
+    {
+        if is_change(call.bytes) {
+            return self.change(call, answer);
+        }
+        self.view.answer(
+            self.alloc,
+            self.gate,
+            call.own,
+            call.moment,
+            call.asker,
+            call.bytes,
+            call.limit,
+            answer,
+        )
+    }
 }
 
-impl<'r, 's, R: Wait, M: Moments + Drop, W: Write> Serve for Desk<'r, 's, R, M, W> {
+impl<'r, 's, J: Naming, R: Wait, M: Moments + Drop, G: Gate, W: Write> Serve
+    for Desk<'r, 's, J, R, M, G, W> {
     ghost use Rattle.std.specs.Prelude.{◌≡◌, false};
-    ghost use Rattle.slp_loops.specs.Desks.{DeskSteps, told_line};
+    ghost use Rattle.slp_loops.specs.Desks.{DeskSteps};
 
-    ghost steps = { λ before asker message limit outcome answer after. DeskSteps M.may (told_line asker message outcome answer)
-        (record { own = before.own; moments = before.moments; is_unsettled = before.is_unsettled })
-        (record { own = after.own; moments = after.moments; is_unsettled = after.is_unsettled }) };
+    ghost steps = { λ before asker message limit outcome answer after. DeskSteps J.opening M.may
+        (record { own = before.own; moments = before.moments; view = before.view; told = before.told; is_unsettled = before.is_unsettled })
+        asker message limit outcome answer
+        (record { own = after.own; moments = after.moments; view = after.view; told = after.told; is_unsettled = after.is_unsettled }) };
 
     ghost settles = { λ before after. after ≡ record before { is_unsettled = false } };
 
@@ -94,10 +174,7 @@ impl<'r, 's, R: Wait, M: Moments + Drop, W: Write> Serve for Desk<'r, 's, R, M, 
             bytes: message,
             limit,
         };
-        let mut directory = self.shared.directory.lock(self.rt);
-        let told = step(self.alloc, &mut *directory, &call, answer);
-        drop(directory);
-        match told {
+        match self.answer(&call, answer) {
             Ok(sent) => {
                 self.tell(answer.audit.as_slice());
                 Ok(sent)
@@ -114,7 +191,7 @@ impl<'r, 's, R: Wait, M: Moments + Drop, W: Write> Serve for Desk<'r, 's, R, M, 
         if !self.is_unsettled {
             return;
         }
-        let mut output = self.shared.output.lock(self.rt);
+        let mut output = self.output.lock(self.rt);
         let _ = output.flush();
         drop(output);
         self.is_unsettled = false;

@@ -1,5 +1,5 @@
 //! Loops that are inside their entries at the same time, on two threads.
-use crate::scene::{Asked, Scene, ask};
+use crate::scene::{Asked, Scene, ask, print_whether};
 use crate::words::message_of;
 use access_rules::Addr;
 use history_log::Naming;
@@ -209,12 +209,6 @@ fn is_changed<J: Naming, Q: Wait + Drop>(
         &mut answer,
     );
     told == Ok(Sent::Bytes(0))
-}
-
-// A line that says whether it is so.
-fn print_whether(out: &mut Vec<u8>, name: &str, is_so: bool) -> io::Result<()> {
-    let word = if is_so { "yes" } else { "no" };
-    writeln!(out, "# {name}: {word}")
 }
 
 fn print_held(out: &mut Vec<u8>, held: Held) -> io::Result<()> {

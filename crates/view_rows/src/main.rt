@@ -1,10 +1,11 @@
-//! Runs rows against a directory that is published: a writer, loops, notes, and a directory of its own beside them. A line
-//! `---` parts scenes, of which each begins with a row `open`. `CONTRIBUTING.md` has the rows.
+//! Runs rows against a directory that is published: a writer, loops, notes, and a directory of its own beside them; or a desk and a
+//! sweeper. A line `---` parts scenes, of which each begins with a row `open` or `desk`. `CONTRIBUTING.md` has the rows.
 #![tactic(auto)]
 
 ghost use Rattle.std.specs.Prelude.{◌≡◌, ◌<◌, ◌≤◌};
 ghost use Rattle.std.specs.Arc.{arc_value};
 
+mod desk;
 mod entries;
 mod numbers;
 mod opening;
@@ -12,6 +13,7 @@ mod random;
 mod scene;
 mod words;
 
+use crate::desk::run_desk;
 use crate::opening::{Beginning, read_head};
 use crate::scene::Scene;
 use access_rules::Rules;
@@ -48,6 +50,7 @@ where
     requires opening { J.opening ≡ record { rules = arc_value begun.rules; site = begun.site } }
 {
     let Beginning {
+        is_desk: _,
         site,
         rules,
         loops,
@@ -64,6 +67,39 @@ where
     }
 }
 
+// Runs the rows of a scene at a desk, and gives what they bring.
+fn run_at_desk<J, R>(
+    rt: &R,
+    alloc: Global,
+    opened: Opened,
+    begun: Beginning,
+    rows: &String,
+) -> io::Result<Vec<u8>>
+where
+    J: Naming,
+    R: Wait,
+    requires book { opened.seen.book ≡ J.book }
+    requires opening { J.opening ≡ record { rules = arc_value begun.rules; site = begun.site } }
+{
+    let mut out = Vec::new(alloc);
+    let Beginning {
+        is_desk: _,
+        site,
+        rules,
+        loops,
+        plain,
+    } = begun;
+    drop(plain);
+    let told = open::<J, &R>(alloc, rt, opened, &site, rules, loops);
+    drop(site);
+    let told = match told {
+        Ok(parts) => run_desk(rt, alloc, parts, rows.as_str(), &mut out),
+        Err(fault) => writeln!(out, "! {}", fault as u8),
+    };
+    told?;
+    Ok(out)
+}
+
 // Runs the rows of a scene, and gives what they bring.
 fn run<J, R>(
     rt: &R,
@@ -78,6 +114,9 @@ where
     requires book { opened.seen.book ≡ J.book }
     requires opening { J.opening ≡ record { rules = arc_value begun.rules; site = begun.site } }
 {
+    if begun.is_desk {
+        return run_at_desk::<J, R>(rt, alloc, opened, begun, rows);
+    }
     let mut out = Vec::new(alloc);
     let told = match open_scene::<J, R>(rt, alloc, opened, begun) {
         Ok(mut scene) => {

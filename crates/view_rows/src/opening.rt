@@ -33,9 +33,11 @@ rule = [
 /// The directory of a site.
 pub(crate) type Plain = Directory<SiteRegistry>;
 
-/// A site with its rules, how many loops are to be there, and a directory of its own, to which the same can be done.
+/// A site with its rules, how many loops are to be there, or that there is one at a desk, and a directory of its own, to which the
+/// same can be done.
 #[derive(Drop)]
 pub(crate) struct Beginning {
+    pub is_desk: bool,
     pub site: Site,
     pub rules: Arc<Rules>,
     pub loops: usize,
@@ -78,15 +80,16 @@ fn plain(alloc: Global, site: &Site, rules: &Arc<Rules>) -> Result<Box<Plain>, N
     Ok(Box::new(alloc, directory)?)
 }
 
-/// What a line `open LOOPS CAPACITY` says.
+/// What a line `open LOOPS CAPACITY` or `desk LOOPS CAPACITY` says.
 pub(crate) fn read_head(alloc: Global, head: &str) -> Result<Beginning, NoMemory> {
-    let (_, numbers) = cut(head);
+    let (word, numbers) = cut(head);
     let (loops, capacity) = cut(numbers);
     let capacity = (number_of(capacity, 65_536) as usize).max(1);
     let site = site(alloc, capacity)?;
     let rules = Arc::new(alloc, rules_of(alloc, OPENING_RULES)?)?;
     let plain = plain(alloc, &site, &rules)?;
     Ok(Beginning {
+        is_desk: word == "desk",
         site,
         rules,
         loops: number_of(loops, 100) as usize,

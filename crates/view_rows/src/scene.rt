@@ -41,6 +41,24 @@ pub(crate) struct Scene<'r, J: Naming, R: Wait> {
     changes: u64,
 }
 
+/// Prints whether it is so.
+pub(crate) fn print_whether(out: &mut Vec<u8>, name: &str, is_so: bool) -> io::Result<()> {
+    let word = if is_so { "yes" } else { "no" };
+    writeln!(out, "# {name}: {word}")
+}
+
+/// Prints the bytes of a reply, or that there are none.
+pub(crate) fn print_reply<W: Write>(out: &mut W, reply: &[u8]) -> io::Result<()> {
+    out.write_all(b"> ")?;
+    if reply.is_empty() {
+        out.write_all(b"-")?;
+    }
+    for byte in reply {
+        write!(out, "{byte:02x}")?;
+    }
+    out.write_all(b"\n")
+}
+
 // Prints an answer, the bytes of the reply and its line, or its fault, which is printed also where nothing else is.
 fn print_answer<W: Write>(
     out: &mut W,
@@ -54,14 +72,7 @@ fn print_answer<W: Write>(
     if is_quiet {
         return Ok(());
     }
-    out.write_all(b"> ")?;
-    if answer.bytes.is_empty() {
-        out.write_all(b"-")?;
-    }
-    for byte in answer.bytes.as_slice() {
-        write!(out, "{byte:02x}")?;
-    }
-    out.write_all(b"\n")?;
+    print_reply(out, answer.bytes.as_slice())?;
     out.write_all(answer.audit.as_slice())
 }
 

@@ -1,0 +1,5 @@
+use Rattle.std.proofs.Common.{length, ap, ◌∙◌}
+use Rattle.agent_program.proofs.starting.serve_opened.Goals as goal
+
+pub serve_at-told-requires-after_bounds : goal.serve_at-told-requires-after_bounds
+serve_at-told-requires-after_bounds g c κs within = c.in-Ok.ensures.count ∙ ap length c.as_slice-loops.ensures

@@ -1,0 +1,206 @@
+//! How a server starts: what its configuration names is opened, each of its addresses has a loop, and each loop a thread.
+ghost use Rattle.std.specs.Prelude.{◌≡◌, ◌<◌, ◌+◌, length, vec_len, slice_get, Some, IfOk};
+ghost use Rattle.std.specs.Arc.{arc_value};
+ghost use Rattle.std.specs.Option.{option_map};
+
+use crate::console::Console;
+use crate::fault::StartFault;
+use crate::opening::{Beginning, begun};
+use crate::sweeping::Sweeping;
+use crate::threads::{Job, serve};
+use published_view::{Gate, LoopView, Naming, Opened, open};
+use site_config::Config;
+use slp_loops::{AgentLoop, Desk, Moments, Shared, WallClock};
+use std::alloc::Global;
+use std::io::{Read, Write};
+use std::marker::Brand;
+use std::net::Net;
+use std::rt::Files;
+use std::sync::{Mutex, Wait};
+use std::thread::Threads;
+use std::time::Clock;
+
+/// What a server is given from outside: the words of its operator, the output for its lines, and what is called inside each entry.
+#[derive(Drop)]
+pub struct Ends<'s, G: Gate, I: Read, W: Write> {
+    pub input: &'s Mutex<I>,
+    pub output: &'s Mutex<W>,
+    pub gate: &'s G,
+}
+
+type AgentDesk<'r, 's, J, R, G, W> = Desk<'r, 's, J, R, WallClock<'r, R>, G, W>;
+
+type AgentJob<'r, 's, J, R, G, W> = Job<AgentDesk<'r, 's, J, R, G, W>, Sweeping<'r, 's, J, R>>;
+
+// The desk for messages that come to one of the addresses of a configuration.
+fn desk_at<'r, 's, J, R, G, W>(
+    config: &Config,
+    place: usize,
+    view: LoopView<J>,
+    shared: &Shared<'r, 's, J, R, G, W>,
+) -> AgentDesk<'r, 's, J, R, G, W>
+where
+    J: Naming,
+    R: Wait + Clock,
+    G: Gate,
+    W: Write,
+    requires { place < length config.now.listen }
+    ensures { option_map (λ place. place.0) (slice_get config.now.listen place) ≡ Some result.own }
+{
+    let (own, _) = config.listen.as_slice()[place];
+    Desk::new(view, shared, own, WallClock::new(shared.rt))
+}
+
+// The loop at one of the addresses of a configuration.
+fn loop_at<'r, 's, J, R, G, W>(
+    config: &Config,
+    place: usize,
+    view: LoopView<J>,
+    shared: &Shared<'r, 's, J, R, G, W>,
+) -> Result<AgentJob<'r, 's, J, R, G, W>, StartFault>
+where
+    J: Naming,
+    R: Wait + Clock + Net,
+    G: Gate,
+    W: Write,
+    requires { place < length config.now.listen }
+{
+    let desk = desk_at(config, place, view, shared);
+    match AgentLoop::new(shared.rt, shared.alloc, config, place, desk) {
+        Ok(agent) => Ok(Job::Serve(agent)),
+        Err(fault) => Err(StartFault::from(fault)),
+    }
+}
+
+// A loop for each address of a configuration, and the sweeper.
+fn jobs_at<'r, 's, J, R, G, W>(
+    config: &Config,
+    views: Vec<LoopView<J>>,
+    shared: &Shared<'r, 's, J, R, G, W>,
+) -> Result<Vec<AgentJob<'r, 's, J, R, G, W>>, StartFault>
+where
+    J: Naming,
+    R: Wait + Clock + Net,
+    G: Gate,
+    W: Write,
+    requires { vec_len views ≡ length config.now.listen }
+    ensures { IfOk result (λ jobs. vec_len jobs ≡ length config.now.listen + 1) }
+{
+    let mut jobs = Vec::new(shared.alloc);
+    for (place, view) in views.into_iter().enumerate() {
+        jobs.push(loop_at(config, place, view, shared)?)?;
+    }
+    let sweeping = Sweeping::new(shared.rt, shared.writer, config.sweep);
+    jobs.push(Job::Other(sweeping))?;
+    Ok(jobs)
+}
+
+// Serves at the addresses of a configuration, from what is published.
+fn serve_at<J, R, G, I, W>(
+    config: &Config,
+    views: Vec<LoopView<J>>,
+    shared: &Shared<'_, '_, J, R, G, W>,
+    input: &Mutex<I>,
+) -> Result<u8, StartFault>
+where
+    J: Naming + Send + Sync,
+    R: Threads + Wait + Net + Clock + Files + Sync,
+    G: Gate + Sync,
+    I: Read + Send,
+    W: Write + Send,
+    requires { vec_len views ≡ length config.now.listen }
+{
+    let jobs = jobs_at(config, views, shared)?;
+    let console = Console {
+        rt: shared.rt,
+        alloc: shared.alloc,
+        writer: shared.writer,
+        output: shared.output,
+        rules: config.rules.as_ref(),
+        clock: WallClock::new(shared.rt),
+        input,
+    };
+    serve(shared.rt, shared.alloc, jobs, console)
+}
+
+// Serves from a directory that is opened by a name.
+fn serve_opened<J, R, G, I, W>(
+    rt: &R,
+    alloc: Global,
+    opened: Opened,
+    begun: Beginning,
+    ends: &Ends<'_, G, I, W>,
+) -> Result<u8, StartFault>
+where
+    J: Naming + Send + Sync,
+    R: Threads + Wait + Net + Clock + Files + Sync,
+    G: Gate + Sync,
+    I: Read + Send,
+    W: Write + Send,
+    requires book { opened.seen.book ≡ J.book }
+    requires opening { J.opening ≡ record { rules = arc_value begun.rules; site = begun.site } }
+{
+    let Beginning {
+        config,
+        site,
+        rules,
+    } = begun;
+    let loops = config.listen.as_slice().len();
+    let told = open::<J, &R>(alloc, rt, opened, &site, rules, loops);
+    drop(site);
+    let Ok((writer, views)) = told else {
+        drop(config);
+        return Err(StartFault::NoMemory);
+    };
+    let writer = Mutex::new(writer);
+    let shared = Shared {
+        rt,
+        alloc,
+        writer: &writer,
+        gate: ends.gate,
+        output: ends.output,
+    };
+    let told = serve_at(&config, views, &shared, ends.input);
+    drop(config);
+    told
+}
+
+// Opens what the configuration names, and serves.
+fn run<R, G, I, W>(
+    rt: &R,
+    alloc: Global,
+    path: &str,
+    ends: &Ends<'_, G, I, W>,
+) -> Result<u8, StartFault>
+where
+    R: Threads + Wait + Net + Clock + Files + Sync,
+    G: Gate + Sync,
+    I: Read + Send,
+    W: Write + Send,
+{
+    let boot = WallClock::new(rt).now();
+    let begun = begun(rt, alloc, path, boot)?;
+    let opened = Opened::new();
+    serve_opened::<Brand, _, _, _, _>(rt, alloc, opened, begun, ends)
+}
+
+/// Serves what the configuration in a file names, with a loop for each of its addresses, each on a thread of its own, until the
+/// input ends or says `stop`, and answers the status: 0; 1 where a file or a socket failed; 2 where the configuration, the rules or
+/// a template was refused, which is printed; 3 where memory or a thread was wanting. `ready` is printed once all threads are there.
+pub fn start_loops<R, G, I, W>(rt: &R, alloc: Global, path: &str, ends: &Ends<'_, G, I, W>) -> u8
+where
+    R: Threads + Wait + Net + Clock + Files + Sync,
+    G: Gate + Sync,
+    I: Read + Send,
+    W: Write + Send,
+{
+    match run(rt, alloc, path, ends) {
+        Ok(status) => status,
+        Err(fault) => {
+            let mut output = ends.output.lock(rt);
+            let _ = fault.print(&mut *output);
+            let _ = output.flush();
+            fault.status()
+        }
+    }
+}

@@ -1,0 +1,54 @@
+//! Rows about several loops.
+use crate::scene::Scene;
+use crate::sockets::{receive, socket};
+use std::fs::File;
+use std::io::{self, Write};
+use std::net::{Ipv4Addr, Net, SocketAddr, TcpListener, TcpStream, UdpSocket};
+use std::rt::Files;
+use std::sync::Wait;
+use std::thread::Threads;
+use std::time::Clock;
+
+impl<'r, R> Scene<'r, R>
+where
+    R: Net<Listener = TcpListener, Stream = TcpStream>
+        + Clock
+        + Wait
+        + Threads
+        + Files<File = File>
+        + Sync,
+{
+    // Sends a datagram to a loop, from a socket of its own: the first loop listens at 127.0.0.1, the second at 127.0.0.2.
+    fn send_to_loop(&self, number: u8, message: &[u8]) -> io::Result<UdpSocket> {
+        let socket = socket(self.rt, Ipv4Addr::LOCALHOST, self.wait())?;
+        let to = Ipv4Addr::new(127, 0, 0, number);
+        socket.send_to(message, SocketAddr::from((to, self.port())))?;
+        Ok(socket)
+    }
+
+    // The reply that a socket has, if one comes.
+    fn reply_of(&mut self, socket: &UdpSocket, out: &mut Vec<u8>) -> io::Result<()> {
+        match receive(self.alloc, socket) {
+            Ok((reply, _)) => self.print_reply(reply.as_slice(), out),
+            Err(_) => self.print_no_reply(out),
+        }
+    }
+
+    /// The first loop stays in its entry until the second has answered the same.
+    pub(crate) fn two_loops_at_once(&mut self, text: &str, out: &mut Vec<u8>) -> io::Result<()> {
+        let message = self.message(text)?;
+        self.props.meeting.call();
+        let first = self.send_to_loop(1, message.as_slice())?;
+        self.props.meeting.wait_for_first(self.rt);
+        let second = self.send_to_loop(2, message.as_slice())?;
+        self.reply_of(&second, out)?;
+        self.props.meeting.end();
+        self.reply_of(&first, out)?;
+        let word = if self.props.meeting.were_both_inside() {
+            "yes"
+        } else {
+            "no"
+        };
+        writeln!(out, "# both were inside at once: {word}")
+    }
+}

@@ -1,0 +1,73 @@
+//! Two loops of an agent that are inside their entries at once.
+use published_view::Gate;
+use std::sync::atomic::{AtomicBool, Ordering};
+use std::thread;
+use std::time::{Clock, Duration};
+
+/// So often it is looked whether the second loop has answered.
+const TURNS: u64 = 200_000_000;
+
+/// How often it is looked whether the first loop is inside, and how long between, in milliseconds.
+const LOOKS: u32 = 1_000;
+
+const NAP: u64 = 5;
+
+/// Keeps the first loop inside an entry until the second has answered. It does so once, and only where it was called.
+#[derive(Drop)]
+pub(crate) struct Meeting {
+    is_called: AtomicBool,
+    is_first_inside: AtomicBool,
+    has_second_answered: AtomicBool,
+    were_both_inside: AtomicBool,
+}
+
+impl Meeting {
+    pub(crate) fn new() -> Meeting {
+        Meeting {
+            is_called: AtomicBool::new(false),
+            is_first_inside: AtomicBool::new(false),
+            has_second_answered: AtomicBool::new(false),
+            were_both_inside: AtomicBool::new(false),
+        }
+    }
+
+    /// The next entry of the first loop is held.
+    pub(crate) fn call(&self) {
+        self.is_called.store(true, Ordering::SeqCst);
+    }
+
+    /// The second loop has answered.
+    pub(crate) fn end(&self) {
+        self.has_second_answered.store(true, Ordering::SeqCst);
+    }
+
+    /// Waits until the first loop is inside, for five seconds at most.
+    pub(crate) fn wait_for_first<R: Clock>(&self, rt: &R) {
+        for _ in 0..LOOKS {
+            if self.is_first_inside.load(Ordering::SeqCst) {
+                return;
+            }
+            thread::sleep(rt, Duration::from_millis(NAP));
+        }
+    }
+
+    /// Whether the second loop answered while the first was inside.
+    pub(crate) fn were_both_inside(&self) -> bool {
+        self.were_both_inside.load(Ordering::SeqCst)
+    }
+}
+
+impl Gate for Meeting {
+    fn inside(&self, place: usize) {
+        if place != 0 || !self.is_called.swap(false, Ordering::SeqCst) {
+            return;
+        }
+        self.is_first_inside.store(true, Ordering::SeqCst);
+        for _ in 0..TURNS {
+            if self.has_second_answered.load(Ordering::SeqCst) {
+                self.were_both_inside.store(true, Ordering::SeqCst);
+                return;
+            }
+        }
+    }
+}
