@@ -16,6 +16,7 @@ mod terminal;
 mod words;
 
 use crate::handed::Handed;
+use crate::meeting::MeetingGate;
 use crate::props::Props;
 use crate::scene::{PATIENT, Scene};
 use crate::sockets::pair;
@@ -63,35 +64,40 @@ fn cut_at_start(text: &str) -> Option<(&str, &str, &str)> {
     Some((before, rest, rows))
 }
 
-// Runs an agent by its words, or by its loops, whose clock and first loop are then those of the props.
-fn run_agent<R, W>(
-    rt: &R,
+// Runs an agent by its loops, by a clock that is handed in, with the gate of the props.
+fn run_by_loops<H, I, W>(
+    handed: &H,
     alloc: Global,
     props: &Props,
-    is_by_loops: bool,
-    (input, lines): (&mut TcpStream, &mut W),
+    reader: &mut I,
+    writer: &mut W,
 ) -> io::Result<u8>
 where
-    R: Threads + Wait + Net + Clock + Files + Sync,
+    H: Threads + Wait + Net + Clock + Files + Sync,
+    I: Read + Send,
     W: Write + Send,
 {
-    if !is_by_loops {
-        let words = words_of(alloc, CONFIG)?;
-        return Ok(agent_run(rt, alloc, words.as_slice(), input, lines));
-    }
-    let moment = AtomicU64::new(0);
-    let handed = Handed {
-        rt,
-        moment: &moment,
-        seconds: &props.seconds,
+    let gate = MeetingGate {
+        meeting: &props.meeting,
     };
-    let (input, output) = (Mutex::new(input), Mutex::new(lines));
+    let (input, output) = (Mutex::new(reader), Mutex::new(writer));
     let ends = Ends {
         input: &input,
         output: &output,
-        gate: &props.meeting,
+        gate: &gate,
     };
-    Ok(start_loops(&handed, alloc, CONFIG, &ends))
+    Ok(start_loops(handed, alloc, CONFIG, &ends))
+}
+
+// Runs an agent by its words.
+fn run_by_words<R, I, W>(rt: &R, alloc: Global, input: &mut I, lines: &mut W) -> io::Result<u8>
+where
+    R: Threads + Wait + Net + Clock + Files + Sync,
+    I: Read + Send,
+    W: Write + Send,
+{
+    let words = words_of(alloc, CONFIG)?;
+    Ok(agent_run(rt, alloc, words.as_slice(), input, lines))
 }
 
 fn main(rt: HostRuntime) -> io::Result<()> {
@@ -99,17 +105,29 @@ fn main(rt: HostRuntime) -> io::Result<()> {
     let text = scenes(&rt)?;
     let mut out = Vec::new(alloc);
     let mut patience = PATIENT;
+    let moment = AtomicU64::new(0);
     for text in text.split(END) {
-        let props = Props::new();
+        let start = cut_at_start(text);
+        let props = Props::new(matches!(start, Some((_, "_loops", _))));
+        let handed = Handed {
+            rt: &rt,
+            moment: &moment,
+            seconds: &props.seconds,
+        };
         let (mut input, mut lines, ends) = open_terminal(&rt, &props.valve)?;
         let mut scene = Scene::new(&rt, alloc, &props, patience, ends)?;
-        let status = match cut_at_start(text) {
+        let status = match start {
             Some((before, rest, rows)) => {
                 scene.begin(before, &mut out);
-                let is_by_loops = !rest.is_empty();
                 let (status, ()) = join(
                     &rt,
-                    || run_agent(&rt, alloc, &props, is_by_loops, (&mut input, &mut lines)),
+                    || {
+                        if props.is_by_loops {
+                            run_by_loops(&handed, alloc, &props, &mut input, &mut lines)
+                        } else {
+                            run_by_words(&rt, alloc, &mut input, &mut lines)
+                        }
+                    },
                     || scene.meet(rest, rows, &mut out),
                 );
                 Some(status?)

@@ -55,10 +55,9 @@ impl Meeting {
     pub(crate) fn were_both_inside(&self) -> bool {
         self.were_both_inside.load(Ordering::SeqCst)
     }
-}
 
-impl Gate for Meeting {
-    fn inside(&self, place: usize) {
+    // Holds the first loop, once, where that was called for.
+    fn hold(&self, place: usize) {
         if place != 0 || !self.is_called.swap(false, Ordering::SeqCst) {
             return;
         }
@@ -69,5 +68,17 @@ impl Gate for Meeting {
                 return;
             }
         }
+    }
+}
+
+/// The gate of an agent with a meeting.
+#[derive(Drop)]
+pub(crate) struct MeetingGate<'x> {
+    pub meeting: &'x Meeting,
+}
+
+impl<'x> Gate for MeetingGate<'x> {
+    fn inside(&self, place: usize) {
+        self.meeting.hold(place);
     }
 }

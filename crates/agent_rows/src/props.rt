@@ -3,18 +3,20 @@ use crate::meeting::Meeting;
 use crate::terminal::Valve;
 use std::sync::atomic::AtomicU64;
 
-/// The valve before its output, what holds its first loop inside an entry, and the seconds since 1970 that its clock tells, or 0 where
-/// that is the system's.
+/// Whether it is run by its loops, and not by its words; the valve before its output; and, where it is, what holds its first loop
+/// inside an entry, and the seconds since 1970 that its clock tells, or 0 where that is the system's.
 #[derive(Drop)]
 pub(crate) struct Props {
+    pub is_by_loops: bool,
     pub valve: Valve,
     pub meeting: Meeting,
     pub seconds: AtomicU64,
 }
 
 impl Props {
-    pub(crate) fn new() -> Props {
+    pub(crate) fn new(is_by_loops: bool) -> Props {
         Props {
+            is_by_loops,
             valve: Valve::new(),
             meeting: Meeting::new(),
             seconds: AtomicU64::new(0),
