@@ -11,15 +11,15 @@ pub enum RuleFault {
     /// The number of the first rule that is none, counted from 1. It is 0 for the file: its version or
     /// one of its keys is another, its rules are no array or more than 1,024, or the text is longer
     /// than 1,048,576 bytes, which is asked first.
-    #[error("rule {0} is none")]
+    #[error("rule {0} is malformed")]
     Shape(usize),
     /// Two rules have one name.
-    #[error("two rules of one name")]
+    #[error("duplicate rule name")]
     TwiceName,
     #[error("out of memory")]
     NoMemory,
     /// The text is not TOML.
-    #[error("no TOML")]
+    #[error("not TOML")]
     Toml,
 }
 

@@ -1,4 +1,4 @@
-//! What stands at the keys of a table.
+//! What stands at the keys of a rule and of a rule file, each by itself. It is public for who has to say which key is at fault.
 ghost use Rattle.std.specs.Prelude.{◌≡◌, IfOk, map, string_bytes};
 ghost use Rattle.std.specs.BTreeMap.{keys};
 ghost use Rattle.std.specs.List.{list_all};

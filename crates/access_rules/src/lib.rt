@@ -4,7 +4,7 @@
 
 mod address;
 mod fault;
-mod fields;
+pub mod fields;
 mod files;
 pub mod laws;
 mod rule;

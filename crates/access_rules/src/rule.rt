@@ -57,7 +57,8 @@ impl Prefix {
         })
     }
 
-    fn holds(&self, addr: Addr) -> bool
+    /// Whether an address is one of these. Takes no memory.
+    pub fn holds(&self, addr: Addr) -> bool
         ensures { result ≡ spec.holds self.now addr }
     {
         if self.bits > 32 {

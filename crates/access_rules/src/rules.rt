@@ -57,6 +57,13 @@ impl Rules {
         Rules { rules }
     }
 
+    /// The rules, in their order. Takes no memory.
+    pub fn as_slice(&self) -> &[Rule]
+        ensures { result.now ≡ rules_in self.now }
+    {
+        &self.rules
+    }
+
     /// How many rules there are. Takes no memory.
     pub fn len(&self) -> usize
         ensures { result ≡ number self.now }

@@ -9,9 +9,9 @@ use thiserror::Error;
 /// Why a text is not an attribute list, or not a value of one.
 #[derive(Clone, Copy, Debug, PartialEq, Eq, Error)]
 pub enum AttrFault {
-    #[error("an escape that is not one")]
+    #[error("a malformed escape")]
     BadEscape = 1,
-    #[error("a tag that is empty, or has a reserved character")]
+    #[error("a malformed tag")]
     BadTag = 2,
     #[error("not an attribute list")]
     BadList = 3,

@@ -16,7 +16,7 @@ pub enum FilterFault {
     #[error("a `*` outside `=`")]
     Wildcard = 2,
     /// A filter in 32 others.
-    #[error("filters within filters, too many levels of them")]
+    #[error("filters nested too deeply")]
     TooDeep = 3,
     #[error("out of memory")]
     NoMemory = 4,

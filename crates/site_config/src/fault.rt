@@ -9,7 +9,7 @@ use thiserror::Error;
 #[derive(Clone, Copy, Debug, PartialEq, Eq, Error)]
 pub enum ConfigFault {
     /// It is not TOML.
-    #[error("no TOML")]
+    #[error("not TOML")]
     Toml = 1,
     /// A key that has to be there is missing.
     #[error("a key is missing")]

@@ -1,4 +1,4 @@
-//! The keys of a configuration, and what stands at each.
+//! The keys of a configuration, and what stands at each. It is public for who has to say which key is at fault.
 ghost use Rattle.std.specs.Prelude.{◌≡◌, ◌≤◌, None, [], length, string_bytes, IfOk, IsTrue};
 ghost use Rattle.std.specs.BTreeMap.{keys};
 ghost use Rattle.std.specs.List.{list_all};
@@ -15,6 +15,7 @@ use slp_text::{Row, ScopeList, Text};
 use std::alloc::Global;
 use toml::{Table, Value};
 
+/// The scopes.
 pub fn scopes(alloc: Global, table: &Value) -> Result<ScopeList, ConfigFault>
     ensures value { IsReading result (needed_value scopes_in scopes_key (members_in (view table.now))) }
     ensures limits { IfOk result (λ scopes. IsTrue (are_site_scopes scopes)) }
@@ -25,6 +26,7 @@ pub fn scopes(alloc: Global, table: &Value) -> Result<ScopeList, ConfigFault>
     }
 }
 
+/// The addresses with their ports.
 pub fn listen(alloc: Global, table: &Value) -> Result<Row<(Addr, u16)>, ConfigFault>
     ensures value { IsReading result (needed_value listen_in listen_key (members_in (view table.now))) }
     ensures limits { IfOk result (λ sockets. IsTrue (are_listening sockets)) }
@@ -35,7 +37,8 @@ pub fn listen(alloc: Global, table: &Value) -> Result<Row<(Addr, u16)>, ConfigFa
     }
 }
 
-fn capacity(table: &Value) -> Result<u32, ConfigFault>
+/// The capacity.
+pub fn capacity(table: &Value) -> Result<u32, ConfigFault>
     ensures value { result ≡ needed_value (number_in 1 65536) capacity_key (members_in (view table.now)) }
     ensures low { IfOk result (λ n. 1 ≤ n) }
     ensures high { IfOk result (λ n. n ≤ 65536) }
@@ -46,8 +49,8 @@ fn capacity(table: &Value) -> Result<u32, ConfigFault>
     }
 }
 
-// The number from 1 to `high` at a key, or the usual one where the key is missing.
-fn number(table: &Value, key: &str, usual: u32, high: u32) -> Result<u32, ConfigFault>
+/// The number from 1 to `high` at a key, or the usual one where the key is missing.
+pub fn number(table: &Value, key: &str, usual: u32, high: u32) -> Result<u32, ConfigFault>
     requires low { 1 ≤ usual }
     requires high { usual ≤ high }
     ensures value { result ≡ optional_value (number_in 1 high) key.now usual (members_in (view table.now)) }
@@ -74,7 +77,8 @@ pub fn numbers(table: &Value) -> Result<(u32, u32, u32), ConfigFault>
     Ok((capacity, connections, sweep))
 }
 
-fn rules(alloc: Global, table: &Value) -> Result<Option<Text>, ConfigFault>
+/// The path of the rules, if there is one.
+pub fn rules(alloc: Global, table: &Value) -> Result<Option<Text>, ConfigFault>
     ensures { IsReading result (optional_value path_in rules_key None (members_in (view table.now))) }
 {
     match table.get("rules") {
@@ -83,7 +87,8 @@ fn rules(alloc: Global, table: &Value) -> Result<Option<Text>, ConfigFault>
     }
 }
 
-fn templates(alloc: Global, table: &Value) -> Result<Row<Text>, ConfigFault>
+/// The paths of the templates.
+pub fn templates(alloc: Global, table: &Value) -> Result<Row<Text>, ConfigFault>
     ensures value { IsReading result (optional_value templates_in templates_key [] (members_in (view table.now))) }
     ensures limit { IfOk result (λ paths. length paths ≤ 256) }
 {
@@ -104,7 +109,8 @@ pub fn paths(alloc: Global, table: &Value) -> Result<(Option<Text>, Row<Text>), 
     Ok((rules, templates))
 }
 
-fn is_known(key: &str) -> bool
+/// Whether a key is one of a configuration.
+pub fn is_known(key: &str) -> bool
     ensures { result ≡ spec.is_known key.now }
 {
     matches!(

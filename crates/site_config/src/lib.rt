@@ -3,7 +3,7 @@
 
 mod config;
 mod fault;
-mod keys;
+pub mod keys;
 mod sockets;
 mod values;
 

@@ -11,10 +11,10 @@ pub enum ParseFault {
     /// The number of the first line that does not fit, counted from 1. For what is wrong in a
     /// definition it is that of its first line, for a part that is not there that of the line past the
     /// last, and for a text that is too long 1.
-    #[error("line {0} does not fit")]
+    #[error("line {0} is malformed")]
     Line(usize),
     /// The type has a template already.
-    #[error("a type that has a template")]
+    #[error("a second template of its type")]
     TwiceType,
     #[error("out of memory")]
     NoMemory,
