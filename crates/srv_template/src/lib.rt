@@ -5,6 +5,7 @@ mod definition;
 mod fault;
 pub mod laws;
 mod lines;
+mod parts;
 mod reading;
 mod templates;
 mod values;
@@ -12,4 +13,5 @@ mod words;
 
 pub use definition::{Definition, ValueKind};
 pub use fault::{FaultKind, ParseFault, TemplateFault};
+pub use parts::{Part, faulty_part};
 pub use templates::{Template, Templates};

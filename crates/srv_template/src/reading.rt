@@ -138,7 +138,7 @@ fn read_definition(
 }
 
 // The definitions of the blocks of lines between blank ones.
-fn read_definitions(alloc: Global, lines: &[&str]) -> Result<Vec<Definition>, Stop>
+pub(crate) fn read_definitions(alloc: Global, lines: &[&str]) -> Result<Vec<Definition>, Stop>
     ensures { IsRead (read_map (λ v. v.items) result) (definitions_from [] (blocks_of (texts_of lines.now))) }
 {
     let mut definitions = Vec::new(alloc);
@@ -161,7 +161,10 @@ fn read_definitions(alloc: Global, lines: &[&str]) -> Result<Vec<Definition>, St
 }
 
 // The name of the type, and the lines after the one that gives it.
-fn read_type<'a, 'b>(alloc: Global, lines: &'b [&'a str]) -> Result<(Text, &'b [&'a str]), Stop>
+pub(crate) fn read_type<'a, 'b>(
+    alloc: Global,
+    lines: &'b [&'a str],
+) -> Result<(Text, &'b [&'a str]), Stop>
     ensures { IsRead (read_map (λ p. (p.0, texts_of p.1.now)) result) (part_in spec.type_in (texts_of lines.now)) }
 {
     let rest = after_blanks(lines);
@@ -175,7 +178,7 @@ fn read_type<'a, 'b>(alloc: Global, lines: &'b [&'a str]) -> Result<(Text, &'b [
 }
 
 // The lines after the one that begins the part of this name.
-fn after_part<'a, 'b>(
+pub(crate) fn after_part<'a, 'b>(
     alloc: Global,
     name: &str,
     lines: &'b [&'a str],

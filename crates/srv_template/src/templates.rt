@@ -2,7 +2,7 @@ ghost use Rattle.std.specs.Prelude.{◌≡◌, ◌↔◌, IfOk, MatchResult, IsN
 ghost use Rattle.std.specs.FinMap as fin;
 ghost use Rattle.std.specs.Option.{option_copied, option_map};
 ghost use Rattle.srv_template.specs.Conformity.{first_fault, template_fault, ConformsTo};
-ghost use Rattle.srv_template.specs.Templates.{added_to, IsFault};
+ghost use Rattle.srv_template.specs.Templates.{added_to, templates_stored, IsFault};
 
 use crate::definition::Definition;
 use crate::fault::{ParseFault, TemplateFault};
@@ -107,6 +107,13 @@ impl Template {
         Ok(Template { name, definitions })
     }
 
+    /// The name A of the type `service:A` that it is of. Takes no memory.
+    pub fn name(&self) -> &str
+        ensures { result.now ≡ self.now.name }
+    {
+        self.name.as_str()
+    }
+
     // An equal template, which shares the definitions.
     fn share(&self, alloc: Global) -> Result<Template, NoMemory>
         ensures { IfOk result (λ t. t ≡ self.now) }
@@ -133,6 +140,13 @@ impl Templates {
         Templates {
             templates: Vec::new(alloc),
         }
+    }
+
+    /// The templates, in the order of their names. Takes no memory.
+    pub fn as_slice(&self) -> &[Template]
+        ensures { templates_stored result.now ≡ self.now }
+    {
+        &self.templates
     }
 
     /// Adds a template. One of a type that has a template is refused as `TwiceType`, else the 257th as

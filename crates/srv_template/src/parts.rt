@@ -1,0 +1,72 @@
+//! At which part a text stops being a template.
+ghost use Rattle.std.specs.Prelude.{◌≡◌, IfOk};
+ghost use Rattle.std.specs.Str.Lines.{lines};
+ghost use Rattle.srv_template.specs.Parts.{faulty_after_type, faulty_part_in};
+ghost use Rattle.srv_template.specs.Stops.{texts_of};
+
+use crate::lines::{Stop, split_at_blank};
+use crate::reading::{after_part, read_definitions, read_type};
+use slp_text::NoMemory;
+use std::alloc::Global;
+
+/// A part of a template, in their order (RFC 2609, section 4).
+#[derive(Clone, Copy, Debug, PartialEq, Eq)]
+pub enum Part {
+    /// The line `template-type=`.
+    ServiceType,
+    /// The line `template-version=`.
+    Version,
+    /// The line `template-description=`, and the lines up to a blank one.
+    Description,
+    /// The line `template-url-syntax=`, and the lines up to a blank one.
+    Syntax,
+    /// The definitions of tags.
+    Definitions,
+}
+
+// The part that is at fault after the one of the type.
+#[tactic(auto, unfolding(crate::specs::Parts::faulty_after_type))]
+fn faulty_after(alloc: Global, lines: &[&str]) -> Result<Option<Part>, NoMemory>
+    ensures { IfOk result (λ p. p ≡ faulty_after_type (texts_of lines.now)) }
+{
+    let version = match after_part(alloc, "template-version", lines) {
+        Ok(rest) => rest,
+        Err(Stop::Left(_)) => return Ok(Some(Part::Version)),
+        Err(Stop::NoMemory) => return Err(NoMemory),
+    };
+    let description = match after_part(alloc, "template-description", version) {
+        Ok(rest) => rest,
+        Err(Stop::Left(_)) => return Ok(Some(Part::Description)),
+        Err(Stop::NoMemory) => return Err(NoMemory),
+    };
+    let syntax = match after_part(alloc, "template-url-syntax", split_at_blank(description).1) {
+        Ok(rest) => rest,
+        Err(Stop::Left(_)) => return Ok(Some(Part::Syntax)),
+        Err(Stop::NoMemory) => return Err(NoMemory),
+    };
+    match read_definitions(alloc, split_at_blank(syntax).1) {
+        Ok(_) => Ok(None),
+        Err(Stop::Left(_)) => Ok(Some(Part::Definitions)),
+        Err(Stop::NoMemory) => Err(NoMemory),
+    }
+}
+
+// The first part of lines that is at fault.
+#[tactic(auto, unfolding(crate::specs::Parts::faulty_part_in))]
+fn faulty_of(alloc: Global, lines: &[&str]) -> Result<Option<Part>, NoMemory>
+    ensures { IfOk result (λ p. p ≡ faulty_part_in (texts_of lines.now)) }
+{
+    match read_type(alloc, lines) {
+        Ok((_, rest)) => faulty_after(alloc, rest),
+        Err(Stop::Left(_)) => Ok(Some(Part::ServiceType)),
+        Err(Stop::NoMemory) => Err(NoMemory),
+    }
+}
+
+/// The first part of a text for which the text is not a template; `None` where each part stands.
+pub fn faulty_part(alloc: Global, text: &str) -> Result<Option<Part>, NoMemory>
+    ensures { IfOk result (λ p. p ≡ faulty_part_in (lines text.now)) }
+{
+    let lines: Vec<&str> = text.lines().collect(alloc)?;
+    faulty_of(alloc, &lines)
+}
