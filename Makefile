@@ -1,38 +1,53 @@
-# make run     replays a small script with the proved program
-# make day     replays a day of a small site; examples/day.md explains it
-# make try     replays it with the program as it stands, unproved, in about a minute
-# make demo    starts the proved server on an example site, and asks it with the proved client
-# make build   proves what the programs need, and leaves them in bin/
-# make test    the gate
-# make wrong   tries the wrong bodies beside the gate, in a copy, and says what refused each; make wrong CRATE=slp_text tries those of one
-#              crate. It is no part of the gate, takes an hour or more, and needs python3
-# make bench   counts instructions per message and measures the server, with the built programs; it is no part of the gate,
-#              and needs valgrind, python3 and a C compiler
-.PHONY: run day try demo build test wrong bench
+# make             lists all this, and starts nothing
+# make try         replays a small script with the program as it stands, unproved: a minute or two
+# make build       proves what the programs need, and leaves them in bin/: an hour on 4 processors, once
+# make demo        starts the server on an example site, and asks it with the client: after make build, seconds
+# make run         replays the script of make try with the proved program: after make build, seconds
+# make day         replays a day of a small site, which examples/day.md explains: after make build, seconds
+# make test        the gate, which proves and tries all from nothing: 45 minutes on 4 processors
+# make wrong       tries the wrong bodies beside the gate, CRATE=slp_text those of one crate: 90 minutes; needs python3
+# make bench       counts what a message costs and measures the server: after make build, 15 minutes; needs valgrind, python3, cc
+# What is proved once is kept in crates/*/out, so that an hour is not waited for twice.
+.PHONY: help try build demo run day test wrong bench
+.DEFAULT_GOAL := help
 
 script := examples/printer.script
 jobs := $(shell nproc)
-parallel := --no-print-directory -j$(jobs)
+
+help:
+	@sed -n 's/^# make/make/p' Makefile
+
+try:
+	@echo "Compiling without any proof: what follows shows how the program works, and proves nothing."
+	@make/try $(script)
+
+# build PROGRAM..: proves what these programs need, side by side, and links them. The crates count themselves in a folder of this build.
+define build
+@command -v rt > /dev/null || { echo "There is no rt on the path: README.md says what is needed."; exit 1; }
+@room=$$(mktemp -d) && trap 'rm -rf "$$room"' EXIT && trap 'exit 130' HUP INT TERM && \
+wanted=$$(make/needed $(1) | wc -l) && echo "$$wanted crates are proved, up to $(jobs) at a time. The first takes minutes." && \
+ROOM=$$room WANTED=$$wanted $(MAKE) --no-print-directory -O -j$(jobs) $(addprefix bin/,$(1)) || \
+{ ls "$$room" | sed -n 's|^failed-\(.*\)|Not proved: \1 (crates/\1/out/build.log)|p'; exit 1; }
+endef
+
+programs := slpda slpcheck slptool slpreplay
+
+build:
+	$(call build,$(programs))
+	@echo "The programs are $(addprefix bin/,$(programs))."
+
+demo:
+	$(call build,slpda slpcheck slptool)
+	@examples/site/demo
 
 run:
-	@$(MAKE) $(parallel) bin/slpreplay
+	$(call build,slpreplay)
 	@bin/slpreplay < $(script)
 
 # Its last line is not a command, so the status is 3.
 day:
-	@$(MAKE) $(parallel) bin/slpreplay
+	$(call build,slpreplay)
 	@bin/slpreplay < crates/slpreplay/stdin || test $$? = 3
-
-try:
-	@echo "Compiling without any proof: what follows shows how the program works, and proves nothing."
-	@cd crates/slpreplay && rt try < ../../$(script) 2> /dev/null | grep -E '^[>#!]'
-
-demo:
-	@$(MAKE) $(parallel) bin/slpda bin/slptool
-	@examples/site/demo
-
-build:
-	@$(MAKE) $(parallel) bin/slpreplay bin/slpda bin/slptool
 
 test:
 	rt ci
@@ -42,19 +57,23 @@ wrong:
 
 bench:
 	@bench/instructions bin/slpreplay
-	@$(MAKE) $(parallel) bin/view_rows
+	$(call build,view_rows)
 	@bench/views bin/view_rows
 	@bench/server bin/slpda
 
-# A crate is proved once those that crates.txt names in its line are: it says so, and what it waited for.
+# A crate is proved once those that crates.txt names in its line are.
 crates := $(shell sed -n 's/^\([a-z_]*\):.*/\1/p' crates.txt)
 below = $(filter $(crates),$(shell sed -n 's/^$(1)://p' crates.txt))
+
+# A build waits for its longest chain: with four processors and more, the crates of the chain get two jobs, all others one.
+goals := $(patsubst bin/%,%,$(filter bin/%,$(MAKECMDGOALS)))
+chain := $(patsubst +%,%,$(filter +%,$(if $(filter-out 1 2 3,$(jobs)),$(shell make/needed $(goals)))))
+jobs_of = $(if $(filter $(1),$(chain)),2,1)
 
 define rules
 .PHONY: proved-$(1)
 proved-$(1): $(addprefix proved-,$(call below,$(1)))
-	@echo "$(1): proving (it waited for $(or $(call below,$(1)),nothing))"
-	@mkdir -p crates/$(1)/out && cd crates/$(1) && { rt lib --jobs 1 > out/build.log 2>&1 || { cat out/build.log; exit 1; }; }
+	@make/prove $(1) lib $(call jobs_of,$(1))
 endef
 $(foreach crate,$(crates),$(eval $(call rules,$(crate))))
 
@@ -63,11 +82,10 @@ $(foreach crate,$(crates),$(eval $(call rules,$(crate))))
 define program
 .PHONY: bin/$(1)
 bin/$(1): $(addprefix proved-,$(call below,$(1)))
-	@echo "$(1): proving and linking (it waited for $(call below,$(1)))"
-	@mkdir -p bin crates/$(1)/out && cd crates/$(1) && { rt run < /dev/null > out/build.log 2>&1; test $$$$? = $(2) || { cat out/build.log; exit 1; }; }
-	@cp crates/$(1)/out/$(1) bin/
+	@make/prove $(1) run $(2)
 endef
 $(eval $(call program,slpreplay,0))
 $(eval $(call program,slpda,64))
+$(eval $(call program,slpcheck,64))
 $(eval $(call program,slptool,64))
 $(eval $(call program,view_rows,0))
