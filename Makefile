@@ -4,11 +4,13 @@
 # make demo        starts the server on an example site, and asks it with the client: after make build, seconds
 # make run         replays the script of make try with the proved program: after make build, seconds
 # make day         replays a day of a small site, which examples/day.md explains: after make build, seconds
+# make install     puts the programs of bin/, tools and pages below prefix=/usr/local: after make build, seconds
+# make uninstall   takes away what make install put, and leaves /etc/slpda alone: seconds
 # make test        the gate, which proves and tries all from nothing: 45 minutes on 4 processors
 # make wrong       tries the wrong bodies beside the gate, CRATE=slp_text those of one crate: 90 minutes; needs python3
 # make bench       counts what a message costs and measures the server: after make build, 15 minutes; needs valgrind, python3, cc
 # What is proved once is kept in crates/*/out, so that an hour is not waited for twice.
-.PHONY: help try build demo run day test wrong bench
+.PHONY: help try build demo run day install uninstall test wrong bench
 .DEFAULT_GOAL := help
 
 script := examples/printer.script
@@ -48,6 +50,45 @@ run:
 day:
 	$(call build,slpreplay)
 	@bin/slpreplay < crates/slpreplay/stdin || test $$? = 3
+
+# What is installed lies below DESTDIR, where a package is made, and prefix. It is found there by its name, so uninstall takes the same.
+prefix ?= /usr/local
+DESTDIR ?=
+root := $(DESTDIR)$(prefix)
+tools := slpctl slpstat slp
+pages := $(wildcard docs/man/*.[158])
+page_of = $(root)/share/man/man$(subst .,,$(suffix $(1)))/$(notdir $(1))
+completions := $(root)/share/bash-completion/completions
+completed := slptool slpda slpcheck slpctl slpstat slp
+units := $(root)/lib/systemd/system
+examples := $(root)/share/doc/slpda/examples
+site := rules.toml printer.template slpda.toml
+etc := $(DESTDIR)/etc/slpda
+
+# The operator's files in /etc/slpda are never written over. slpda.toml comes last: where it is there already, the folder is left alone.
+install:
+	@for program in $(programs); do test -x bin/$$program || \
+	{ echo "There is no bin/$$program: run make build first."; exit 2; }; done
+	install -d $(root)/bin $(completions) $(units) $(examples) $(etc)
+	install -m 755 $(addprefix bin/,$(programs)) $(addprefix contrib/,$(tools)) $(root)/bin
+	$(foreach page,$(pages),install -D -m 644 $(page) $(call page_of,$(page)) &&) true
+	install -m 644 contrib/slptool.bash $(completions)/slptool
+	$(foreach name,$(filter-out slptool,$(completed)),ln -sf slptool $(completions)/$(name) &&) true
+	sed 's|/usr/local/bin/|$(prefix)/bin/|g' examples/systemd/slpda.service > $(units)/slpda.service
+	install -m 644 examples/systemd/slpda.socket $(units)
+	chmod 644 $(units)/slpda.service
+	install -m 644 $(addprefix examples/site/,$(site) closed.toml) $(examples)
+	@test ! -e $(etc)/slpda.toml || { echo "$(etc) stays as it is; examples are in $(examples)."; exit 0; }; \
+	for file in $(site); do test -e $(etc)/$$file || install -m 644 examples/site/$$file $(etc) || exit 1; done; \
+	echo "$(etc) has an example now: change it for the site."
+	@echo "Then: slpctl check; systemctl daemon-reload; systemctl enable --now slpda.socket slpda.service"
+
+uninstall:
+	rm -f $(addprefix $(root)/bin/,$(programs) $(tools)) $(foreach page,$(pages),$(call page_of,$(page)))
+	rm -f $(addprefix $(completions)/,$(completed)) $(addprefix $(units)/,slpda.service slpda.socket)
+	rm -f $(addprefix $(examples)/,$(site) closed.toml)
+	@rmdir $(examples) $(dir $(examples)) 2> /dev/null || true
+	@echo "$(etc) is left as it is."
 
 test:
 	rt ci
