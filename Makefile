@@ -1,15 +1,15 @@
 # make             lists all this, and starts nothing
 # make try         replays a small script with the program as it stands, unproved: a minute or two
-# make build       proves what the programs need, and leaves them in bin/: an hour on 4 processors, once
-# make demo        starts the server on an example site, and asks it with the client: after make build, seconds
-# make run         replays the script of make try with the proved program: after make build, seconds
-# make day         replays a day of a small site, which examples/day.md explains: after make build, seconds
-# make install     puts the programs of bin/, tools and pages below prefix=/usr/local: after make build, seconds
+# make build       proves what the programs need, and leaves them in bin/: an hour the first time, on 4 processors
+# make demo        starts the server on an example site, and asks it with the client: as make build, and seconds
+# make run         replays the script of make try, or script=FILE, with the proved program: half an hour the first time
+# make day         replays a day of a small site, which examples/day.md explains: as make run
+# make install     puts the programs of bin/, tools and pages below prefix=/usr/local: seconds, once make build is done
 # make uninstall   takes away what make install put, and leaves /etc/slpda alone: seconds
-# make test        the gate, which proves and tries all from nothing: 45 minutes on 4 processors
-# make wrong       tries the wrong bodies beside the gate, CRATE=slp_text those of one crate: 90 minutes; needs python3
-# make bench       counts what a message costs and measures the server: after make build, 15 minutes; needs valgrind, python3, cc
-# What is proved once is kept in crates/*/out, so that an hour is not waited for twice.
+# make test        the gate, which proves and tries all from nothing: 45 minutes, on 4 processors
+# make wrong       tries the wrong bodies beside the gate, or CRATE=slp_text those of one crate: 90 minutes; needs python3
+# make bench       counts what a message costs, and measures the server: minutes, once make build is done; needs valgrind, python3, cc
+# What is proved is kept in crates/*/out: a second call proves what changed since, and what stands on it.
 .PHONY: help try build demo run day install uninstall test wrong bench
 .DEFAULT_GOAL := help
 
