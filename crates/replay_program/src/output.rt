@@ -1,6 +1,6 @@
-ghost use Rattle.std.specs.Prelude.{◌≡◌, ◌<◌, ◌≤◌, length, slice_index, OnOk};
+ghost use Rattle.std.specs.Prelude.{◌≤◌, length, OnOk};
 ghost use Rattle.std.specs.Io.KnownBytes.{Appends};
-ghost use Rattle.hex.specs.Hex.{encode_lower, lower_digits};
+ghost use Rattle.hex.specs.Hex.{encode_lower};
 ghost use Rattle.replay_program.specs.Worlds.{no_memory_text, answer_text};
 
 use access_rules::Addr;
@@ -8,45 +8,20 @@ use slp_answer::refusal;
 use std::io;
 use std::io::Write;
 
-/// So many bytes are shown by digits at once.
+/// The bytes whose digits are made at once.
 const PIECE: usize = 64;
-
-// A digit of hexadecimal, in lower case.
-fn digit(value: u8) -> u8
-    requires { value < 16 }
-    ensures { result ≡ slice_index lower_digits value }
-{
-    let first = if value < 10 { b'0' } else { b'a' - 10 };
-    first + value
-}
-
-// The digits of a piece. First and second digits are made apart, so that many are made at once.
-fn digits_of(piece: &[u8; PIECE]) -> [u8; 2 * PIECE]
-    ensures { result ≡ encode_lower piece.now }
-{
-    let mut first = [0u8; PIECE];
-    let mut second = [0u8; PIECE];
-    for i in 0..PIECE {
-        first[i] = digit(piece[i] / 16);
-        second[i] = digit(piece[i] % 16);
-    }
-    let mut digits = [0u8; 2 * PIECE];
-    for i in 0..PIECE {
-        digits[2 * i] = first[i];
-        digits[2 * i + 1] = second[i];
-    }
-    digits
-}
 
 // Writes the digits of at most 64 bytes.
 fn print_piece<W: Write>(bytes: &[u8], writer: &mut W) -> io::Result<()>
     requires { length bytes.now ≤ 64 }
     ensures { OnOk result (Appends (W.contents writer.old) (W.contents writer.new) (encode_lower bytes.now)) }
 {
-    let mut piece = [0u8; PIECE];
-    piece[..bytes.len()].copy_from_slice(bytes);
-    let digits = digits_of(&piece);
-    writer.write_all(&digits[..2 * bytes.len()])
+    let mut room = [0; 2 * PIECE];
+    let digits = &mut room[..2 * bytes.len()];
+    match hex::encode_to_slice(bytes, digits) {
+        Ok(()) => writer.write_all(digits),
+        Err(_) => unreachable!(),
+    }
 }
 
 // Writes the digits of bytes. Takes no memory.

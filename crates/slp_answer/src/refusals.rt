@@ -1,4 +1,4 @@
-ghost use Rattle.std.specs.Prelude.{◌≡◌, ◌≤◌, take, Some, None};
+ghost use Rattle.std.specs.Prelude.{◌≡◌, ◌≤◌, [], take, Some, None};
 ghost use Rattle.slp_headers.specs.Headers.{heading_in, heading_of};
 ghost use Rattle.slp_messages.specs.declared.code.TheConstants.{INTERNAL_ERROR};
 ghost use Rattle.access_rules.specs.Deciding.{no_rules};
@@ -32,8 +32,8 @@ fn put_reply(header: &HeaderView<'_>, request: Request, reply: &mut [u8; 80]) ->
 
 // Writes the line of a message that found no memory.
 fn put_refusal(told: &mut ShortLine, action: Action, asker: Addr)
-    requires { told.old.end ≡ 0 }
-    ensures { take told.new.end told.new.bytes ≡ audit_text no_rules (record { code = INTERNAL_ERROR; because = by_step Memory None; action = action; asker = asker }) }
+    requires { told.old.bytes ≡ [] }
+    ensures { told.new.bytes ≡ audit_text no_rules (record { code = INTERNAL_ERROR; because = by_step Memory None; action = action; asker = asker }) }
 {
     let reason = Reason {
         decider: Decider::Memory,
@@ -94,7 +94,7 @@ pub fn refused_reply(bytes: &[u8]) -> ShortReply
 /// The audit line of a message that found no memory. It is empty where the header is not readable, and where the function is
 /// none that is answered. Takes no memory.
 pub fn refused_line(bytes: &[u8], asker: Addr) -> ShortLine
-    ensures { take result.end result.bytes ≡ line_of no_rules asker (heading_of bytes.now) (refusal_outcome (heading_of bytes.now)) }
+    ensures { result.bytes ≡ line_of no_rules asker (heading_of bytes.now) (refusal_outcome (heading_of bytes.now)) }
 {
     let mut told = ShortLine::new();
     let Some(header) = read_header(bytes) else {
@@ -121,8 +121,8 @@ pub fn refusal(
 {
     let sent = refused_reply(bytes);
     let told = refused_line(bytes, asker);
-    let (replied, written) = (sent.bytes, told.bytes);
+    let replied = sent.bytes;
     *reply = replied;
-    *line = written;
-    (sent.end, told.end)
+    line[..told.len()].copy_from_slice(told.as_str().as_bytes());
+    (sent.end, told.len())
 }

@@ -1,6 +1,7 @@
 //! Where a line is written: into a vector, which may find no memory, or into a short line, which takes none.
-ghost use Rattle.std.specs.Prelude.{◌≡◌, ◌≤◌, ◌+◌, ◌-◌, ◌++◌, [], length, take, OnOk, OnErr};
+ghost use Rattle.std.specs.Prelude.{◌≡◌, ◌≤◌, ◌+◌, ◌++◌, length, OnOk, OnErr};
 
+use arrayvec::ArrayString;
 use slp_text::NoMemory;
 
 /// Bytes that are written one after the other.
@@ -32,44 +33,19 @@ impl Sink for Vec<u8> {
 }
 
 /// A line of at most 128 bytes. It takes no memory.
-#[derive(Drop)]
-pub struct ShortLine {
-    pub(crate) bytes: [u8; 128],
-    pub(crate) end: usize,
-    ghost within: { end ≤ 128 },
-}
-
-impl ShortLine {
-    /// A line of no byte.
-    pub(crate) fn new() -> ShortLine
-        ensures { result.end ≡ 0 }
-    {
-        ShortLine {
-            bytes: [0; 128],
-            end: 0,
-        }
-    }
-
-    /// The line.
-    pub fn as_slice(&self) -> &[u8]
-        ensures { result.now ≡ take self.now.end self.now.bytes }
-    {
-        &self.bytes[..self.end]
-    }
-}
+pub type ShortLine = ArrayString<128>;
 
 impl Sink for ShortLine {
-    ghost written = { λ l. take l.end l.bytes };
+    ghost use Rattle.std.specs.Prelude.{◌-◌, length};
 
-    ghost room = { λ l. 128 - l.end };
+    ghost written = { λ l. l.bytes };
+
+    ghost room = { λ l. 128 - length l.bytes };
 
     fn put(&mut self, text: &str) -> Result<(), NoMemory> {
-        if text.len() > 128 - self.end {
-            return Err(NoMemory);
+        match self.try_push_str(text) {
+            Ok(()) => Ok(()),
+            Err(_) => Err(NoMemory),
         }
-        let end = self.end + text.len();
-        self.bytes[self.end..end].copy_from_slice(text.as_bytes());
-        self.end = end;
-        Ok(())
     }
 }

@@ -10,6 +10,6 @@ use Rattle.slp_answer.proofs.refusals.refused_line.Goals as goal
 pub returns : goal.returns
 returns c =
     let some = answered c.in-Some-of.request in
-    line_is_refused c.args.asker (heading_in c.in-Some.header) some.0 c.action.result (take c.put_refusal.new.told.end c.put_refusal.new.told.bytes)
+    line_is_refused c.args.asker (heading_in c.in-Some.header) some.0 c.action.result c.put_refusal.new.told.bytes
     (some.1 ∙ ap reply_function_of c.in-Some-of.ensures.some) (c.action.ensures ∙ ap action_of c.in-Some-of.ensures.some) c.put_refusal.ensures
     ∙ sym (ap (λ (o : Option Heading). line_of no_rules c.args.asker o (refusal_outcome o)) c.in-Some.ensures)
