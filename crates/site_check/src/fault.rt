@@ -1,0 +1,35 @@
+use slp_text::NoMemory;
+use std::alloc::{AllocError, AllocFailed};
+use std::io;
+
+/// Why a check does not come to its end.
+#[derive(Clone, Copy, Debug, PartialEq, Eq)]
+pub(crate) enum CheckFault {
+    /// What was found cannot be written.
+    Output,
+    NoMemory,
+}
+
+impl From<io::Error> for CheckFault {
+    fn from(_e: io::Error) -> CheckFault {
+        CheckFault::Output
+    }
+}
+
+impl From<NoMemory> for CheckFault {
+    fn from(_e: NoMemory) -> CheckFault {
+        CheckFault::NoMemory
+    }
+}
+
+impl From<AllocError> for CheckFault {
+    fn from(_e: AllocError) -> CheckFault {
+        CheckFault::NoMemory
+    }
+}
+
+impl<T: Drop> From<AllocFailed<T>> for CheckFault {
+    fn from(_e: AllocFailed<T>) -> CheckFault {
+        CheckFault::NoMemory
+    }
+}

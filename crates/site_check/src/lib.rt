@@ -1,0 +1,16 @@
+//! The program `slpcheck`: what is wrong with the files of a site, said before a server starts with them.
+#![tactic(auto)]
+
+mod config_faults;
+mod fault;
+mod hiding;
+pub mod laws;
+mod problem;
+mod program;
+mod rule_faults;
+mod site;
+mod template_faults;
+mod warnings;
+
+pub use hiding::hides;
+pub use program::check_run;

@@ -1,0 +1,33 @@
+//! At which line a template is at fault, and with what.
+use crate::fault::CheckFault;
+use crate::problem::{FileText, LONGEST_TEXT, Place, Problem, report};
+use srv_template::{Part, faulty_part};
+use std::alloc::Global;
+use std::io::Write;
+
+// What is wrong where a template stops at a part.
+fn refusal(part: Part) -> &'static str {
+    match part {
+        Part::ServiceType => "expected template-type=TYPE",
+        Part::Version => "expected template-version=",
+        Part::Description => "expected template-description=",
+        Part::Syntax => "expected template-url-syntax=",
+        Part::Definitions => "a malformed definition, or a second one of its tag",
+    }
+}
+
+/// Writes why a text is not a template, which was refused at a line.
+pub(crate) fn explain_template<W: Write>(
+    alloc: Global,
+    file: FileText<'_>,
+    line: usize,
+    writer: &mut W,
+) -> Result<(), CheckFault> {
+    if file.text.len() > LONGEST_TEXT {
+        report(Place::File(file.path), Problem::TooLong, writer)?;
+    } else if let Some(part) = faulty_part(alloc, file.text)? {
+        let problem = Problem::Template(refusal(part));
+        report(Place::Line(file.path, line), problem, writer)?;
+    }
+    Ok(())
+}

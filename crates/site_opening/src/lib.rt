@@ -1,0 +1,13 @@
+//! What a site begins with: its configuration, and the rules and templates of the files that it names.
+#![tactic(auto)]
+
+mod fault;
+mod files;
+pub mod laws;
+mod opening;
+mod words;
+
+pub use fault::StartFault;
+pub use files::{FileFault, read};
+pub use opening::{SiteFiles, open_site, rules_at};
+pub use words::config_path;

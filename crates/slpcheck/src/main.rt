@@ -1,0 +1,41 @@
+//! A check of the files of a site, before a server starts with them.
+#![tactic(auto)]
+
+use site_check::check_run;
+use std::env;
+use std::io::{self, BufWriter, Write};
+use std::process::ExitCode;
+
+/// The status where no memory is found before the files are read.
+const NO_MEMORY: u8 = 3;
+/// The status of wrong usage, where an argument is not text.
+const USAGE: u8 = 64;
+
+// The words without the program's own name.
+fn words(rt: &HostRuntime) -> io::Result<Vec<String>> {
+    let mut words = Vec::new(rt.alloc());
+    for word in env::args(rt)?.skip(1) {
+        words.push(word)?;
+    }
+    Ok(words)
+}
+
+// The status of a call whose words are not all text, or that finds no memory for them.
+fn refuse(rt: &HostRuntime, fault: &io::Error) -> ExitCode {
+    if fault.kind() != io::ErrorKind::InvalidData {
+        return ExitCode::from(NO_MEMORY);
+    }
+    let _ = io::writer(rt).write_all(b"usage: slpcheck CONFIG\n");
+    ExitCode::from(USAGE)
+}
+
+fn main(rt: HostRuntime) -> ExitCode {
+    let words = match words(&rt) {
+        Ok(words) => words,
+        Err(fault) => return refuse(&rt, &fault),
+    };
+    let Ok(mut writer) = BufWriter::new(rt.alloc(), io::writer(&rt)) else {
+        return ExitCode::from(NO_MEMORY);
+    };
+    ExitCode::from(check_run(&rt, rt.alloc(), words.as_slice(), &mut writer))
+}
