@@ -3,11 +3,10 @@ ghost use Rattle.std.specs.Prelude.{◌≡◌, ◌≤◌, length, IfOk, OnOk};
 ghost use Rattle.std.specs.Io.KnownBytes.{Appends};
 ghost use Rattle.agent_program.specs.Statuses.{reload_text, sweep_text};
 
-use crate::fault::StartFault;
-use crate::opening;
 use crate::threads::Task;
 use access_rules::{RuleFault, Rules};
 use published_view::{DirectoryWriter, Naming, ViewFault};
+use site_opening::{StartFault, rules_at};
 use site_reports::print_rules;
 use slp_loops::{Moments, WallClock};
 use slp_text::Text;
@@ -135,13 +134,15 @@ where
         let number = rules.len();
         let moment = self.clock.now();
         let mut writer = self.writer.lock(self.rt);
-        writer.reload(self.alloc, moment, rules)?;
-        Ok(number)
+        match writer.reload(self.alloc, moment, rules) {
+            Ok(()) => Ok(number),
+            Err(_) => Err(StartFault::NoMemory),
+        }
     }
 
     // Reads the rule file again. Its rules decide from now on, unless they are refused.
     fn reload(&mut self) {
-        let told = match opening::rules(self.rt, self.alloc, self.rules) {
+        let told = match rules_at(self.rt, self.alloc, self.rules) {
             Ok(rules) => self.put(rules),
             Err(fault) => Err(fault),
         };

@@ -1,135 +1,15 @@
-ghost use Rattle.std.specs.Prelude.{◌≡◌, OnOk};
-ghost use Rattle.std.specs.Io.KnownBytes.{Appends};
-ghost use Rattle.agent_program.specs.Statuses.{start_status, start_text};
-ghost use Rattle.agent_program.specs.declared.fault.StartFault.TheVariants as start;
+ghost use Rattle.std.specs.Prelude.{◌≡◌};
+ghost use Rattle.agent_program.specs.Statuses.{loop_start};
 
-use access_rules::RuleFault;
-use published_view::ViewFault;
-use site_config::ConfigFault;
-use site_reports::{print_config_fault, print_rules_fault, print_template_fault};
+use site_opening::StartFault;
 use slp_loops::LoopFault;
-use slp_text::NoMemory;
-use srv_template::ParseFault;
-use std::alloc::{AllocError, AllocFailed};
-use std::io::{self, Write};
 
-/// Why an agent does not start.
-#[derive(Clone, Copy, Debug, PartialEq, Eq)]
-pub(crate) enum StartFault {
-    /// A file or a socket failed.
-    Failed,
-    Config(ConfigFault),
-    Rules(RuleFault),
-    Template(ParseFault),
-    NoMemory,
-}
-
-impl StartFault {
-    /// The status of an agent that does not start.
-    pub(crate) fn status(self) -> u8
-        ensures { result ≡ start_status self }
-    {
-        match self {
-            StartFault::Failed => 1,
-            StartFault::Config(_) | StartFault::Rules(_) | StartFault::Template(_) => 2,
-            StartFault::NoMemory => 3,
-        }
-    }
-
-    /// Writes what was refused; nothing where a file, a socket or memory failed.
-    pub(crate) fn print<W: Write>(self, writer: &mut W) -> io::Result<()>
-        ensures { OnOk result (Appends (W.contents writer.old) (W.contents writer.new) (start_text self)) }
-    {
-        match self {
-            StartFault::Failed | StartFault::NoMemory => writer.write_all(b""),
-            StartFault::Config(fault) => print_config_fault(fault, writer),
-            StartFault::Rules(fault) => print_rules_fault(fault, writer),
-            StartFault::Template(fault) => print_template_fault(fault, writer),
-        }
-    }
-}
-
-impl From<AllocError> for StartFault {
-    ghost from_gives = { λ _ e. e ≡ start.NoMemory };
-
-    fn from(_e: AllocError) -> StartFault {
-        StartFault::NoMemory
-    }
-}
-
-impl<T: Drop> From<AllocFailed<T>> for StartFault {
-    ghost from_gives = { λ _ e. e ≡ start.NoMemory };
-
-    fn from(_e: AllocFailed<T>) -> StartFault {
-        StartFault::NoMemory
-    }
-}
-
-impl From<NoMemory> for StartFault {
-    ghost from_gives = { λ _ e. e ≡ start.NoMemory };
-
-    fn from(_e: NoMemory) -> StartFault {
-        StartFault::NoMemory
-    }
-}
-
-// A place for each loop is there, so memory was wanting.
-impl From<ViewFault> for StartFault {
-    ghost from_gives = { λ _ e. e ≡ start.NoMemory };
-
-    fn from(_e: ViewFault) -> StartFault {
-        StartFault::NoMemory
-    }
-}
-
-impl From<ConfigFault> for StartFault {
-    ghost use Rattle.agent_program.specs.Statuses.{config_start};
-
-    ghost from_gives = { λ fault e. e ≡ config_start fault };
-
-    fn from(e: ConfigFault) -> StartFault {
-        match e {
-            ConfigFault::NoMemory => StartFault::NoMemory,
-            fault => StartFault::Config(fault),
-        }
-    }
-}
-
-impl From<RuleFault> for StartFault {
-    ghost use Rattle.agent_program.specs.Statuses.{rules_start};
-
-    ghost from_gives = { λ fault e. e ≡ rules_start fault };
-
-    fn from(e: RuleFault) -> StartFault {
-        match e {
-            RuleFault::NoMemory => StartFault::NoMemory,
-            fault => StartFault::Rules(fault),
-        }
-    }
-}
-
-impl From<ParseFault> for StartFault {
-    ghost use Rattle.agent_program.specs.Statuses.{template_start};
-
-    ghost from_gives = { λ fault e. e ≡ template_start fault };
-
-    fn from(e: ParseFault) -> StartFault {
-        match e {
-            ParseFault::NoMemory => StartFault::NoMemory,
-            fault => StartFault::Template(fault),
-        }
-    }
-}
-
-impl From<LoopFault> for StartFault {
-    ghost use Rattle.agent_program.specs.Statuses.{loop_start};
-
-    ghost from_gives = { λ fault e. e ≡ loop_start fault };
-
-    fn from(e: LoopFault) -> StartFault {
-        match e {
-            LoopFault::Io => StartFault::Failed,
-            LoopFault::NoMemory => StartFault::NoMemory,
-        }
+/// Why an agent does not start where a loop is not opened.
+pub(crate) fn loop_fault(fault: LoopFault) -> StartFault
+    ensures { result ≡ loop_start fault }
+{
+    match fault {
+        LoopFault::Io => StartFault::Failed,
+        LoopFault::NoMemory => StartFault::NoMemory,
     }
 }

@@ -3,7 +3,6 @@
 
 mod console;
 mod fault;
-mod files;
 mod opening;
 mod program;
 mod starting;

@@ -4,12 +4,13 @@ ghost use Rattle.std.specs.Arc.{arc_value};
 ghost use Rattle.std.specs.Option.{option_map};
 
 use crate::console::Console;
-use crate::fault::StartFault;
+use crate::fault::loop_fault;
 use crate::opening::{Beginning, begun};
 use crate::sweeping::Sweeping;
 use crate::threads::{Job, serve};
 use published_view::{Gate, LoopView, Naming, Opened, open};
 use site_config::Config;
+use site_opening::StartFault;
 use slp_loops::{AgentLoop, Desk, Moments, Shared, WallClock};
 use std::alloc::Global;
 use std::io::{Read, Write};
@@ -68,7 +69,7 @@ where
     let desk = desk_at(config, place, view, shared);
     match AgentLoop::new(shared.rt, shared.alloc, config, place, desk) {
         Ok(agent) => Ok(Job::Serve(agent)),
-        Err(fault) => Err(StartFault::from(fault)),
+        Err(fault) => Err(loop_fault(fault)),
     }
 }
 

@@ -3,7 +3,7 @@
 ghost use Rattle.std.specs.Prelude.{◌≡◌};
 ghost use Rattle.agent_program.specs.Statuses as spec;
 
-use crate::fault::StartFault;
+use site_opening::StartFault;
 use slp_loops::{AgentLoop, LoopFault, Serve};
 use std::alloc::Global;
 use std::sync::atomic::{AtomicBool, Ordering};

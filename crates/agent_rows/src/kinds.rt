@@ -72,10 +72,11 @@ pub(crate) enum ToolRow {
     Call,
     Serve,
     Silent,
+    Check,
 }
 
 /// The rows by their words.
-static ROWS: [(&str, Row); 37] = [
+static ROWS: [(&str, Row); 38] = [
     ("at", Row::Place(PlaceRow::At)),
     ("from", Row::Place(PlaceRow::From)),
     ("near", Row::Place(PlaceRow::Near)),
@@ -113,6 +114,7 @@ static ROWS: [(&str, Row); 37] = [
     ("call", Row::Tool(ToolRow::Call)),
     ("serve", Row::Tool(ToolRow::Serve)),
     ("silent", Row::Tool(ToolRow::Silent)),
+    ("check", Row::Tool(ToolRow::Check)),
 ];
 
 impl Row {

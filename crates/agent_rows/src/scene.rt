@@ -9,6 +9,7 @@ use crate::sockets::{
     send_messages, socket, stream,
 };
 use crate::words::{address_of, cut, expanded, message_of, number_of, words_of};
+use site_check::check_run;
 use std::alloc::Global;
 use std::fs::File;
 use std::io::{self, BufRead, BufReader, ErrorKind, Read, Write};
@@ -347,6 +348,14 @@ where
         self.call(PATIENT, words.as_slice(), out)
     }
 
+    // Calls the check of a site with these words as they are.
+    fn check(&self, line: &str, out: &mut Vec<u8>) -> io::Result<()> {
+        let words = words_of(self.alloc, line)?;
+        let mut printed = Vec::new(self.alloc);
+        let status = check_run(self.rt, self.alloc, words.as_slice(), &mut printed);
+        self.print_call(status, printed.as_slice(), out)
+    }
+
     // Calls the tool at the agent.
     fn tool(&mut self, after: u64, line: &str, out: &mut Vec<u8>) -> io::Result<()> {
         let words = self.words(self.place.to, self.place.port, line)?;
@@ -531,7 +540,7 @@ where
         }
     }
 
-    // Rows that call the tool.
+    // Rows that call a program, other than the agent.
     fn call_tool(&mut self, row: ToolRow, rest: &str, out: &mut Vec<u8>) -> io::Result<()> {
         match row {
             ToolRow::Tool => self.tool(PATIENT, rest, out),
@@ -539,6 +548,7 @@ where
             ToolRow::Call => self.call_by_words(rest, out),
             ToolRow::Serve => self.serve(rest, out),
             ToolRow::Silent => self.silent(rest, out),
+            ToolRow::Check => self.check(rest, out),
         }
     }
 

@@ -181,7 +181,7 @@ impl<'r, 's, J: Naming, R: Wait, M: Moments + Drop, G: Gate, W: Write> Serve
             }
             Err(_) => {
                 let line = refused_line(message, asker);
-                self.tell(line.as_slice());
+                self.tell(line.as_str().as_bytes());
                 Err(NoMemory)
             }
         }

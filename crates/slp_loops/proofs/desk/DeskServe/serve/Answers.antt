@@ -11,5 +11,5 @@ returns-in-Err g c = record {
   unasked = λ q. ap (λ d. d.told) c.tell-in-Err.ensures.kept ∙ c.in-Err.ensures.unasked q;
   refused = ap (λ d. d.told) c.tell-in-Err.ensures.kept ∙ c.in-Err.ensures.refused;
   own = ap (λ d. d.own) c.tell-in-Err.ensures.kept ∙ ap (λ d. d.own) c.in-Err.ensures.kept;
-  unsettled = rw (← c.as_slice-in-Err.ensures ∙ c.refused_line-line.ensures, ← ap (λ d. d.is_unsettled) c.in-Err.ensures.kept) c.tell-in-Err.ensures.unsettled;
+  unsettled = rw (← c.as_bytes.ensures.value ∙ c.as_str.ensures.value ∙ c.refused_line-line.ensures, ← ap (λ d. d.is_unsettled) c.in-Err.ensures.kept) c.tell-in-Err.ensures.unsettled;
 }
