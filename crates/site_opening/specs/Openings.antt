@@ -1,16 +1,14 @@
 -- What a site begins with, by the texts of its files.
-use Rattle.std.specs.Prelude.{◌≡◌, ℕ, Option, Some, None, is_some, Result, Ok, Err, List, [], ◌∷◌, length}
+use Rattle.std.specs.Prelude.{◌≡◌, ℕ, Option, Some, None, is_some, Result, Ok, Err, IsOk, List, [], ◌∷◌, length}
 use Rattle.std.specs.FinMap as fin
 use Rattle.access_rules.specs.Deciding.{SiteRules, no_rules}
 use Rattle.access_rules.specs.RuleFiles.{rules_in_text}
-use Rattle.access_rules.specs.declared.fault.RuleFault.{RuleFault}
 use Rattle.site_config.specs.Configurations.{config_of}
 use Rattle.site_config.specs.declared.config.Config.{Config}
 use Rattle.slp_text.specs.Reading.{read_map, read_then}
 use Rattle.srv_template.specs.Conformity.{SiteTemplates}
 use Rattle.srv_template.specs.Reading.{template_in}
 use Rattle.srv_template.specs.Templates.{added_to}
-use Rattle.srv_template.specs.declared.fault.ParseFault.{ParseFault}
 use Rattle.site_opening.specs.Statuses.{config_start, rules_start, template_start}
 use Rattle.site_opening.specs.declared.fault.StartFault.{StartFault}
 use Rattle.site_opening.specs.declared.fault.StartFault.TheVariants.{Failed, Config as ConfigRefused, Rules, Template, NoMemory}
@@ -58,6 +56,12 @@ start_of t =
     read_then (λ config. read_map (files_with config)
     (named_start_of (t.rules, t.templates)))
     (config_start_of t.config)
+
+-- each text is taken: that of the configuration, of the rule file if there is one, and of each template
+pub record AreTaken (t : SiteTexts) : Type 0 where
+  pub config : IsOk (config_start_of t.config)
+  pub rules : IsOk (rules_start_of t.rules)
+  pub templates : IsOk (templates_start_of t.templates)
 
 -- each of the files that a configuration names has a text
 abbrev pub AreOf : Config → Option (List ℕ) × List (List ℕ) → Type 0
