@@ -31,8 +31,8 @@ rule = [
 ]
 ";
 
-/// The rules of a text.
-pub fn rules_of(alloc: Global, text: &str) -> Result<Arc<Rules>, NoMemory> {
+// The rules of a text.
+fn rules_of(alloc: Global, text: &str) -> Result<Arc<Rules>, NoMemory> {
     let rules = found(Rules::from_text(alloc, text))?;
     Ok(Arc::new(alloc, rules)?)
 }
@@ -52,8 +52,8 @@ fn one_scope(alloc: Global, scope: &str) -> Result<ScopeList, NoMemory>
     }
 }
 
-/// A site of one scope, with room for so many entries.
-pub fn site(alloc: Global, capacity: usize) -> Result<Site, NoMemory>
+// A site of one scope, with room for so many entries.
+fn site(alloc: Global, capacity: usize) -> Result<Site, NoMemory>
     requires some { 0 < capacity }
     requires few { capacity ≤ 65536 }
     ensures { IfOk result (λ site. site.capacity ≡ capacity) }

@@ -18,11 +18,7 @@ mod entries;
 #[cfg(test)]
 mod filters;
 #[cfg(test)]
-mod hoard;
-#[cfg(test)]
 mod messages;
-#[cfg(test)]
-mod refusals;
 #[cfg(test)]
 mod registries;
 #[cfg(test)]

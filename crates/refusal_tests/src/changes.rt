@@ -1,15 +1,16 @@
-ghost use Rattle.std.specs.Prelude.{◌≤◌, ◌<◌, length, IfOk};
+//! Changes that are made while all memory is refused.
+ghost use Rattle.std.specs.Prelude.{◌≡◌, ◌≤◌, ◌<◌, length, IfOk};
 ghost use Rattle.std.specs.Arc.{arc_value};
 
-use crate::assertion::found;
-use crate::directories::{rules_of, site};
-use crate::entries::{Parts, entry_of};
 use crate::hoard::{Hoard, are_refused};
+use crate::site::{CLOSED, directory, found, rules_of};
+use access_rules::Rules;
+use attr_list::Attrs;
 use directory_judge::{Change, Placed, Withdrawn};
 use directory_state::Directory;
 use registry_core::{Entry, Registry};
-use service_url::Url;
-use slp_text::{NoMemory, ScopeList};
+use service_url::{ServiceType, Url};
+use slp_text::{Key, NoMemory, ScopeList};
 use std::alloc::Global;
 use std::sync::Arc;
 use table_registry::SiteRegistry;
@@ -20,6 +21,7 @@ enum Word {
     Edit,
     Withdraw,
     Sweep,
+    Reload,
 }
 
 // What is done, with the URL and the type of an entry, and its deadline or the moment. Then the deadlines that the entries
@@ -49,10 +51,11 @@ static REFRESHES: [Row; 4] = [
 ];
 
 // Changes of all kinds. They leave what was there before.
-static CHANGES: [Row; 10] = [
+static CHANGES: [Row; 11] = [
     (Word::Edit, FIRST, Y, 150, 150, 300),
     (Word::Withdraw, FIRST, X, 0, 0, 300),
     (Word::Put, FIRST, X, 100, 100, 300),
+    (Word::Reload, FIRST, X, 0, 100, 300),
     (Word::Sweep, FIRST, X, 100, 0, 300),
     (Word::Edit, FIRST, X, 200, 0, 300),
     (Word::Put, FIRST, X, 200, 200, 300),
@@ -70,17 +73,31 @@ struct Step {
     second: u64,
 }
 
+// One scope.
+fn one_scope(alloc: Global) -> Result<ScopeList, NoMemory>
+    ensures { IfOk result (λ scopes. length scopes ≡ 1) }
+{
+    let scopes = found(ScopeList::parse(alloc, "default"))?;
+    if scopes.len() == 1 {
+        Ok(scopes)
+    } else {
+        Err(NoMemory)
+    }
+}
+
 fn entry(alloc: Global, url: &str, kind: &str, deadline: u32) -> Result<Arc<Entry>, NoMemory>
     ensures some { IfOk result (λ e. 0 < length (arc_value e).scopes) }
     ensures few { IfOk result (λ e. length (arc_value e).scopes ≤ 16) }
 {
-    let parts = Parts {
-        language: "en",
-        kind,
-        scopes: "default",
+    let entry = Entry {
+        url: found(Url::parse(alloc, url))?,
+        language: Key::of(alloc, "en")?,
+        kind: found(ServiceType::parse(alloc, kind))?,
+        scopes: one_scope(alloc)?,
+        attrs: found(Attrs::parse(alloc, ""))?,
         deadline: u64::from(deadline),
     };
-    entry_of(alloc, url, parts)
+    Ok(Arc::new(alloc, entry)?)
 }
 
 fn placed(alloc: Global, url: &str, kind: &str, deadline: u32) -> Result<Placed, NoMemory> {
@@ -90,7 +107,7 @@ fn placed(alloc: Global, url: &str, kind: &str, deadline: u32) -> Result<Placed,
 
 fn withdrawn(alloc: Global, url: &str) -> Result<Arc<Withdrawn>, NoMemory> {
     let url = found(Url::parse(alloc, url))?;
-    let scopes = found(ScopeList::parse(alloc, "default"))?;
+    let scopes = one_scope(alloc)?;
     Ok(Arc::new(alloc, Withdrawn { url, scopes })?)
 }
 
@@ -101,6 +118,10 @@ fn change_of(alloc: Global, row: &Row) -> Result<Change, NoMemory> {
         Word::Edit => Ok(Change::Edit(placed(alloc, url, kind, seconds)?)),
         Word::Withdraw => Ok(Change::Withdraw(0, withdrawn(alloc, url)?)),
         Word::Sweep => Ok(Change::Sweep(seconds)),
+        Word::Reload => {
+            let rules = Arc::new(alloc, rules_of(alloc, CLOSED)?)?;
+            Ok(Change::Reload(seconds, rules))
+        }
     }
 }
 
@@ -117,7 +138,7 @@ fn add_steps(alloc: Global, rows: &[Row], steps: &mut Vec<Step>) -> Result<(), N
     Ok(())
 }
 
-// Entries of other URLs, until so many are held.
+// Entries of other URLs, until this many are held.
 fn add_others(alloc: Global, capacity: usize, steps: &mut Vec<Step>) -> Result<(), NoMemory> {
     for number in 2..capacity {
         let url = format!(in alloc; "service:a:x://{number}")?;
@@ -131,11 +152,13 @@ fn add_others(alloc: Global, capacity: usize, steps: &mut Vec<Step>) -> Result<(
     Ok(())
 }
 
-// The changes that fill a directory, so many, and those that follow. Beside them the entries whose deadlines are looked up.
+// The changes that fill a directory, as many as its capacity, and those that follow. Beside them the rules with which it begins, and the
+// entries whose deadlines are looked up.
 #[derive(Drop)]
 struct Plan {
     steps: Vec<Step>,
     capacity: usize,
+    rules: Arc<Rules>,
     first: Arc<Entry>,
     second: Arc<Entry>,
 }
@@ -153,6 +176,7 @@ impl Plan {
         Ok(Plan {
             steps: all_steps(alloc, rows, capacity)?,
             capacity,
+            rules: Arc::new(alloc, rules_of(alloc, CLOSED)?)?,
             first: entry(alloc, FIRST, X, 0)?,
             second: entry(alloc, SECOND, X, 0)?,
         })
@@ -175,7 +199,20 @@ impl Plan {
         Ok(true)
     }
 
-    // Fills a directory, and makes the changes so many times. Tells how many times all was well. Takes no memory.
+    // Whether all entries are there, and are found by their URL, by their type and in their scope.
+    fn are_there(&self, directory: &Directory<SiteRegistry>) -> bool {
+        let registry = directory.registry();
+        let Some(scope) = self.first.scopes.at(0) else {
+            return false;
+        };
+        registry.len() == self.capacity
+            && registry.live(0) == self.capacity
+            && registry.by_url(&self.first.url, 0).is_some()
+            && registry.by_kind(Some(&self.first.kind), 0).is_some()
+            && registry.by_place(scope, None, 0).is_some()
+    }
+
+    // Fills a directory, and makes the changes this many times. Tells how many times all was well. Takes no memory.
     fn make_times(
         &self,
         directory: &mut Directory<SiteRegistry>,
@@ -184,26 +221,27 @@ impl Plan {
         let Some((founded, steps)) = self.steps.split_at_checked(self.capacity) else {
             return Err(NoMemory);
         };
-        if !self.make(directory, founded)? || directory.registry().len() != self.capacity {
+        if !self.make(directory, founded)? || !self.are_there(directory) {
             return Err(NoMemory);
         }
         for time in 0..times {
-            if !self.make(directory, steps)? || directory.registry().len() != self.capacity {
+            if !self.make(directory, steps)? || !self.are_there(directory) {
                 return Ok(time);
             }
         }
         Ok(times)
     }
 
-    // The same, while all memory is taken.
+    // The same, while all memory is taken. The rules with which it begins are kept, so that a reload gives no memory back.
     fn make_without_memory(
         &self,
         alloc: Global,
         directory: &mut Directory<SiteRegistry>,
         times: usize,
     ) -> Result<usize, NoMemory> {
-        let hoard = Hoard::new(alloc)?;
-        let is_taken = are_refused(alloc);
+        let mut hoard = Hoard::new(alloc)?;
+        directory.apply(Change::Reload(0, Arc::try_clone(&self.rules)?));
+        let is_taken = hoard.fill(alloc);
         let made = self.make_times(directory, times);
         let is_taken_still = are_refused(alloc);
         drop(hoard);
@@ -223,26 +261,13 @@ fn deadline(directory: &Directory<SiteRegistry>, asked: &Entry) -> u64 {
     }
 }
 
-// A directory with so much room. It is boxed, since the proof of a function that lets go of one is long.
-fn opened(alloc: Global, capacity: usize) -> Result<Box<Directory<SiteRegistry>>, NoMemory>
-    requires some { 0 < capacity }
-    requires few { capacity ≤ 65536 }
-{
-    let site = site(alloc, capacity)?;
-    let rules = rules_of(alloc, "version = 1")?;
-    let Ok(registry) = SiteRegistry::with_capacity(alloc, capacity) else {
-        return Err(NoMemory);
-    };
-    Ok(Box::new(alloc, Directory::open(alloc, registry, &site, rules)?)?)
-}
-
-// How many times the changes of rows are well without memory, of so many. The directory is full after them each time.
+// How many times the changes of rows are well without memory, of this many. The directory is full after them each time.
 fn times_made(alloc: Global, rows: &[Row], capacity: usize, times: usize) -> Result<usize, NoMemory>
     requires some { 0 < capacity }
     requires few { capacity ≤ 65536 }
 {
     let plan = Plan::new(alloc, rows, capacity)?;
-    let mut directory = opened(alloc, capacity)?;
+    let mut directory = directory(alloc, capacity, CLOSED)?;
     plan.make_without_memory(alloc, &mut directory, times)
 }
 

@@ -9,7 +9,7 @@ const LEAST: u32 = 11;
 // How many blocks there may be: 2 ^ 47 bytes in blocks of 2 ^ 30, and some for what is left.
 const BLOCKS: usize = 140_000;
 
-/// Blocks that nobody uses. While they are kept, each request for memory is refused, but for a growth within the block
+/// Blocks that nobody uses. While all memory is in them, each request for memory is refused, but for a growth within the block
 /// that is there: the C library gives 24 bytes, or 16 more, and so on.
 #[derive(Drop)]
 pub struct Hoard {
@@ -17,12 +17,10 @@ pub struct Hoard {
 }
 
 impl Hoard {
-    /// All memory that there is.
+    /// A hoard with nothing in it, and room for the list of its blocks.
     pub fn new(alloc: Global) -> Result<Hoard, AllocError> {
         let blocks = Vec::with_capacity(alloc, BLOCKS)?;
-        let mut hoard = Hoard { blocks };
-        hoard.fill(alloc);
-        Ok(hoard)
+        Ok(Hoard { blocks })
     }
 
     // Takes blocks of one size until one is refused.
@@ -37,7 +35,8 @@ impl Hoard {
         }
     }
 
-    fn fill(&mut self, alloc: Global) {
+    /// Takes all memory that there is. It answers whether requests of all sizes are refused now.
+    pub fn fill(&mut self, alloc: Global) -> bool {
         for power in (LEAST..=LARGEST).rev() {
             self.take(alloc, 1usize << power);
         }
@@ -45,6 +44,12 @@ impl Hoard {
         for count in (1..=128usize).rev() {
             self.take(alloc, 16 * count - 8);
         }
+        are_refused(alloc)
+    }
+
+    /// Gives all back.
+    pub fn empty(&mut self) {
+        self.blocks.clear();
     }
 }
 

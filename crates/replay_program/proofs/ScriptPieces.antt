@@ -19,6 +19,9 @@ use Rattle.slp_text.specs.Ascii.{line_feed}
 split_piece : (read done xs tail piece more : List ℕ) → piece ≡ done ++ (xs ++ tail) → ((read ++ done) ++ xs) ++ (tail ++ more) ≡ (read ++ piece) ++ more
 split_piece read done xs tail piece more e = rw e (simp append_assoc)
 
+split_more : (read done tail piece more : List ℕ) → piece ≡ done ++ tail → (read ++ done) ++ (tail ++ more) ≡ (read ++ piece) ++ more
+split_more read done tail piece more e = rw e (simp append_assoc)
+
 split_rest : (read done tail piece : List ℕ) → piece ≡ done ++ tail → (read ++ done) ++ tail ≡ read ++ piece
 split_rest read done tail piece e = rw e (append_assoc read done tail)
 
@@ -31,13 +34,13 @@ FeedGoesOn-long w v read out line p done xs tail piece t e free long =
 
 pub FeedGoesOn-memory : (w v : Option (List ℕ)) (read out line : List ℕ) (p : Progress) (done tail piece : List ℕ) → FeedGoesOn w v (read ++ done) out line p → piece ≡ done ++ tail → FeedFails w v (read ++ piece) out NoMemory
 FeedGoesOn-memory w v read out line p done tail piece t e =
-    (t.0, t.1, subst (λ (s : List ℕ). RunsPart s (out ++ t.0)) (split_rest read done tail piece e) (StandsAfter-part (read ++ done) (out ++ t.0) line p tail t.2))
+    (t.0, t.1, λ more. subst (λ (s : List ℕ). RunsPart s (out ++ t.0)) (split_more read done tail piece more e) (StandsAfter-part (read ++ done) (out ++ t.0) line p (tail ++ more) t.2))
 
 pub FeedGoesOn-turn_fails : (w v u : Option (List ℕ)) (read out line : List ℕ) (p : Progress) (done xs tail piece : List ℕ) (e : RunFault) → FeedGoesOn w v (read ++ done) out line p → piece ≡ done ++ (xs ++ line_feed ∷ tail) → HasNoLf xs → length (line ++ xs) ≤ longest_line → FailsAs p.block p.session (p.number + 1) (line ++ xs) v u e → FeedFails w u (read ++ piece) out e
 FeedGoesOn-turn_fails w v u read out line p done xs tail piece Read t is free short f = f
 FeedGoesOn-turn_fails w v u read out line p done xs tail piece Write t is free short f = tt
 FeedGoesOn-turn_fails w v u read out line p done xs tail piece NoMemory t is free short f =
-    (t.0, Appends-keeps w v u t.0 t.1 f, subst (λ (s : List ℕ). RunsPart s (out ++ t.0)) (split_rest read done (xs ++ line_feed ∷ tail) piece is) (StandsAfter-part (read ++ done) (out ++ t.0) line p (xs ++ line_feed ∷ tail) t.2))
+    (t.0, Appends-keeps w v u t.0 t.1 f, λ more. subst (λ (s : List ℕ). RunsPart s (out ++ t.0)) (split_more read done (xs ++ line_feed ∷ tail) piece more is) (StandsAfter-part (read ++ done) (out ++ t.0) line p ((xs ++ line_feed ∷ tail) ++ more) t.2))
 FeedGoesOn-turn_fails w v u read out line p done xs tail piece (fault.Line n) t is free short f =
     let whole = StandsAfter-more (read ++ done) (out ++ t.0) line p xs t.2 free short in
     (t.0, Appends-keeps w v u t.0 t.1 f.2, λ more. subst (λ (s : List ℕ). RunsUpTo s n (out ++ t.0)) (split_piece read done xs (line_feed ∷ tail) piece more is) (rw (f.0) (StandsAfter-fault ((read ++ done) ++ xs) (out ++ t.0) (line ++ xs) p (tail ++ more) whole f.1)))

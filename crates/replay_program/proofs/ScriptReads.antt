@@ -1,17 +1,17 @@
 -- What a read does to a run.
 use Rattle.std.proofs.Common.{◌≡◌, ℕ, List, [], ◌∷◌, ◌++◌, length, take, Option, Some, None, Result, Ok, Err, refl, sym, ap, subst, ◌∙◌, inl, inr, arith, length-append}
-use Rattle.std.specs.Prelude.{◌⊎◌}
+use Rattle.std.specs.Prelude.{◌≤◌, ◌⊎◌}
 use Rattle.std.specs.Io.KnownBytes.{Appends, Keeps, Consumes, IsAtEnd}
 use Rattle.std.specs.List.{flat_map}
 use Rattle.std.proofs.lemmas.List.{append-nil}
 use Rattle.directory_state.proofs.Folds.{AreLive-nil}
 use Rattle.replay_program.specs.Sessions.{Holds}
-use Rattle.slp_script.specs.Lines.{Line, line_bytes}
+use Rattle.slp_script.specs.Lines.{Line, line_bytes, lines_of}
 use Rattle.replay_program.specs.Opening.{opening_session}
-use Rattle.replay_program.specs.Worlds.{RunsUpTo, RunsWhole, IsUnfinished, opening_world}
+use Rattle.replay_program.specs.Worlds.{RunsUpTo, RunsPart, RunsWhole, IsOutput, IsUnfinished, opening_world}
 use Rattle.replay_program.specs.Turns.{IsOpen}
 use Rattle.replay_program.specs.Reads.{StandsAfter, FeedFails, Ends}
-use Rattle.replay_program.specs.Gives.{FaultGives, Gives, KnownFault, KnownGives}
+use Rattle.replay_program.specs.Gives.{FaultGives, Gives, KnownFault, KnownGives, RunsOn, longest_read}
 use Rattle.replay_program.specs.declared.progress.OpenBlock.{OpenBlock}
 use Rattle.replay_program.specs.declared.progress.Progress.{Progress}
 use Rattle.replay_program.specs.declared.fault.RunFault.{RunFault}
@@ -64,10 +64,25 @@ no_lines (l ∷ ls) line e = absurd (omega (arith, simp length-append at (ap len
 pub StandsAfter-new : (p : Progress) → StandsAfter [] [] [] p → p.number ≡ 0
 StandsAfter-new p s = s.stands.number ∙ no_lines s.lines [] s.text
 
+-- memory ran out after these reads
+runs_on : (earlier last said rest : List ℕ) → length last ≤ longest_read → RunsWhole earlier said → ((more : List ℕ) → RunsPart ((earlier ++ last) ++ more) (said ++ rest)) → RunsOn (earlier ++ last) (said ++ rest)
+runs_on earlier last said rest short whole part = record {
+  earlier = earlier;
+  last = last;
+  all_read = refl;
+  one_read = short;
+  said = said;
+  rest = rest;
+  all_said = refl;
+  whole = whole;
+  part = part;
+}
+
 -- a run that never began
 pub Gives-lacks : (r w : Option (List ℕ)) → Gives r r w w (Err NoMemory)
 Gives-lacks r w =
-    ([], [], Consumes-none r r (Keeps-same r), Appends-none w, ([], [], [], refl, refl, (opening_world, (refl, refl))))
+    let out : IsOutput [] [] = (opening_world, (refl, refl)) in
+    ([], [], Consumes-none r r (Keeps-same r), Appends-none w, runs_on [] [] [] [] (omega arith) ([], [], [], [], refl, refl, inl refl, tt, out) (λ more. ([], [], lines_of more, refl, refl, out)))
 
 pub Consumes-keeps : (a b c : Option (List ℕ)) (xs : List ℕ) → Consumes a b xs → Keeps b c → Consumes a c xs
 Consumes-keeps None b c xs h k = tt
@@ -79,19 +94,6 @@ pub Consumes-end : (r m n : Option (List ℕ)) (read buf : List ℕ) (k : ℕ) �
 Consumes-end r m n read buf k h t e =
     let none : Consumes m n [] = rw e at t in
     subst (λ (v : List ℕ). Consumes r n v) (append-nil read) (Consumes-append r m n read [] h none)
-
-pub Gives-ends : (r n w v u : Option (List ℕ)) (read out : List ℕ) (result : Result (Unit {0}) RunFault) → Consumes r n read → IsAtEnd n → Appends w v out → Ends v u read out result → Gives r n w u result
-Gives-ends r n w v u read out (Ok x) c e a h = (read, out ++ h.0, c, e, Appends-append w v u out h.0 a h.1, h.2)
-Gives-ends r n w v u read out (Err Read) c e a h = absurd h
-Gives-ends r n w v u read out (Err Write) c e a h = tt
-Gives-ends r n w v u read out (Err NoMemory) c e a h = (read, out ++ h.0, c, Appends-append w v u out h.0 a h.1, h.2)
-Gives-ends r n w v u read out (Err (fault.Line k)) c e a h = (read, out ++ h.0, c, Appends-append w v u out h.0 a h.1, inr (e, h.2))
-
-pub Gives-failed : (r n w v u : Option (List ℕ)) (read out : List ℕ) (e : RunFault) → Consumes r n read → Appends w v out → FeedFails v u read out e → FaultGives r n w u e
-Gives-failed r n w v u read out Read c a h = absurd h
-Gives-failed r n w v u read out Write c a h = tt
-Gives-failed r n w v u read out NoMemory c a h = (read, out ++ h.0, c, Appends-append w v u out h.0 a h.1, h.2)
-Gives-failed r n w v u read out (fault.Line k) c a h = (read, out ++ h.0, c, Appends-append w v u out h.0 a h.1, inl h.2)
 
 unfinished : (b : Option OpenBlock) (ls : List Line) (k : ℕ) → IsOpen ls k b → IsUnfinished ls
 unfinished None ls k h = inl h
@@ -109,6 +111,22 @@ StandsAfter-whole read out line p s = (
   s.unended,
   (s.stands.world, s.stands.prints),
 )
+
+pub Gives-ends : (r n w v u : Option (List ℕ)) (read out line : List ℕ) (p : Progress) (result : Result (Unit {0}) RunFault) → Consumes r n read → IsAtEnd n → Appends w v out → StandsAfter read out line p → Ends v u read out result → Gives r n w u result
+Gives-ends r n w v u read out line p (Ok x) c e a s h = (read, out ++ h.0, c, e, Appends-append w v u out h.0 a h.1, h.2)
+Gives-ends r n w v u read out line p (Err Read) c e a s h = absurd h
+Gives-ends r n w v u read out line p (Err Write) c e a s h = tt
+Gives-ends r n w v u read out line p (Err NoMemory) c e a s h =
+    let on = runs_on read [] out h.0 (omega arith) (StandsAfter-whole read out line p s) (rw (append-nil read) h.2) in
+    (read, out ++ h.0, c, Appends-append w v u out h.0 a h.1, rw (append-nil read) at on)
+Gives-ends r n w v u read out line p (Err (fault.Line k)) c e a s h = (read, out ++ h.0, c, Appends-append w v u out h.0 a h.1, inr (e, h.2))
+
+pub Gives-failed : (r n w v u : Option (List ℕ)) (read last out line : List ℕ) (p : Progress) (e : RunFault) → Consumes r n (read ++ last) → length last ≤ longest_read → Appends w v out → StandsAfter read out line p → FeedFails v u (read ++ last) out e → FaultGives r n w u e
+Gives-failed r n w v u read last out line p Read c short a s h = absurd h
+Gives-failed r n w v u read last out line p Write c short a s h = tt
+Gives-failed r n w v u read last out line p NoMemory c short a s h =
+    (read ++ last, out ++ h.0, c, Appends-append w v u out h.0 a h.1, runs_on read last out h.0 short (StandsAfter-whole read out line p s) h.2)
+Gives-failed r n w v u read last out line p (fault.Line k) c short a s h = (read ++ last, out ++ h.0, c, Appends-append w v u out h.0 a h.1, inl h.2)
 
 pub Gives-read : (r n w u : Option (List ℕ)) (read out line : List ℕ) (p : Progress) → Consumes r n read → Appends w u out → StandsAfter read out line p → FaultGives r n w u Read
 Gives-read r n w u read out line p c a s = (read, out, c, a, StandsAfter-whole read out line p s)
@@ -128,7 +146,9 @@ known-line script n read out k c (inr h) =
 known-fault : (script : List ℕ) (n w u : Option (List ℕ)) (e : RunFault) → FaultGives (Some script) n w u e → KnownFault script w u e
 known-fault script n w u Read h = tt
 known-fault script n w u Write h = tt
-known-fault script n w u NoMemory h = tt
+known-fault script n w u NoMemory h =
+    let t = Consumes-known script h.0 n h.2 in
+    (h.1, h.3, rw t.1 (h.4.part t.0))
 known-fault script n w u (fault.Line k) h = (h.1, h.3, known-line script n h.0 h.1 k h.2 h.4)
 
 pub Gives-known : (r n w u : Option (List ℕ)) (result : Result (Unit {0}) RunFault) → Gives r n w u result → KnownGives r w u result

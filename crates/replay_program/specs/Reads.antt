@@ -23,7 +23,7 @@ pub record StandsAfter (read out line : List ℕ) (p : Progress) : Type 0 where
 -- what was written after `out` when the run failed, where these bytes had been read
 abbrev pub FeedFails : Option (List ℕ) → Option (List ℕ) → List ℕ → List ℕ → RunFault → Type 0
 FeedFails old new read out (fault.Line n) = (now : List ℕ) × Appends old new now × ((more : List ℕ) → RunsUpTo (read ++ more) n (out ++ now))
-FeedFails old new read out NoMemory = (now : List ℕ) × Appends old new now × RunsPart read (out ++ now)
+FeedFails old new read out NoMemory = (now : List ℕ) × Appends old new now × ((more : List ℕ) → RunsPart (read ++ more) (out ++ now))
 FeedFails old new read out Write = ⊤
 FeedFails old new read out Read = ⊥
 
@@ -37,7 +37,7 @@ Feeds old new read out r line p = MatchResult r (λ _. FeedGoesOn old new read o
 -- what the end of all that was read gives
 abbrev pub EndFails : Option (List ℕ) → Option (List ℕ) → List ℕ → List ℕ → RunFault → Type 0
 EndFails w w' read out (fault.Line n) = (now : List ℕ) × Appends w w' now × RunsUpTo read n (out ++ now)
-EndFails w w' read out NoMemory = (now : List ℕ) × Appends w w' now × RunsPart read (out ++ now)
+EndFails w w' read out NoMemory = (now : List ℕ) × Appends w w' now × ((more : List ℕ) → RunsPart (read ++ more) (out ++ now))
 EndFails w w' read out Write = ⊤
 EndFails w w' read out Read = ⊥
 

@@ -10,7 +10,6 @@ use Rattle.std.proofs.Common.{Bool, true, false}
 use Rattle.std.proofs.lemmas.Bool.{eqb-true}
 use Rattle.std.proofs.lemmas.Bool.Decides.{nat_tests}
 use Rattle.std.specs.Io.KnownBytes.{Appends}
-use Rattle.replay_program.specs.Worlds.{RunsPart}
 use Rattle.replay_program.specs.Turns.{TurnsTo}
 use Rattle.replay_program.specs.Reads.{StandsAfter}
 use Rattle.replay_program.specs.Reads.{Ends, EndFails}
@@ -31,7 +30,7 @@ last_fails : (w v : Option (List ℕ)) (read out line : List ℕ) (p : Progress)
 last_fails w v read out line p Read s some f = f
 last_fails w v read out line p Write s some f = tt
 last_fails w v read out line p NoMemory s some f =
-    ([], Appends-keeps w w v [] (Appends-none w) f, subst (λ (a : List ℕ). RunsPart a (out ++ [])) (append-nil read) (rw (append-nil out) (StandsAfter-part read out line p [] s)))
+    ([], Appends-keeps w w v [] (Appends-none w) f, λ more. rw (append-nil out) (StandsAfter-part read out line p more s))
 last_fails w v read out line p (fault.Line n) s some f =
     ([], Appends-keeps w w v [] (Appends-none w) f.2, rw (append-nil out, f.0) (StandsAfter-fault_last read out line p s some f.1))
 

@@ -27,7 +27,7 @@ returns-in-Ok-eq0 g c =
     let zero = c.in-Ok-eq0.field-0-is in
     let there = c.read.auto.buf in
     let t : StandsAfter s.0 s.1 c.as_slice.result.now c.loop-turn.progress = rw c.as_slice.ensures.value s.4 in
-    Gives-ends _ _ _ _ _ s.0 s.1 c.finish.result (Consumes-end _ _ _ s.0 _ _ s.2 b.0 c.in-Ok-eq0.field-0-test) (b.1 c.in-Ok-eq0.field-0-test (omega arith)) (Appends-keeps _ _ _ s.1 s.3 c.flush.ensures.bytes) (c.finish.ensures s.0 s.1 t)
+    Gives-ends _ _ _ _ _ s.0 s.1 _ _ c.finish.result (Consumes-end _ _ _ s.0 _ _ s.2 b.0 c.in-Ok-eq0.field-0-test) (b.1 c.in-Ok-eq0.field-0-test (omega arith)) (Appends-keeps _ _ _ s.1 s.3 c.flush.ensures.bytes) t (c.finish.ensures s.0 s.1 t)
 
 pub returns-in_err-feed-in-Ok : goal.returns-in_err-feed-in-Ok
 returns-in_err-feed-in-Ok g c =
@@ -35,7 +35,8 @@ returns-in_err-feed-in-Ok g c =
     let p = err_from_is_err_and c.from_residual.result c.from_residual.ensures.1 in
     let f = c.in_err-feed-in-Ok.ensures.fed s.0 s.1 s.4 in
     let n = c.in-Ok.ensures.bytes.0 in
-    rw (p.1, p.2) (Gives-failed _ _ _ _ _ _ s.1 _ (Consumes-append _ _ _ s.0 _ s.2 c.in-Ok.ensures.bytes.0) (Appends-keeps _ _ _ s.1 s.3 c.flush.ensures.bytes) f)
+    let short = short_piece c.in-Ok.n c.read.new.buf (omega arith) in
+    rw (p.1, p.2) (Gives-failed _ _ _ _ _ s.0 _ s.1 _ _ _ (Consumes-append _ _ _ s.0 _ s.2 c.in-Ok.ensures.bytes.0) short (Appends-keeps _ _ _ s.1 s.3 c.flush.ensures.bytes) s.4 f)
 
 pub returns-then-ne : goal.returns-then-ne
 returns-then-ne g c =
