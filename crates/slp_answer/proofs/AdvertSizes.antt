@@ -1,4 +1,4 @@
--- How long an advert is.
+-- How long an advert is: it fits a datagram.
 use Rattle.std.proofs.Common.{◌≡◌, ℕ, ◌≤◌, ◌<◌, ◌^◌, List, [], ◌∷◌, ◌++◌, length, codes, false, sym, ap₂, subst, arith}
 use Rattle.std.proofs.lemmas.List.{length-append}
 use Rattle.access_rules.specs.Addresses.{address_text}
@@ -16,7 +16,7 @@ use Rattle.directory_questions.specs.Cuts.{reply_header}
 use Rattle.directory_judge.specs.Sites.{Site}
 use Rattle.slp_answer.proofs.RefusalLines.{address_is_short}
 
-pub advert_size : (site : Site) (own : ℕ) (h : Heading) → own < 2 ^ 32 → length h.language ≤ 64 → length (printed_scopes site.scopes) ≤ 1024 → length (plain_bytes (advert_of site own h)) ≤ 65535
+pub advert_size : (site : Site) (own : ℕ) (h : Heading) → own < 2 ^ 32 → length h.language ≤ 64 → length (printed_scopes site.scopes) ≤ 1024 → length (plain_bytes (advert_of site own h)) ≤ 1400
 advert_size site own h small tag short =
     let url = codes "service:directory-agent://" ++ address_text own in
     let scopes = printed_scopes site.scopes in
