@@ -1,5 +1,6 @@
 pub mod Allowing
 pub mod Denials
+pub mod Fitting
 pub mod Kept
 pub mod Promises
 pub mod WholeReplies

@@ -1,9 +1,11 @@
 //! What holds of every run. The functions do nothing: their contracts are the laws.
-ghost use Rattle.std.specs.Prelude.{◌≡◌, ◌↔◌, ◌∷◌, ◌++◌, ℕ, List, Contains};
+ghost use Rattle.std.specs.Prelude.{◌≡◌, ◌↔◌, ◌<◌, ◌≤◌, ◌^◌, ◌∷◌, ◌++◌, ℕ, List, Option, Contains, length};
 ghost use Rattle.registry_core.specs.declared.entry.Entry.{Entry as AnyEntry};
-ghost use Rattle.directory_judge.specs.History.{History, clock};
-ghost use Rattle.directory_questions.specs.Answers.{IsOpenTo};
-ghost use Rattle.directory_questions.specs.Calls.{Opening};
+ghost use Rattle.directory_judge.specs.History.{Event, History, clock};
+ghost use Rattle.directory_judge.specs.Sites.{IsSite};
+ghost use Rattle.directory_questions.specs.Answers.{IsAnswer, IsOpenTo};
+ghost use Rattle.directory_questions.specs.Calls.{Opening, Call};
+ghost use Rattle.directory_questions.specs.Outcomes.{Outcome};
 ghost use Rattle.directory_questions.specs.Verdicts.{IsLegal};
 ghost use Rattle.history_log.specs.Pasts.{IsPast};
 ghost use Rattle.directory_runs.specs.Promises.{IsKeptThroughout};
@@ -53,4 +55,11 @@ pub fn replies_know_what_their_loop_saw()
 pub fn replies_differ_by_what_is_open()
     ensures { (o : Opening) (run : Run) (r s : Reply) → IsRun o run → Contains (world run).replies r → Contains (world run).replies s → r.call ≡ s.call → clock r.at ≡ clock s.at
         → ((e : AnyEntry) → IsOpenTo o r.at r.call e ↔ IsOpenTo o s.at r.call e) → r.outcome ≡ s.outcome }
+{}
+
+/// A reply has at most as many bytes as its call leaves room for: a list of items is cut, and an advert, an acknowledgement or a code
+/// alone is no longer than a datagram. So it is of each reply of a run, since what comes of bytes there is one of these outcomes.
+pub fn replies_fit()
+    ensures { (o : Opening) (h : History) (c : Call) (r : Outcome) (change : Option Event) → IsSite o.site.scopes o.site.capacity → c.own < 2 ^ 32 → 1400 ≤ c.limit
+        → IsAnswer o h c r change → length r.reply ≤ c.limit }
 {}
