@@ -9,8 +9,9 @@
 # make test        the gate, which proves and tries all from nothing: 45 minutes, on 4 processors
 # make wrong       tries the wrong bodies beside the gate, or CRATE=slp_text those of one crate: 90 minutes; needs python3
 # make bench       counts what a message costs, and measures the server: minutes, once make build is done; needs valgrind, python3, cc
+# make refusals    refuses each request for memory of the programs in turn: minutes, once make build is done; needs python3
 # What is proved is kept in crates/*/out: a second call proves what changed since, and what stands on it.
-.PHONY: help try build demo run day install uninstall test wrong bench
+.PHONY: help try build demo run day install uninstall test wrong bench refusals
 .DEFAULT_GOAL := help
 
 script := examples/printer.script
@@ -101,6 +102,11 @@ bench:
 	$(call build,view_rows)
 	@bench/views bin/view_rows
 	@bench/server bin/slpda
+
+refusals:
+	$(call build,slpreplay slpda slptool)
+	@test ! -d crates/refusal_tests || { cd crates/refusal_tests && rt test; }
+	@refusals/try
 
 # A crate is proved once those that crates.txt names in its line are.
 crates := $(shell sed -n 's/^\([a-z_]*\):.*/\1/p' crates.txt)
