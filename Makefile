@@ -104,8 +104,8 @@ bench:
 	@bench/server bin/slpda
 
 refusals:
-	$(call build,slpreplay slpda slptool)
-	@test ! -d crates/refusal_tests || { cd crates/refusal_tests && rt test; }
+	$(call build,$(programs))
+	@cd crates/refusal_tests && rt test
 	@refusals/try
 
 # A crate is proved once those that crates.txt names in its line are.

@@ -14,6 +14,9 @@ use std::rt::Files;
 /// The status of a call with words that are not understood.
 const USAGE: u8 = 64;
 
+/// The status where memory ran out.
+const NO_MEMORY: u8 = 3;
+
 // The status of a server that opens a site so.
 fn status_of(told: &Result<SiteFiles, StartFault>) -> u8
     ensures { result ≡ opening_status told.now }
@@ -45,18 +48,19 @@ fn check<R: Files, W: Write>(
 {
     let status = status_at(rt, alloc, path);
     look_at_site(rt, alloc, path, writer)?;
-    if status == 0 {
-        writeln!(writer, "{path}: ok")?;
-    } else {
-        writeln!(writer, "{path}: slpda would not start (status {status})")?;
+    match status {
+        0 => writeln!(writer, "{path}: ok")?,
+        // It says nothing of a server, which may find memory.
+        NO_MEMORY => writeln!(writer, "{path}: there was no memory for the check")?,
+        _ => writeln!(writer, "{path}: slpda would not start (status {status})")?,
     }
     writer.flush()?;
     Ok(status)
 }
 
 /// The program `slpcheck`: its words without its own name, and its output. It writes what is wrong with the files of a site, and
-/// answers the status with which `slpda` would not start on them: 1 where a file can't be read, 2 where one is refused, 3 where memory
-/// ran out; 0 where it would start, sockets and memory apart. It is 64 where there is not one word, or it begins with `-`, and 1 where
+/// answers the status with which `slpda` would not start on them: 1 where a file can't be read, 2 where one is refused, 3 where the check
+/// itself found no memory; 0 where it would start, sockets and memory apart. It is 64 where there is not one word, or it begins with `-`, and 1 where
 /// the output failed.
 pub fn check_run<R: Files, W: Write>(rt: &R, alloc: Global, words: &[String], writer: &mut W) -> u8
     ensures usage { path_in (map string_bytes words.now) ≡ None → result ≡ 64 }
