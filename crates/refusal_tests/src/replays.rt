@@ -74,6 +74,7 @@ struct Stinted<'a> {
     alloc: Global,
     hoard: Hoard,
     rows: &'a [Row],
+    next: usize,
 }
 
 impl Stinted<'_> {
@@ -95,11 +96,11 @@ impl Stinted<'_> {
 
 impl Read for Stinted<'_> {
     fn read(&mut self, buf: &mut [u8]) -> io::Result<usize> {
-        let Some(((line, left, _), rest)) = self.rows.split_first() else {
+        let Some((line, left, _)) = self.rows.get(self.next).copied() else {
             return Ok(0);
         };
-        self.rows = rest;
-        self.leave(*left);
+        self.next = self.next.saturating_add(1);
+        self.leave(left);
         line.as_bytes().read(buf)
     }
 }
@@ -124,6 +125,7 @@ fn is_printed(
         alloc,
         hoard: Hoard::new(alloc)?,
         rows,
+        next: 0,
     };
     let told = Replay::new(alloc).run(alloc, &mut reader, &mut out);
     drop(reader);
