@@ -10,6 +10,7 @@ use std::sync::atomic::{AtomicBool, Ordering};
 use std::sync::{Mutex, Wait};
 use std::thread;
 use std::thread::{JoinHandle, Scope, Threads};
+use std::time::Clock;
 
 /// Work that ends soon after a flag is set.
 pub(crate) trait Task {
@@ -44,7 +45,7 @@ impl Signals {
     // Does a job, once all threads are there. Where one could not be made, the flag is set before: so nothing is served.
     fn work<R, S, T>(&self, rt: &R, job: Job<S, T>) -> Result<(), LoopFault>
     where
-        R: Wait,
+        R: Wait + Clock,
         S: Serve + Drop,
         T: Task + Drop,
     {
@@ -68,7 +69,7 @@ fn start<'s, E, R, S, T>(
     started: &mut Started,
 ) -> Result<(), StartFault>
 where
-    R: Threads + Wait + Sync,
+    R: Threads + Wait + Clock + Sync,
     S: Serve + Drop + Send + 's,
     T: Task + Drop + Send + 's,
 {
@@ -91,7 +92,7 @@ fn start_all<'s, E, R, S, T>(
     started: &mut Started,
 ) -> Result<(), StartFault>
 where
-    R: Threads + Wait + Sync,
+    R: Threads + Wait + Clock + Sync,
     S: Serve + Drop + Send + 's,
     T: Task + Drop + Send + 's,
 {
@@ -133,7 +134,7 @@ fn serve_in<'s, E, R, S, T, C>(
     console: C,
 ) -> Result<u8, StartFault>
 where
-    R: Threads + Wait + Sync,
+    R: Threads + Wait + Clock + Sync,
     S: Serve + Drop + Send + 's,
     T: Task + Drop + Send + 's,
     C: Task + Drop,
@@ -158,7 +159,7 @@ pub(crate) fn serve<R, S, T, C>(
     console: C,
 ) -> Result<u8, StartFault>
 where
-    R: Threads + Wait + Sync,
+    R: Threads + Wait + Clock + Sync,
     S: Serve + Drop + Send,
     T: Task + Drop + Send,
     C: Task + Drop,

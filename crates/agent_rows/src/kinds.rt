@@ -18,6 +18,7 @@ pub(crate) enum PlaceRow {
     Near,
     Xid,
     Clock,
+    Steady,
 }
 
 /// How a directory that is none answers: as another sender, itself, or on a stream.
@@ -76,12 +77,13 @@ pub(crate) enum ToolRow {
 }
 
 /// The rows by their words.
-static ROWS: [(&str, Row); 38] = [
+static ROWS: [(&str, Row); 39] = [
     ("at", Row::Place(PlaceRow::At)),
     ("from", Row::Place(PlaceRow::From)),
     ("near", Row::Place(PlaceRow::Near)),
     ("xid", Row::Place(PlaceRow::Xid)),
     ("clock", Row::Place(PlaceRow::Clock)),
+    ("steady", Row::Place(PlaceRow::Steady)),
     ("file", Row::Prepare(PrepareRow::File)),
     ("remove", Row::Prepare(PrepareRow::Remove)),
     ("taken", Row::Prepare(PrepareRow::Taken)),

@@ -27,7 +27,6 @@ use std::alloc::Global;
 use std::io::{self, Read, Write};
 use std::net::{Net, TcpStream};
 use std::rt::Files;
-use std::sync::atomic::AtomicU64;
 use std::sync::{Mutex, Wait};
 use std::thread::{Threads, join};
 use std::time::Clock;
@@ -105,13 +104,12 @@ fn main(rt: HostRuntime) -> io::Result<()> {
     let text = scenes(&rt)?;
     let mut out = Vec::new(alloc);
     let mut patience = PATIENT;
-    let moment = AtomicU64::new(0);
     for text in text.split(END) {
         let start = cut_at_start(text);
         let props = Props::new(matches!(start, Some((_, "_loops", _))));
         let handed = Handed {
             rt: &rt,
-            moment: &moment,
+            moment: &props.steady,
             seconds: &props.seconds,
         };
         let (mut input, mut lines, ends) = open_terminal(&rt, &props.valve)?;

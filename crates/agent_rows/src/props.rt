@@ -4,13 +4,14 @@ use crate::terminal::Valve;
 use std::sync::atomic::AtomicU64;
 
 /// Whether it is run by its loops, and not by its words; the valve before its output; and, where it is, what holds its first loop
-/// inside an entry, and the seconds since 1970 that its clock tells, or 0 where that is the system's.
+/// inside an entry, the seconds since 1970 that its clock tells, or 0 where that is the system's, and those of its clock that never goes back.
 #[derive(Drop)]
 pub(crate) struct Props {
     pub is_by_loops: bool,
     pub valve: Valve,
     pub meeting: Meeting,
     pub seconds: AtomicU64,
+    pub steady: AtomicU64,
 }
 
 impl Props {
@@ -20,6 +21,7 @@ impl Props {
             valve: Valve::new(),
             meeting: Meeting::new(),
             seconds: AtomicU64::new(0),
+            steady: AtomicU64::new(0),
         }
     }
 }

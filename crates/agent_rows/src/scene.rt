@@ -474,6 +474,10 @@ where
                 let seconds = number_of(rest, u64::from(u32::MAX));
                 self.props.seconds.store(seconds, Ordering::SeqCst);
             }
+            PlaceRow::Steady => {
+                let seconds = number_of(rest, u64::from(u32::MAX));
+                self.props.steady.store(seconds, Ordering::SeqCst);
+            }
         }
     }
 

@@ -1,8 +1,11 @@
 -- Messages served one after the other.
-use Rattle.std.proofs.Common.{◌≡◌, ℕ, List, [], ◌∷◌, ◌++◌, Result, Ok, Err, MatchResult, refl, sym, ap, ◌∙◌, subst, append_assoc}
+use Rattle.std.proofs.Common.{◌≡◌, ◌<◌, ℕ, Bool, true, false, List, [], ◌∷◌, ◌++◌, length, Result, Ok, Err, MatchResult, refl, sym, ap, ◌∙◌, subst, append_assoc, arith}
 use Rattle.std.specs.Prelude.{if◌then◌else◌}
 use Rattle.std.specs.Result.{is_ok}
+use Rattle.std.proofs.lemmas.Bool.{le-ltb}
 use Rattle.std.proofs.lemmas.List.{append-nil}
+use borrow.Author.Tests.{lt-ltb}
+use Rattle.slp_loops.specs.Reading.{moves}
 use Rattle.slp_loops.specs.Serving.{Steps, IsServed, AreServed}
 
 -- one more
@@ -22,3 +25,13 @@ served_one steps asker limit before m back after one =
 pub grown : {A E : Type 0} (r : Result A E) (new old more : List ℕ) → new ≡ (if is_ok r then old ++ more else old) → MatchResult r (λ _. new ≡ old ++ more) (λ _. new ≡ old)
 grown (Ok a) new old more is = is
 grown (Err e) new old more is = is
+
+-- nothing was taken yet
+pub moves_none : (before : Bool) (stream : List ℕ) → before ≡ moves before stream stream
+moves_none true stream = refl
+moves_none false stream = sym (le-ltb (length stream) (length stream) (omega arith))
+
+-- a message was taken
+pub moves_some : (before : Bool) (stream rest : List ℕ) → length rest < length stream → true ≡ moves before stream rest
+moves_some true stream rest less = refl
+moves_some false stream rest less = sym (lt-ltb (length rest) (length stream) less)

@@ -4,4 +4,5 @@ pub mod Linking
 pub mod Listening
 pub mod Reading
 pub mod Serving
+pub mod Sitting
 pub mod Writing

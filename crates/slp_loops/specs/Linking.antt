@@ -1,16 +1,18 @@
 -- What a connection is to contracts, and what it answers while it neither reads nor writes.
-use Rattle.std.specs.Prelude.{ℕ, nat_lt, List, length, Option, Some, None, if◌then◌else◌}
+use Rattle.std.specs.Prelude.{ℕ, Bool, nat_lt, List, length, Option, Some, None, if◌then◌else◌}
 use Rattle.slp_loops.specs.declared.connection.Next.{Next}
 use Rattle.slp_loops.specs.declared.connection.Next.TheVariants.{More, Blocked, Closed}
 use Rattle.slp_loops.specs.declared.connection.Stage.{Stage}
 use Rattle.slp_loops.specs.declared.connection.Stage.TheVariants.{Reading, Ending, Failed}
 
--- the peer's address, what was read and not yet served, what waits to be written, and how far it is
+-- the peer's address, what was read and not yet served, what waits to be written, how far it is, and whether it moved since that was last asked: a
+-- message came whole, or a byte was written
 pub record Link : Type 0 where
   pub asker : ℕ
   pub unserved : List ℕ
   pub waiting : List ℕ
   pub stage : Stage
+  pub moved : Bool
 
 -- no message on a stream is longer
 abbrev pub longest : ℕ

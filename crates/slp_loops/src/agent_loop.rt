@@ -1,6 +1,8 @@
 ghost use Rattle.std.specs.Prelude.{◌≡◌, ◌≤◌, ◌<◌, ◌↔◌, length, slice_get, Some, IfOk, IfErr, IsTrue};
+ghost use Rattle.slp_loops.specs.Holding.{NoneSits, longest_stay};
 ghost use Rattle.slp_loops.specs.declared.fault.LoopFault.TheVariants.{Io as Failing};
 
+use crate::clock::{Moments, SteadyClock};
 use crate::datagrams::{DATAGRAMS, Datagrams};
 use crate::fault::LoopFault;
 use crate::serve::Serve;
@@ -15,7 +17,7 @@ use std::marker::Model;
 use std::net::{Ipv4Addr, Net, SocketAddr};
 use std::sync::Wait;
 use std::sync::atomic::{AtomicBool, Ordering};
-use std::time::Duration;
+use std::time::{Clock, Duration};
 
 /// The longest wait of a turn, in milliseconds.
 const LONGEST_WAIT: u64 = 500;
@@ -101,7 +103,7 @@ fn receive<N: Net>(net: &N, registry: &Registry, address: SocketAddr) -> io::Res
     Ok(socket)
 }
 
-// The streams of an address, with places for so many.
+// The streams of an address, with places for this many.
 fn streams_at<N: Net>(
     net: &N,
     alloc: Global,
@@ -109,7 +111,8 @@ fn streams_at<N: Net>(
     address: SocketAddr,
     connections: usize,
 ) -> Result<Streams, LoopFault>
-    ensures { IfOk result (λ s. s ≡ record { limit = connections; held = 0 }) }
+    ensures limit { IfOk result (λ s. s.limit ≡ connections) }
+    ensures held { IfOk result (λ s. s.held ≡ 0) }
 {
     let listener = listen(net, registry, address)?;
     Ok(Streams::new(alloc, listener, connections)?)
@@ -126,7 +129,7 @@ fn datagrams_at<N: Net>(
     Ok(Datagrams::new(alloc, socket)?)
 }
 
-// The datagrams and the streams of an address, with places for so many streams.
+// The datagrams and the streams of an address, with places for this many streams.
 fn sockets_at<N: Net>(
     net: &N,
     alloc: Global,
@@ -134,7 +137,8 @@ fn sockets_at<N: Net>(
     address: SocketAddr,
     connections: usize,
 ) -> Result<(Datagrams, Streams), LoopFault>
-    ensures { IfOk result (λ p. p.1 ≡ record { limit = connections; held = 0 }) }
+    ensures limit { IfOk result (λ p. p.1.limit ≡ connections) }
+    ensures held { IfOk result (λ p. p.1.held ≡ 0) }
 {
     let streams = streams_at(net, alloc, registry, address, connections)?;
     let address = streams.address()?;
@@ -153,14 +157,15 @@ fn poll_with<N: Net>(net: &N, alloc: Global) -> Result<(Poll, Events), LoopFault
     Ok((Poll::new(net)?, events))
 }
 
-// The parts of a loop at an address, with places for so many streams.
+// The parts of a loop at an address, with places for this many streams.
 fn parts_at<N: Net>(
     net: &N,
     alloc: Global,
     address: SocketAddr,
     connections: usize,
 ) -> Result<Parts, LoopFault>
-    ensures { IfOk result (λ p. p.streams ≡ record { limit = connections; held = 0 }) }
+    ensures limit { IfOk result (λ p. p.streams.limit ≡ connections) }
+    ensures held { IfOk result (λ p. p.streams.held ≡ 0) }
 {
     let (poll, events) = poll_with(net, alloc)?;
     match sockets_at(net, alloc, poll.registry(), address, connections) {
@@ -197,7 +202,8 @@ impl<S: Serve + Drop> AgentLoop<S> {
         server: S,
     ) -> Result<AgentLoop<S>, LoopFault>
         requires { place < length config.now.listen }
-        ensures { IfOk result (λ l. l ≡ record { limit = config.now.connections; held = 0 }) }
+        ensures limit { IfOk result (λ l. l.limit ≡ config.now.connections) }
+        ensures held { IfOk result (λ l. l.held ≡ 0) }
     {
         let (own, port) = listened_at(config, place);
         let address = SocketAddr::from((Ipv4Addr::from_bits(own.0), port));
@@ -236,15 +242,26 @@ impl<S: Serve + Drop> AgentLoop<S> {
         self.streams.len()
     }
 
-    /// Waits until a socket is ready, for 500 ms at most, and serves what is. `Io` is answered only
-    /// where the wait or a listening socket failed. `NoMemory` is answered once all is served that
+    /// Waits until a socket is ready, for 500 ms at most, and serves what is. Then each stream is closed that has sat there for 300 seconds
+    /// of a steady clock. `Io` is answered only where the wait or a listening socket failed. `NoMemory` is answered once all is served that
     /// was ready: a connection that found none is closed.
-    pub fn turn(&mut self) -> Result<(), LoopFault>
+    pub fn turn<M: Moments>(&mut self, steady: &mut M) -> Result<(), LoopFault>
+        ensures limit { self.new.limit ≡ self.old.limit }
+        ensures none { NoneSits longest_stay self.new.moment self.new.moved }
+    {
+        let told = self.serve_ready(steady);
+        self.streams.close_still();
+        told
+    }
+
+    // Waits, and serves what is ready.
+    fn serve_ready<M: Moments>(&mut self, steady: &mut M) -> Result<(), LoopFault>
         ensures { self.new.limit ≡ self.old.limit }
     {
         self.server.settle();
         let wait = Duration::from_millis(LONGEST_WAIT);
         self.poll.poll(&mut self.events, Some(wait))?;
+        self.streams.go_on_to(steady.now());
         self.streams.accept_again(self.poll.registry())?;
         serve_events(
             self.poll.registry(),
@@ -256,15 +273,16 @@ impl<S: Serve + Drop> AgentLoop<S> {
     }
 
     // Takes turns until the flag is set, or a turn answers `Io`.
-    fn take_turns<R: Wait>(&mut self, rt: &R, stop: &AtomicBool) -> Result<(), LoopFault>
+    fn take_turns<R: Wait + Clock>(&mut self, rt: &R, stop: &AtomicBool) -> Result<(), LoopFault>
         ensures limit { self.new.limit ≡ self.old.limit }
         ensures fault { IfErr result (λ e. e ≡ Failing) }
     {
+        let mut steady = SteadyClock::new(rt);
         for _ in rt.forever() {
             if stop.load(Ordering::SeqCst) {
                 return Ok(());
             }
-            if is_lost(self.turn()) {
+            if is_lost(self.turn(&mut steady)) {
                 return Err(LoopFault::Io);
             }
         }
@@ -273,7 +291,7 @@ impl<S: Serve + Drop> AgentLoop<S> {
 
     /// Takes turns until the flag is set, or a turn answers `Io`, which is its only fault. What was told of the last
     /// messages is out then.
-    pub fn run<R: Wait>(&mut self, rt: &R, stop: &AtomicBool) -> Result<(), LoopFault>
+    pub fn run<R: Wait + Clock>(&mut self, rt: &R, stop: &AtomicBool) -> Result<(), LoopFault>
         ensures limit { self.new.limit ≡ self.old.limit }
         ensures fault { IfErr result (λ e. e ≡ Failing) }
     {

@@ -1,4 +1,4 @@
-ghost use Rattle.std.specs.Prelude.{◌≡◌, ◌≤◌, [], ◌++◌, None, Some, Ok, length, drop, IfSome, IfNone, MatchResult};
+ghost use Rattle.std.specs.Prelude.{◌≡◌, ◌≤◌, [], ◌++◌, true, false, None, Some, Ok, length, drop, IfSome, IfNone, MatchResult};
 ghost use Rattle.slp_loops.specs.Linking.{Link, unread, unwritten, ending_next, next_read, next_written};
 ghost use Rattle.slp_loops.specs.Reading.{Reads, Took, Lacked};
 ghost use Rattle.slp_loops.specs.Writing.{Wrote, Writes};
@@ -53,6 +53,8 @@ pub struct Connection {
     // The bytes of `output` before it were written.
     written: usize,
     stage: Stage,
+    // Whether a message came whole, or a byte was written, since that was last asked.
+    moved: bool,
 }
 
 impl Model for Connection {
@@ -62,7 +64,7 @@ impl Model for Connection {
 
     ghost Value = { Link };
 
-    ghost view = { λ c. record { asker = c.asker; unserved = c.framer.waiting; waiting = drop c.written c.output.items; stage = c.stage } };
+    ghost view = { λ c. record { asker = c.asker; unserved = c.framer.waiting; waiting = drop c.written c.output.items; stage = c.stage; moved = c.moved } };
 
     ghost invariant = { λ c. (c.written ≤ length c.output.items) × (c.framer.limit ≡ longest) × (c.stage ≡ Reading → c.framer.refused ≡ None) };
 }
@@ -70,7 +72,7 @@ impl Model for Connection {
 impl Connection {
     /// A connection with the peer at this address, of which nothing was read. Takes no memory.
     pub fn new(alloc: Global, asker: Addr) -> Connection
-        ensures { result ≡ record { asker = asker; unserved = []; waiting = []; stage = Begun } }
+        ensures { result ≡ record { asker = asker; unserved = []; waiting = []; stage = Begun; moved = false } }
     {
         Connection {
             alloc,
@@ -79,7 +81,16 @@ impl Connection {
             output: Vec::new(alloc),
             written: 0,
             stage: Stage::Reading,
+            moved: false,
         }
+    }
+
+    /// Whether it moved since this was last asked: a message came whole, or a byte was written.
+    pub fn has_moved(&mut self) -> bool
+        ensures moved { result ≡ self.old.moved }
+        ensures kept { self.new ≡ record self.old { moved = false } }
+    {
+        std::mem::take(&mut self.moved)
     }
 
     // What is answered with no read.
@@ -158,11 +169,11 @@ impl Connection {
             return Err(LoopFault::NoMemory);
         }
         let served = serve_whole(
-            self.alloc,
             server,
             self.asker,
             &mut self.framer,
             &mut self.output,
+            &mut self.moved,
         );
         match served {
             Ok(stage) => {
@@ -207,12 +218,13 @@ impl Connection {
         }
     }
 
-    // Drops so many bytes that were written.
+    // Drops this many bytes, which were written.
     fn drop_written(&mut self, count: usize) -> Next
         requires count { count ≤ length self.old.waiting }
-        ensures dropped { self.new ≡ record self.old { waiting = drop count self.old.waiting } }
+        ensures dropped { self.new ≡ record self.old { waiting = drop count self.old.waiting; moved = true } }
         ensures next { result ≡ next_written self.new.stage self.new.waiting }
     {
+        self.moved = true;
         self.written += count;
         if self.written == self.output.len() {
             self.output.clear();

@@ -12,7 +12,7 @@ mod streams;
 mod taking;
 
 pub use agent_loop::AgentLoop;
-pub use clock::{Moments, WallClock};
+pub use clock::{Moments, SteadyClock, WallClock};
 pub use connection::{Connection, Next};
 pub use desk::{Desk, Shared};
 pub use fault::LoopFault;

@@ -1,5 +1,7 @@
-ghost use Rattle.std.specs.Prelude.{◌≡◌, ◌≤◌, ◌↔◌, IfOk, IsTrue};
+ghost use Rattle.std.specs.Prelude.{◌≡◌, ◌⊎◌, ◌≤◌, ◌<◌, ◌+◌, ◌↔◌, ℕ, Some, IfOk, IsTrue};
 ghost use Rattle.slab.specs.Slab.{slab_len};
+ghost use Rattle.slp_loops.specs.Holding.{HasNoOther, KeepsOthers, NoneSits, least_stay, longest_stay, moment_of};
+ghost use Rattle.slp_loops.specs.Sitting.{moments};
 ghost use Rattle.std_io.specs.IoError.{raw_os_error};
 ghost use Rattle.slp_loops.specs.Listening.{IsLost};
 
@@ -26,27 +28,50 @@ const ACCEPTED_AT_ONCE: usize = 64;
 
 const STEPS_AT_ONCE: usize = 16;
 
+/// For how many seconds a stream may sit there: no message comes whole on it, and none of the bytes that wait is written.
+const LONGEST_STAY: u32 = 300;
+
+/// The same where every place is taken, and another peer comes.
+const LEAST_STAY: u32 = 60;
+
 /// A stream and what is known of it.
 #[derive(Drop)]
 struct Peer {
     stream: TcpStream,
     connection: Connection,
+    // When it moved last, in seconds of the loop's own clock.
+    moved: u32,
+}
+
+// Reads, serves and writes until the stream is blocked. `More` where it is not yet.
+fn take_steps<S: Serve>(
+    connection: &mut Connection,
+    stream: &mut TcpStream,
+    server: &mut S,
+) -> Result<Next, LoopFault> {
+    for _ in 0..STEPS_AT_ONCE {
+        let read = connection.on_readable(stream, server)?;
+        let written = connection.on_writable(stream)?;
+        if written == Next::Closed {
+            return Ok(Next::Closed);
+        }
+        if read == Next::Blocked && written == Next::Blocked {
+            return Ok(Next::Blocked);
+        }
+    }
+    Ok(Next::More)
 }
 
 impl Peer {
-    // Reads, serves and writes until the stream is blocked. `More` where it is not yet.
-    fn advance<S: Serve>(&mut self, server: &mut S) -> Result<Next, LoopFault> {
-        for _ in 0..STEPS_AT_ONCE {
-            let read = self.connection.on_readable(&mut self.stream, server)?;
-            let written = self.connection.on_writable(&mut self.stream)?;
-            if written == Next::Closed {
-                return Ok(Next::Closed);
-            }
-            if read == Next::Blocked && written == Next::Blocked {
-                return Ok(Next::Blocked);
-            }
+    // Lets the stream go on at a moment, and notes where it moved.
+    fn advance<S: Serve>(&mut self, server: &mut S, now: u32) -> Result<Next, LoopFault>
+        ensures { (self.new.moved ≡ self.old.moved) ⊎ (self.new.moved ≡ now) }
+    {
+        let told = take_steps(&mut self.connection, &mut self.stream, server);
+        if self.connection.has_moved() {
+            self.moved = now;
         }
-        Ok(Next::More)
+        told
     }
 }
 
@@ -67,23 +92,28 @@ pub struct Streams {
     limit: usize,
     // Whether a connection may wait that no event will report.
     accepts_again: bool,
+    // The moment of the loop's own clock, and the one at which it was looked which streams sit there.
+    moment: u32,
+    looked: u32,
 }
 
 impl Model for Streams {
     ghost use Rattle.std.specs.Prelude.{◌≤◌};
     ghost use Rattle.slab.specs.Slab.{slab_len};
-    ghost use Rattle.slp_loops.specs.Holding.{Held};
+    ghost use Rattle.slp_loops.specs.Holding.{Held, NoneSits, longest_stay};
+    ghost use Rattle.slp_loops.specs.Sitting.{moments};
 
     ghost Value = { Held };
 
-    ghost view = { λ s. record { limit = s.limit; held = slab_len s.peers } };
+    ghost view = { λ s. record { limit = s.limit; held = slab_len s.peers; moment = s.moment; moved = moments s.peers } };
 
-    ghost invariant = { λ s. (slab_len s.peers ≤ s.limit) × (s.limit ≤ s.peers.capacity) };
+    ghost invariant = { λ s. (slab_len s.peers ≤ s.limit) × (s.limit ≤ s.peers.capacity) × (s.looked ≤ s.moment) × NoneSits longest_stay s.looked (moments s.peers) };
 }
 
 impl Streams {
     pub fn new(alloc: Global, listener: TcpListener, limit: usize) -> Result<Streams, AllocError>
-        ensures { IfOk result (λ s. s ≡ record { limit = limit; held = 0 }) }
+        ensures limit { IfOk result (λ s. s.limit ≡ limit) }
+        ensures held { IfOk result (λ s. s.held ≡ 0) }
     {
         Ok(Streams {
             alloc,
@@ -91,7 +121,50 @@ impl Streams {
             peers: Slab::with_capacity(alloc, limit)?,
             limit,
             accepts_again: false,
+            moment: 0,
+            looked: 0,
         })
+    }
+
+    /// The loop's own clock goes on to this moment, in seconds.
+    pub fn go_on_to(&mut self, moment: u32)
+        ensures limit { self.new.limit ≡ self.old.limit }
+    {
+        self.moment = self.moment.max(moment);
+    }
+
+    /// Closes each stream that has sat there for 300 seconds.
+    pub fn close_still(&mut self)
+        ensures none { NoneSits longest_stay self.new.moment self.new.moved }
+        ensures kept { KeepsOthers longest_stay self.old.moment self.old.moved self.new.moved }
+        ensures only { HasNoOther self.old.moved self.new.moved }
+        ensures moment { self.new.moment ≡ self.old.moment }
+        ensures limit { self.new.limit ≡ self.old.limit }
+    {
+        if self.looked == self.moment {
+            return;
+        }
+        close_all_still(&mut self.peers, self.moment);
+        self.looked = self.moment;
+    }
+
+    // Closes the stream that has sat there longest, where that is 60 seconds, and answers whether there is a place now.
+    fn give_place(&mut self) -> bool
+        ensures room { IsTrue result → self.new.held < self.new.limit }
+        ensures kept { KeepsOthers least_stay self.old.moment self.old.moved self.new.moved }
+        ensures only { HasNoOther self.old.moved self.new.moved }
+        ensures limit { self.new.limit ≡ self.old.limit }
+    {
+        let key = stillest(&self.peers);
+        close_where_still(&mut self.peers, key, self.moment, LEAST_STAY)
+    }
+
+    // Whether there is a place, if need be that of a stream that sits there.
+    fn has_place(&mut self) -> bool
+        ensures room { IsTrue result → self.new.held < self.new.limit }
+        ensures limit { self.new.limit ≡ self.old.limit }
+    {
+        self.peers.len() < self.limit || self.give_place()
     }
 
     pub fn address(&self) -> io::Result<SocketAddr> {
@@ -105,14 +178,14 @@ impl Streams {
         self.peers.len()
     }
 
-    // Keeps a new stream, or closes it unread where the limit is reached or it cannot be waited for.
+    // Keeps a new stream, or closes it unread where no place is to be had or it cannot be waited for.
     fn admit(&mut self, registry: &Registry, mut stream: TcpStream, from: SocketAddr)
         ensures { self.new.limit ≡ self.old.limit }
     {
         let SocketAddr::V4(v4) = from else {
             return;
         };
-        if self.peers.len() >= self.limit {
+        if !self.has_place() {
             return;
         }
         let token = Token(self.peers.vacant_key());
@@ -123,7 +196,11 @@ impl Streams {
         // Without it a short reply may wait; where it is refused, it is only slower.
         let _ = stream.set_nodelay(true);
         let connection = Connection::new(self.alloc, Addr(v4.ip().to_bits()));
-        self.peers.insert_reserved(Peer { stream, connection });
+        self.peers.insert_reserved(Peer {
+            stream,
+            connection,
+            moved: self.moment,
+        });
     }
 
     /// Accepts what waits. `Io` where the listener itself failed.
@@ -173,7 +250,7 @@ impl Streams {
     ) -> Result<(), LoopFault>
         ensures { self.new.limit ≡ self.old.limit }
     {
-        match advance_at(&mut self.peers, server, registry, key) {
+        match advance_at(&mut self.peers, server, registry, key, self.moment) {
             Ok(Next::Closed) => {
                 self.peers.try_remove(key);
                 Ok(())
@@ -191,20 +268,76 @@ impl Streams {
     }
 }
 
-// Lets the connection with this key go on.
+// When the stream with a key moved last.
+fn moved_at(peers: &Slab<Peer>, key: usize) -> Option<u32>
+    ensures { result ≡ moment_of (moments peers.now) key }
+{
+    match peers.get(key) {
+        Some(peer) => Some(peer.moved),
+        None => None,
+    }
+}
+
+// Closes the stream with a key where it has sat there for this many seconds, and answers whether it has.
+fn close_where_still(peers: &mut Slab<Peer>, key: usize, now: u32, stay: u32) -> bool
+    requires { 0 < stay }
+    ensures closed { (at : ℕ) → moment_of (moments peers.new) key ≡ Some at → now < at + stay }
+    ensures kept { KeepsOthers stay now (moments peers.old) (moments peers.new) }
+    ensures only { HasNoOther (moments peers.old) (moments peers.new) }
+    ensures room { IsTrue result → slab_len peers.new + 1 ≡ slab_len peers.old }
+    ensures len { slab_len peers.new ≤ slab_len peers.old }
+    ensures capacity { peers.new.capacity ≡ peers.old.capacity }
+{
+    let Some(at) = moved_at(&*peers, key) else {
+        return false;
+    };
+    if now.saturating_sub(at) < stay {
+        return false;
+    }
+    drop(peers.try_remove(key));
+    true
+}
+
+// Closes each stream that has sat there for the longest time.
+fn close_all_still(peers: &mut Slab<Peer>, now: u32)
+    ensures none { NoneSits longest_stay now (moments peers.new) }
+    ensures kept { KeepsOthers longest_stay now (moments peers.old) (moments peers.new) }
+    ensures only { HasNoOther (moments peers.old) (moments peers.new) }
+    ensures len { slab_len peers.new ≤ slab_len peers.old }
+    ensures capacity { peers.new.capacity ≡ peers.old.capacity }
+{
+    for key in 0..peers.capacity() {
+        close_where_still(peers, key, now, LONGEST_STAY);
+    }
+}
+
+// The key of the stream that has sat there longest; 0 where there is none.
+fn stillest(peers: &Slab<Peer>) -> usize {
+    let (mut found, mut least) = (0, u32::MAX);
+    for (key, peer) in peers.iter() {
+        if peer.moved < least {
+            (found, least) = (key, peer.moved);
+        }
+    }
+    found
+}
+
+// Lets the connection with this key go on, at a moment.
 fn advance_at<S: Serve>(
     peers: &mut Slab<Peer>,
     server: &mut S,
     registry: &Registry,
     key: usize,
+    now: u32,
 ) -> Result<Next, LoopFault>
     ensures len { slab_len peers.new ≡ slab_len peers.old }
     ensures capacity { peers.new.capacity ≡ peers.old.capacity }
+    ensures moved { (k at : ℕ) → moment_of (moments peers.new) k ≡ Some at → (moment_of (moments peers.old) k ≡ Some at) ⊎ (at ≡ now) }
 {
     let Some(peer) = peers.get_mut(key) else {
         return Ok(Next::Blocked);
     };
-    let next = peer.advance(server)?;
+    let next = peer.advance(server, now)?;
     if next == Next::More {
         let both = Interest::READABLE | Interest::WRITABLE;
         registry.reregister(&mut peer.stream, Token(key), both)?;

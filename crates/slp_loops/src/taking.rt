@@ -1,6 +1,6 @@
 ghost use Rattle.std.specs.Prelude.{◌≡◌, ℕ, List, [], ◌++◌, None, MatchResult, OnOk, OnErr, IfOk};
 ghost use Rattle.slp_loops.specs.Serving.{IsServed};
-ghost use Rattle.slp_loops.specs.Reading.{AllServed, SomeServed, stage_by};
+ghost use Rattle.slp_loops.specs.Reading.{AllServed, SomeServed, moves, stage_by};
 ghost use Rattle.slp_loops.specs.declared.connection.Stage.TheVariants.{Reading};
 ghost use Rattle.slp_stream.specs.Cutting.{front_of};
 
@@ -9,7 +9,7 @@ use crate::serve::Serve;
 use access_rules::Addr;
 use slp_answer::{Answer, refused_reply};
 use slp_stream::Framer;
-use std::alloc::{AllocError, Global};
+use std::alloc::AllocError;
 
 // Serves one message, and adds what goes back for it.
 fn serve_one<S: Serve>(
@@ -31,13 +31,13 @@ fn serve_one<S: Serve>(
     }
 }
 
-/// Serves each whole message that waits in the framer, and answers how far the connection is then.
+/// Serves each whole message that waits in the framer, notes that there was one, and answers how far the connection is then.
 pub fn serve_whole<S: Serve>(
-    alloc: Global,
     server: &mut S,
     asker: Addr,
     framer: &mut Framer,
     output: &mut Vec<u8>,
+    moved: &mut bool,
 ) -> Result<Stage, AllocError>
     requires going { framer.old.refused ≡ None }
     requires limit { framer.old.limit ≡ 65535 }
@@ -46,11 +46,15 @@ pub fn serve_whole<S: Serve>(
     ensures stage { IfOk result (λ stage. stage ≡ stage_by (front_of 65535 framer.new.waiting)) }
     ensures going { IfOk result (λ stage. stage ≡ Reading → framer.new.refused ≡ None) }
     ensures limit { framer.new.limit ≡ 65535 }
+    ensures moved { OnOk result (moved.new ≡ moves moved.old framer.old.waiting framer.new.waiting) }
 {
-    let mut answer = Answer::new(alloc);
+    let mut answer = Answer::new(*output.allocator());
     while let Some(next) = framer.next() {
         match next {
-            Ok(message) => serve_one(server, asker, message, &mut answer, output)?,
+            Ok(message) => {
+                *moved = true;
+                serve_one(server, asker, message, &mut answer, output)?;
+            }
             Err(_) => return Ok(Stage::Ending),
         }
     }

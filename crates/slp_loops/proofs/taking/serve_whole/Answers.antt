@@ -4,15 +4,17 @@ use Rattle.std.proofs.lemmas.Result.{err_from_is_err_and}
 use Rattle.slp_stream.specs.Cutting.{IsCut, IsEnd, Bad, Wanting, front_of}
 use Rattle.slp_stream.specs.Framing.{Frames, next_answer, answer_in}
 use Rattle.slp_stream.proofs.FramerAnswers.{gave_message, gave_none, leads_on, leads_to_end}
-use Rattle.slp_loops.specs.Reading.{stage_by}
+use Rattle.slp_loops.specs.Reading.{moves, stage_by}
 use Rattle.slp_loops.proofs.Cutting.{has_cut, gave_refusal}
-use Rattle.slp_loops.proofs.Served.{served_more, served_one}
+use Rattle.slp_loops.proofs.Served.{moves_none, moves_some, served_more, served_one}
 use Rattle.slp_loops.proofs.taking.serve_whole.Goals as goal
 
 pub loop-next-init : goal.loop-next-init
 loop-next-init g c = record {
   limit = c.requires.limit;
   going = c.requires.going;
+  moved = moves_none c.args.moved.now c.args.framer.now.waiting;
+  shorter = omega arith;
   served = ([], [], (refl, refl), λ ms end p. p, sym (append-nil _));
 }
 
@@ -37,6 +39,8 @@ loop-next-preserved g c =
     record {
       limit = taken.limit ∙ c.loop-next.invariant.limit;
       going = taken.refused;
+      moved = moves_some c.args.moved.now c.args.framer.now.waiting after.waiting (omega (arith, taken.least, ap length taken.parts, length-append message after.waiting, c.loop-next.invariant.shorter));
+      shorter = omega (arith, ap length taken.parts, length-append message after.waiting, c.loop-next.invariant.shorter);
       served = (
         held.0 ++ message ∷ [],
         held.1 ++ one.0,
@@ -157,3 +161,19 @@ returns-clause-going g c =
     let given : None ≡ next_answer before = sym (ap answer_in c.in_default.is) ∙ c.next.ensures.answer in
     let none = gave_none before after given c.next.follows.holds-at-none in
     λ h. ap (λ (x : Frames). x.refused) none.1 ∙ c.loop-next.invariant.going
+
+pub returns-in-Err-clause-moved : goal.returns-in-Err-clause-moved
+returns-in-Err-clause-moved g c =
+    let before : Frames = c.loop-next.framer in
+    let after : Frames = c.next.follows.lender-at-none in
+    let given : Some (Err c.in-Err.field-0) ≡ next_answer before = sym (ap answer_in (c.in-Some.is ∙ ap Some c.in-Err.is)) ∙ c.next.ensures.answer in
+    let refused = gave_refusal before after _ c.loop-next.invariant.going given c.next.follows.holds-at-none in
+    c.loop-next.invariant.moved ∙ ap (λ (x : List ℕ). moves c.args.moved.now c.args.framer.now.waiting x) (sym refused.waiting)
+
+pub returns-clause-moved : goal.returns-clause-moved
+returns-clause-moved g c =
+    let before : Frames = c.loop-next.framer in
+    let after : Frames = c.next.follows.lender-at-none in
+    let given : None ≡ next_answer before = sym (ap answer_in c.in_default.is) ∙ c.next.ensures.answer in
+    let none = gave_none before after given c.next.follows.holds-at-none in
+    c.loop-next.invariant.moved ∙ ap (λ (x : Frames). moves c.args.moved.now c.args.framer.now.waiting x.waiting) (sym none.1)
