@@ -10,8 +10,9 @@
 # make wrong       tries the wrong bodies beside the gate, or CRATE=slp_text those of one crate: 90 minutes; needs python3
 # make bench       counts what a message costs, and measures the server: minutes, once make build is done; needs valgrind, python3, cc
 # make refusals    refuses each request for memory of the programs in turn: minutes, once make build is done; needs python3
+# make hostile     sends the server ten million broken messages, or count=N, and asks whether anyone else noticed: minutes; needs make build, python3
 # What is proved is kept in crates/*/out: a second call proves what changed since, and what stands on it.
-.PHONY: help try build demo run day install uninstall test wrong bench refusals
+.PHONY: help try build demo run day install uninstall test wrong bench refusals hostile
 .DEFAULT_GOAL := help
 
 script := examples/printer.script
@@ -107,6 +108,10 @@ refusals:
 	$(call build,$(programs))
 	@cd crates/refusal_tests && rt test
 	@refusals/try
+
+# Another seed=TEXT than 1 brings other messages.
+hostile:
+	@hostile/try bin/slpda $(or $(count),10000000) $(seed)
 
 # A crate is proved once those that crates.txt names in its line are.
 crates := $(shell sed -n 's/^\([a-z_]*\):.*/\1/p' crates.txt)

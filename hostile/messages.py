@@ -1,0 +1,297 @@
+"""Messages of SLP (RFC 2608, section 8) as bytes: plain ones, broken ones made of these by chance, and bombs, each of which is one lawful or unlawful
+message that costs as much as it can."""
+
+import random
+import struct
+
+SERVICES, SERVICE_REPLY, REGISTER, WITHDRAW, ACKNOWLEDGE, ATTRIBUTES, ATTRIBUTE_REPLY, ADVERT, TYPES, TYPE_REPLY, SERVICE_ADVERT = range(1, 12)
+REPLIES = {SERVICE_REPLY: "SrvRply", ACKNOWLEDGE: "SrvAck", ATTRIBUTE_REPLY: "AttrRply", ADVERT: "DAAdvert", TYPE_REPLY: "SrvTypeRply"}
+FRESH = 0x4000
+LONGEST_DATAGRAM, LONGEST = 65507, 65535
+ALL_AUTHORITIES = b"\xff\xff"
+
+
+def string(text):
+    text = text if isinstance(text, bytes) else text.encode()
+    return struct.pack(">H", len(text)) + text
+
+
+def spelled(function, flags, parts, language="en", xid=1):
+    """A message: of its parts each text gets its length, and bytes stand as they are."""
+    body = string(language) + b"".join(string(it) if isinstance(it, str) else it for it in parts)
+    return struct.pack(">BB", 2, function) + (12 + len(body)).to_bytes(3, "big") + struct.pack(">H3xH", flags, xid) + body
+
+
+def services(kind, scopes="DEFAULT", predicate="", responders="", **more):
+    return spelled(SERVICES, 0, [responders, kind, scopes, predicate, ""], **more)
+
+
+def attributes(what, scopes="DEFAULT", tags="", responders="", **more):
+    return spelled(ATTRIBUTES, 0, [responders, what, scopes, tags, ""], **more)
+
+
+def types(scopes="DEFAULT", **more):
+    return spelled(TYPES, 0, ["", ALL_AUTHORITIES, scopes], **more)
+
+
+def entry(url, lifetime=65535):
+    return struct.pack(">xH", lifetime) + string(url) + b"\0"
+
+
+def registration(url, kind, scopes="DEFAULT", attrs="", flags=FRESH, **more):
+    return spelled(REGISTER, flags, [entry(url), kind, scopes, attrs, b"\0"], **more)
+
+
+def withdrawal(url, scopes="DEFAULT", tags="", **more):
+    return spelled(WITHDRAW, 0, [scopes, entry(url, 0), tags], **more)
+
+
+def acknowledgement(code=0, **more):
+    return spelled(ACKNOWLEDGE, 0, [struct.pack(">H", code)], **more)
+
+
+def code_of(reply):
+    """The code of a reply, or None where these bytes are none that is well formed."""
+    if len(reply) < 16 or reply[0] != 2 or reply[1] not in REPLIES or int.from_bytes(reply[2:5], "big") != len(reply):
+        return None
+    at = 14 + int.from_bytes(reply[12:14], "big")
+    return int.from_bytes(reply[at : at + 2], "big") if at + 2 <= len(reply) else None
+
+
+# Broken messages
+
+URL, KIND, OPAQUE = "service:printer:lpr://a", "service:printer:lpr", struct.pack(">HI", 0, 1)
+
+# The eleven functions, then what asks for more of a server, then what is aimed at the services of the second asker.
+PLAIN = [
+    (SERVICES, 0, ["", "service:printer", "DEFAULT", "(&(a=1)(b=x*))", ""]),
+    (SERVICE_REPLY, 0, [struct.pack(">HH", 0, 1), entry(URL)]),
+    (REGISTER, FRESH, [entry(URL, 300), KIND, "DEFAULT", "(a=1,2),(b=xyz),(c=true),d,(e=\\ff\\00\\01)", b"\0"]),
+    (WITHDRAW, 0, ["DEFAULT", entry(URL, 0), ""]),
+    (ACKNOWLEDGE, 0, [b"\0\0"]),
+    (ATTRIBUTES, 0, ["", URL, "DEFAULT", "a,b*", ""]),
+    (ATTRIBUTE_REPLY, 0, [b"\0\0", "(a=1)", b"\0"]),
+    (ADVERT, 0, [OPAQUE, "service:directory-agent://127.0.0.1", "DEFAULT", "", "", b"\0"]),
+    (TYPES, 0, ["", ALL_AUTHORITIES, "DEFAULT"]),
+    (TYPE_REPLY, 0, [b"\0\0", KIND]),
+    (SERVICE_ADVERT, 0, ["service:service-agent://h", "DEFAULT", "(a=1)", b"\0"]),
+    (SERVICES, 0, ["", "service:directory-agent", "", "", ""]),
+    (SERVICES, 0x2000, ["127.0.0.2,10.0.0.1", "service:bomb", "DEFAULT,office", "(|(a~=x y)(!(b>=1))(c<=z)(d=*))", ""]),
+    (REGISTER, 0, [entry(URL, 300), KIND, "DEFAULT", "(a=3),(f=4)", b"\0"]),
+    (REGISTER, FRESH, [entry("service:scan.own:x://b", 9), "service:scan.own:x", "default", "", b"\0"]),
+    (WITHDRAW, 0, ["DEFAULT", entry(URL, 0), "a,b*"]),
+    (ATTRIBUTES, 0, ["", "service:printer", "DEFAULT", "", ""]),
+    (TYPES, 0, ["", "own", "DEFAULT"]),
+    (REGISTER, FRESH, [entry("service:quiet:one://h1", 9), "service:quiet:one", "quiet", "(a=wrong)", b"\0"]),
+    (REGISTER, FRESH, [entry("service:quiet:one://h1", 9), "service:quiet:one", "DEFAULT", "(a=wrong)", b"\0"]),
+    (REGISTER, 0, [entry("service:quiet:one://h1", 9), "service:quiet:one", "quiet", "(a=wrong)", b"\0"]),
+    (WITHDRAW, 0, ["quiet", entry("service:quiet:one://h1", 0), ""]),
+    (WITHDRAW, 0, ["DEFAULT,quiet", entry("service:quiet:one://h1", 0), "a,c*"]),
+]
+ALPHABETS = ["()&|!=*<>~\\ab1,", "(a=1),bc\\2C ", "(((((!&|", "*a*", "01fF\\", "service:/.abc", "DEFAULTquiet,", "\0\t\r\n\x7f é漢"]
+NUMBERS = [0, 1, 2, 12, 14, 255, 256, 0x7FFF, 0x8000, 0xFFFE, 0xFFFF]
+
+
+class Breaker:
+    """Makes broken messages: the same ones, in the same order, for the same seed."""
+
+    def __init__(self, seed):
+        chance = random.Random(seed)
+        self.random, self.bits = chance.random, chance.getrandbits
+        self.noise = chance.randbytes(1 << 20)
+        lengths = [self.below(40) for _ in range(2000)] + [self.below(2000) for _ in range(40)] + [self.below(20000) for _ in range(4)]
+        self.texts = ["".join(chance.choices(chance.choice(ALPHABETS), k=it)) for it in lengths]
+        self.bases = [spelled(*it) for it in PLAIN]
+        self.kinds = {
+            "plain": self.base,
+            "registrations for seconds": self.registration,
+            "random bytes": self.noisy,
+            "a header, then random bytes": self.headed,
+            "bytes changed": self.changed,
+            "cut": self.cut,
+            "made longer": self.longer,
+            "length fields changed": self.lengths,
+            "two joined": self.joined,
+            "extensions": self.extended,
+            "texts emptied or changed": self.retold,
+            "any function": self.function,
+            "any flags": self.flags,
+            "any language and version": self.language,
+            "broken twice": self.twice,
+        }
+        self.makers = list(self.kinds.items())
+
+    def message(self):
+        """The next one, of at most 65,507 bytes, and its kind."""
+        kind, make = self.makers[self.below(len(self.makers))]
+        return kind, make()[:LONGEST_DATAGRAM]
+
+    def below(self, limit):
+        return int(self.random() * limit)
+
+    def some(self, length):
+        at = self.below(len(self.noise) - length)
+        return self.noise[at : at + length]
+
+    def length(self):
+        """Mostly a short one, and one of 64 of any length."""
+        return self.below(80) if self.bits(6) else self.below(LONGEST_DATAGRAM + 1)
+
+    def base(self):
+        message = bytearray(self.bases[self.below(len(self.bases))])
+        message[10:12] = self.some(2)
+        return message
+
+    def registration(self):
+        """One of 65,536 services, for at most four seconds: so the site is full at times, and empties again."""
+        kind = f"service:t{self.bits(5)}"
+        attrs = self.texts[self.below(2000)] if not self.bits(2) else f"(a={self.bits(4)}),(b=x{self.bits(8)}y)"
+        parts = [entry(f"{kind}://h{self.bits(11)}", 1 + self.bits(2)), kind, "DEFAULT", attrs, b"\0"]
+        return spelled(REGISTER, FRESH if self.bits(2) else 0, parts, xid=self.bits(16))
+
+    def noisy(self):
+        return self.some(self.length())
+
+    def headed(self):
+        message = self.base()[:16] + self.some(self.length())
+        return self.measured(message)
+
+    @staticmethod
+    def measured(message):
+        message[2:5] = len(message).to_bytes(3, "big")
+        return message
+
+    def changed(self, message=None):
+        message = message or self.base()
+        for _ in range(1 + self.bits(3)):
+            message[self.below(len(message))] = self.bits(8)
+        return message
+
+    def cut(self, message=None):
+        message = message or self.base()
+        message = message[: self.below(len(message))]
+        return self.measured(message) if len(message) > 5 and self.bits(1) else message
+
+    def longer(self, message=None):
+        message = (message or self.base()) + self.some(self.length())
+        return self.measured(message) if self.bits(1) else message
+
+    def lengths(self, message=None):
+        message = message or self.base()
+        at = 3 if not self.bits(2) else 12 + self.below(len(message) - 13)
+        number = NUMBERS[self.below(len(NUMBERS))] if self.bits(1) else (int.from_bytes(message[at : at + 2], "big") + self.bits(3) - 4) & 0xFFFF
+        message[at : at + 2] = number.to_bytes(2, "big")
+        return message
+
+    def joined(self, message=None):
+        message = (message or self.base()) + self.base()
+        return self.measured(message) if self.bits(1) else message
+
+    def extended(self, message=None):
+        message = message or self.base()
+        places = [0, len(message), len(message) - 1, 5, 0xFFFFFF, self.bits(16), self.bits(24)]
+        message[7:10] = places[self.below(len(places)) if self.bits(1) else 1].to_bytes(3, "big")
+        for _ in range(1 + self.bits(1)):
+            number = (self.bits(16) & 0x3FFF) | self.bits(2) << 14
+            after = 0 if self.bits(1) else places[self.below(len(places))]
+            message += number.to_bytes(2, "big") + after.to_bytes(3, "big") + self.some(self.below(8))
+        return self.measured(message) if self.bits(3) else message
+
+    def retold(self):
+        function, flags, parts = PLAIN[self.below(len(PLAIN))]
+        parts = list(parts)
+        for _ in range(1 + self.bits(1)):
+            at = self.below(len(parts))
+            text = self.texts[self.below(len(self.texts))] if self.bits(2) else ""
+            parts[at] = text if isinstance(parts[at], str) or self.bits(1) else entry(text, self.bits(16))
+        return bytearray(spelled(function, flags, parts, xid=self.bits(16)))
+
+    def function(self, message=None):
+        message = message or self.base()
+        message[1] = self.bits(8) if self.bits(1) else self.below(13)
+        return message
+
+    def flags(self, message=None):
+        message = message or self.base()
+        message[5:7] = self.some(2) if self.bits(1) else (self.bits(3) << 13).to_bytes(2, "big")
+        return message
+
+    def language(self):
+        function, flags, parts = PLAIN[self.below(len(PLAIN))]
+        tags = ["", "de", "en-US", "EN", "x" * self.below(300), self.texts[self.below(2000)]]
+        message = bytearray(spelled(function, flags, parts, tags[self.below(len(tags))], self.bits(16)))
+        if not self.bits(2):
+            message[0] = self.bits(8)
+        return message
+
+    def twice(self):
+        steps = (self.changed, self.cut, self.longer, self.lengths, self.joined, self.extended, self.function, self.flags)
+        message = self.retold()
+        for _ in range(2):
+            message = steps[self.below(len(steps))](message) if len(message) > 14 else message
+        return message
+
+    def stream(self):
+        """The pieces of a stream of one to five messages, of which some are broken; and how it ends."""
+        messages = [self.base() if self.bits(1) else self.message()[1] for _ in range(1 + self.below(5))]
+        whole = bytes().join(messages)
+        if not self.bits(2):
+            whole = whole[: self.below(len(whole) + 1)]
+        cuts = sorted(self.below(len(whole) + 1) for _ in range(self.bits(2)))
+        return [whole[a:b] for a, b in zip([0, *cuts], [*cuts, len(whole)])], ("closed", "reset", "half-closed", "left open")[self.bits(2)]
+
+
+# Bombs
+
+
+def full(parts, most=60000):
+    """The parts from the front that together have at most so many bytes."""
+    out, size = [], 0
+    for it in parts:
+        size += len(it)
+        if size > most:
+            break
+        out.append(it)
+    return "".join(out)
+
+
+def many_tags(letter):
+    return full(f"{letter}{it:04x}," for it in range(65536)).rstrip(",")
+
+
+def updates(count):
+    """A registration, and updates of it that each bring 60,000 bytes of new attributes."""
+    url, kind = "service:grows://h", "service:grows"
+    yield registration(url, kind)
+    for number in range(count):
+        yield registration(url, kind, attrs=full(f"(t{number:02x}{it:04x}=1)," for it in range(6000)).rstrip(","), flags=0)
+
+
+def levels(count):
+    return "(!" * (count - 1) + "(a=1)" + ")" * (count - 1)
+
+
+def bombs():
+    """What each bomb is called, what is registered before it, its messages, and the code of the reply to each."""
+    long_values = [registration(f"service:long://h{it}", "service:long", attrs="(a=" + "a" * 60000 + ")") for it in range(5)]
+    tags = [registration(f"service:tags://h{it}", "service:tags", attrs=many_tags("abcdefghij"[it])) for it in range(10)]
+    values = [registration("service:values://h", "service:values", attrs="(a=" + full(f"{it}," for it in range(100000)).rstrip(",") + ")")]
+    patterns = full(f"*{it:04x}z*," for it in range(6000)).rstrip(",")
+    items = "(|" + "(b=1)" * 11800 + ")"
+    return [
+        ("a filter of 60,000 brackets", [], [services("service:printer", predicate="(" * 60000)], 2),
+        ("a filter of 32 levels", long_values, [services("service:long", predicate=levels(32))], 0),
+        ("a filter of 33 levels", [], [services("service:long", predicate=levels(33))], 2),
+        ("a pattern of 1,051 bytes, five values of 60,000", [], [services("service:long", predicate="(a=*" + "a" * 1044 + "b*)")], 0),
+        ("a pattern of 30,000 stars, five values of 60,000", [], [services("service:long", predicate="(a=" + "*a" * 30000 + "b)")], 0),
+        ("6,000 tag patterns, ten entries of 10,000 tags", tags, [attributes("service:tags", tags=patterns)], 0),
+        ("a withdrawal of 6,000 tag patterns", [], [withdrawal("service:tags://h0", tags=patterns)], 0),
+        ("a filter of 11,800 items", [], [services("service:long", predicate=items)], 0),
+        ("the same of a tag with 10,000 values", values, [services("service:values", predicate=items.replace("b", "a").replace("1", "x"))], 0),
+        ("60,000 commas as scopes", [], [services("service:printer", scopes="," * 60000)], 4),
+        ("60,000 bytes of scopes", [], [services("service:printer", scopes=full(f"s{it % 9999}," for it in range(60000)).rstrip(","))], 4),
+        ("60,000 bytes of responders", [], [services("service:printer", responders="10.0.0.1," * 6666)], 0),
+        ("20,000 attributes joined from ten entries", [], [attributes("service:tags")], 0),
+        ("20 updates of 60,000 bytes, all together", [], list(updates(20)), 0),
+        ("the attributes of what they made", [], [attributes("service:grows://h")], 0),
+    ]
