@@ -12,10 +12,9 @@ from messages import LONGEST, Breaker, attributes, bombs, code_of, registration,
 from server import CONNECTIONS, ask, take
 
 WINDOW, WEIGHT, OVERHEAD = 64, 49152, 768  # what is sent before a question has to be answered: so no buffer of the system overflows
-LIVE = 32  # streams that are open at once
+LIVE = 32  # streams of a sender that are open at once
 RESETTING = struct.pack("ii", 1, 0)
-NOWHERE = types("nowhere")
-FLOODED = 20  # seconds that a datagram may wait behind streams that ask for much
+QUESTION, NOWHERE = services("service:printer"), types("nowhere")
 
 
 class Told:
@@ -29,13 +28,14 @@ class Told:
         self.replies.update(other.replies)
         self.lost += other.lost
 
-    def reply(self, reply, most=65535):
-        """Counts a reply, which has to be well formed."""
+    def reply(self, reply, most=LONGEST):
+        """Counts a reply, which has to be well formed; its code."""
         code = code_of(reply)
         if code is None or len(reply) > most:
-            self.lost.append(f"this was sent as a reply: {reply[:100].hex()} ({len(reply)} bytes)")
+            self.lost.append(f"this came as a reply: {reply[:100].hex()} ({len(reply)} bytes)")
         else:
             self.replies[reply[1], code] += 1
+        return code
 
 
 def side_by_side(attack, server, seed, count, seconds, times, meanwhile):
@@ -72,18 +72,15 @@ def datagrams(told, server, seed, source, count, end):
     sender.setblocking(False)
     left, number = count, 0
     while left > 0 and time.monotonic() < end and len(told.lost) < 3:
-        weight = 0
-        for _ in range(min(WINDOW, left)):
+        weight, until = 0, max(0, left - WINDOW)
+        while left > until and weight < WEIGHT:
             kind, message = breaker.message()
             sender.send(message)
             told.sent[kind] += 1
             left -= 1
             weight += len(message) + OVERHEAD
-            if weight > WEIGHT:
-                break
-        number = (number + 1) & 0xFFFF
-        question = NOWHERE[:10] + number.to_bytes(2, "big") + NOWHERE[12:]
-        reply, times = ask(asker, question)
+        number += 1
+        reply, times = ask(asker, NOWHERE[:10] + (number & 0xFFFF).to_bytes(2, "big") + NOWHERE[12:])
         told.sent["questions between them"] += times
         if reply is None:
             told.lost.append(f"a question after {count - left:,} datagrams was not answered")
@@ -102,9 +99,9 @@ def take_all(told, sender):
 
 
 def streams(told, server, seed, source, count, end):
-    """Broken streams, of which some are open at once. Half of them are ended by who sends, and read to their end."""
-    breaker, live, begun, chance = Breaker(seed), [], 0, random.Random(seed)
-    while (begun < count or live) and len(told.lost) < 3:
+    """Broken streams, of which some are open at once, and which take turns."""
+    breaker, chance, live, begun = Breaker(seed), random.Random(seed), [], 0
+    while len(told.lost) < 3:
         if begun < count and len(live) < LIVE and time.monotonic() < end:
             pieces, ending = breaker.stream()
             live.append((server.stream(f"{source[:-1]}{10 + begun % 16}", seconds=10), pieces, ending))
@@ -130,7 +127,7 @@ def sends(stream, piece):
 
 
 def ends(told, stream, ending):
-    """Ends a stream. What is half-closed the server has to end, once it has answered."""
+    """Ends a stream. One that is half-closed the server has to end, once it has answered."""
     with stream:
         if ending == "reset":
             stream.setsockopt(socket.SOL_SOCKET, socket.SO_LINGER, RESETTING)
@@ -146,66 +143,62 @@ def ends(told, stream, ending):
 
 
 def explode(server, bounds, say):
-    """Sends each bomb on a stream, measures how long its answers take, and tells what came; bounds are the seconds that each may take."""
+    """Sends each bomb on a stream, and measures how long its answers take."""
     told = Told()
     time.sleep(5)  # until what was registered for seconds leaves room
     for name, before, messages, code in bombs():
-        took, longest, codes, bound = 0, 0, set(), bounds.get(name, bounds["any other"])
+        bound, waits, codes = bounds.get(name, bounds["any bomb"]), [], []
         try:
             with server.stream("127.0.2.1", seconds=bound + 5) as stream:
-                for it in before:
-                    stream.sendall(it)
-                    told.reply(reply := take(stream))
-                    if code_of(reply) != 0:
-                        told.lost.append(f"what {name!r} needs was refused: {reply.hex()}")
-                for it in messages:
+                for it in before + messages:
                     began = time.monotonic()
                     stream.sendall(it)
-                    reply = take(stream)
-                    took += time.monotonic() - began
-                    longest = max(longest, time.monotonic() - began)
-                    told.reply(reply)
-                    told.sent["bombs"] += 1
-                    codes.add(code_of(reply))
-            each = f", the longest {longest:.3f} s" if len(messages) > 1 else ""
-            say(f"  {took:8.3f} s  code {', '.join(map(str, codes))}  {max(map(len, messages)):6,} bytes  {name}{each}")
-            if codes != {code}:
-                told.lost.append(f"the bomb {name!r} brought codes {codes}, not {code}")
-            if took > bound:
-                told.lost.append(f"the bomb {name!r} took {took:.1f} s, and may take {bound}")
+                    codes.append(told.reply(take(stream)))
+                    waits.append(time.monotonic() - began)
         except OSError as e:
             told.lost.append(f"the bomb {name!r} met {e!r}")
+            continue
+        del waits[: len(before)]
+        told.sent["bombs"] += len(messages)
+        each = f", the longest {max(waits):.3f} s" if len(messages) > 1 else ""
+        say(f"  {sum(waits):8.3f} s  code {code}  {max(map(len, messages)):6,} bytes  {name}{each}")
+        if codes != [0] * len(before) + [code] * len(messages):
+            told.lost.append(f"the bomb {name!r} and what it needs brought codes {codes}")
+        if sum(waits) > bound:
+            told.lost.append(f"the bomb {name!r} took {sum(waits):.1f} s, and may take {bound}")
     return told
 
 
 # Connections
 
-QUESTION = services("service:printer")
+
+def opened(server, told, count, what, seconds=20):
+    """So many streams, from eight addresses."""
+    told.sent[what] += count
+    return [server.stream(f"127.0.3.{1 + number % 8}", seconds=seconds) for number in range(count)]
 
 
-def is_answered(server, told, what, seconds=2.0):
-    """Whether a datagram is answered at the attacked address."""
+def datagram_answered(server, told, what, seconds=2.0):
     with server.datagrams("127.0.3.9") as it:
         reply = ask(it, NOWHERE, seconds)[0]
     if reply is None:
-        told.lost.append(f"{what}: a datagram was not answered")
+        told.lost.append(f"{what} a datagram was not answered")
     else:
         told.reply(reply)
 
 
-def stream_is_answered(server, told, what):
+def stream_answered(server, told, what):
     try:
         with server.stream("127.0.3.9", seconds=5) as it:
             it.sendall(QUESTION)
             told.reply(take(it))
     except OSError as e:
-        told.lost.append(f"{what}: a stream met {e!r}")
+        told.lost.append(f"{what} a stream met {e!r}")
 
 
 def places(server, told):
     """More streams than places: those that have one are answered, the others are closed unread."""
-    held = [server.stream(f"127.0.3.{1 + it % 8}", seconds=5) for it in range(CONNECTIONS + 44)]
-    kept = 0
+    held, kept = opened(server, told, CONNECTIONS + 44, "streams, 44 more than places", 5), 0
     for it in held:
         try:
             it.sendall(QUESTION)
@@ -216,48 +209,43 @@ def places(server, told):
             pass
     if kept != CONNECTIONS:
         told.lost.append(f"of {len(held)} streams {kept} had a place, not {CONNECTIONS}")
-    is_answered(server, told, "while all places are taken")
-    told.sent["streams beyond the places"] += len(held)
+    datagram_answered(server, told, "while all places are taken")
     return held
 
 
 def stalled(server, told, seconds):
     """Streams that say nothing, and some that send a byte a second: the rest of the places serve others."""
-    silent = [server.stream(f"127.0.3.{1 + it % 8}") for it in range(100)]
-    slow = [server.stream(f"127.0.3.{1 + it % 8}") for it in range(50)]
+    silent, slow = opened(server, told, 100, "silent streams"), opened(server, told, 50, "streams of a byte a second")
     for second in range(seconds):
         for it in slow:
             it.sendall(QUESTION[second : second + 1])
-        is_answered(server, told, "beside silent streams")
-        stream_is_answered(server, told, "beside silent streams")
+        datagram_answered(server, told, "beside silent streams")
+        stream_answered(server, told, "beside silent streams")
         time.sleep(1)
     for it in slow:
         it.sendall(QUESTION[seconds:])
         told.reply(take(it))
-    told.sent["silent streams"] += len(silent)
-    told.sent["streams of a byte a second"] += len(slow)
     return silent + slow
 
 
-def half_closed(server, told, count):
-    for number in range(count):
-        with server.stream(f"127.0.3.{1 + number % 8}", seconds=5) as it:
+def half_closed(server, told):
+    for it in opened(server, told, 200, "half-closed streams"):
+        with it:
             it.sendall(QUESTION * 3)
             it.shutdown(socket.SHUT_WR)
-            replies = [take(it) for _ in range(4)]
-        for reply in replies[:3]:
-            told.reply(reply)
-        if replies[3]:
-            told.lost.append("a half-closed stream got one answer too many")
-    told.sent["half-closed streams"] += count
+            replies = [told.reply(take(it)) for _ in range(3)]
+            if it.recv(1):
+                told.lost.append(f"a half-closed stream got more than {len(replies)} answers")
+    return []
 
 
-def resets(server, told, count):
-    for number in range(count):
-        with server.stream(f"127.0.3.{1 + number % 8}", seconds=5) as it:
+def resets(server, told):
+    for number in range(2000):
+        for it in opened(server, told, 1, "reset streams"):
             it.setsockopt(socket.SOL_SOCKET, socket.SO_LINGER, RESETTING)
-            it.sendall(QUESTION[: number % (len(QUESTION) + 1)] or QUESTION)
-    told.sent["reset streams"] += count
+            it.sendall(QUESTION[: number % len(QUESTION)])
+            it.close()
+    return []
 
 
 def widen(server, told):
@@ -273,52 +261,40 @@ def widen(server, told):
     return question
 
 
-def flood(server, told, question, questions, seconds, streams=CONNECTIONS):
-    """Streams ask for the longest replies and read nothing: what the server holds before, at most, and after, in kilobytes, and how long a datagram waits."""
+def flood(server, told, questions, seconds, bound, streams=CONNECTIONS):
+    """Streams that ask for the longest replies and read nothing: what the server holds of it, and how long datagrams wait, in words."""
+    question = widen(server, told)
     before, most, longest = server.memory()[0], 0, 0
-    held = [server.stream(f"127.0.3.{1 + it % 8}") for it in range(streams)]
+    held = opened(server, told, streams, "streams that ask and never read")
     for it in held:
-        it.setblocking(False)
-        it.send(question * questions)
+        it.sendall(question * questions)
     end = time.monotonic() + seconds
     while (began := time.monotonic()) < end:
-        is_answered(server, told, "beside streams that read nothing", FLOODED)
-        longest = max(longest, time.monotonic() - began)
-        most = max(most, server.memory()[0])
+        datagram_answered(server, told, "beside streams that read nothing", bound)
+        longest, most = max(longest, time.monotonic() - began), max(most, server.memory()[0])
         time.sleep(0.05)
     for it in held:
         it.setsockopt(socket.SOL_SOCKET, socket.SO_LINGER, RESETTING)
         it.close()
-    told.sent["streams that ask and never read"] += len(held)
-    has_descriptors(server, server.calm, FLOODED)
+    server.calms(bound)
     time.sleep(1)
-    return before, most, server.memory()[0], longest
+    held = f"VmRSS {before:,} kB before, {most:,} at most, {server.memory()[0]:,} after: {(most - before) / streams:,.0f} kB a stream"
+    return f"{questions} questions on each of {streams} streams, unread: {held}; a datagram to the same address waited {longest:.2f} s"
 
 
-def has_descriptors(server, wanted, seconds):
-    end = time.monotonic() + seconds
-    while server.descriptors() != wanted and time.monotonic() < end:
-        time.sleep(0.1)
-    return server.descriptors() == wanted
-
-
-def close(server, told, held, what):
-    for it in held:
-        it.close()
-    if not has_descriptors(server, server.calm, 10):
-        told.lost.append(f"{what}: {server.descriptors()} descriptors are open, not {server.calm}")
-    stream_is_answered(server, told, what)
-
-
-def connections(server, questions, say):
+def connections(server, bounds, questions, say):
     told = Told()
-    close(server, told, places(server, told), "after more streams than places")
-    close(server, told, stalled(server, told, 10), "after silent streams")
-    half_closed(server, told, 200)
-    resets(server, told, 2000)
-    close(server, told, [], "after resets")
-    before, most, after, longest = flood(server, told, widen(server, told), questions, 5)
-    close(server, told, [], "after streams that never read")
-    say(f"  {CONNECTIONS} streams asked {questions} times each for 65,535 bytes and never read: VmRSS {before:,} kB before, {most:,} at most, {after:,} after;")
-    say(f"  that is {(most - before) / CONNECTIONS:,.0f} kB a stream. A datagram to the same address waited for {longest:.3f} s at most.")
+    attacks = {
+        "more streams than places": lambda: places(server, told),
+        "silent streams": lambda: stalled(server, told, 10),
+        "half-closed streams": lambda: half_closed(server, told),
+        "resets": lambda: resets(server, told),
+        "streams that never read": lambda: say("  " + flood(server, told, questions, 5, bounds["flooded"])) or [],
+    }
+    for name, attack in attacks.items():
+        for it in attack():
+            it.close()
+        if not server.calms(10):
+            told.lost.append(f"after {name} {server.descriptors()} descriptors are open, not {server.calm}")
+        stream_answered(server, told, f"after {name}")
     return told

@@ -60,7 +60,7 @@ def code_of(reply):
 
 # Broken messages
 
-URL, KIND, OPAQUE = "service:printer:lpr://a", "service:printer:lpr", struct.pack(">HI", 0, 1)
+URL, KIND = "service:printer:lpr://a", "service:printer:lpr"
 
 # The eleven functions, then what asks for more of a server, then what is aimed at the services of the second asker.
 PLAIN = [
@@ -71,7 +71,7 @@ PLAIN = [
     (ACKNOWLEDGE, 0, [b"\0\0"]),
     (ATTRIBUTES, 0, ["", URL, "DEFAULT", "a,b*", ""]),
     (ATTRIBUTE_REPLY, 0, [b"\0\0", "(a=1)", b"\0"]),
-    (ADVERT, 0, [OPAQUE, "service:directory-agent://127.0.0.1", "DEFAULT", "", "", b"\0"]),
+    (ADVERT, 0, [struct.pack(">HI", 0, 1), "service:directory-agent://127.0.0.1", "DEFAULT", "", "", b"\0"]),
     (TYPES, 0, ["", ALL_AUTHORITIES, "DEFAULT"]),
     (TYPE_REPLY, 0, [b"\0\0", KIND]),
     (SERVICE_ADVERT, 0, ["service:service-agent://h", "DEFAULT", "(a=1)", b"\0"]),
@@ -97,34 +97,39 @@ class Breaker:
 
     def __init__(self, seed):
         chance = random.Random(seed)
-        self.random, self.bits = chance.random, chance.getrandbits
-        self.noise = chance.randbytes(1 << 20)
+        self.random, self.bits, self.noise = chance.random, chance.getrandbits, chance.randbytes(1 << 20)
         lengths = [self.below(40) for _ in range(2000)] + [self.below(2000) for _ in range(40)] + [self.below(20000) for _ in range(4)]
         self.texts = ["".join(chance.choices(chance.choice(ALPHABETS), k=it)) for it in lengths]
         self.bases = [spelled(*it) for it in PLAIN]
-        self.kinds = {
+        steps = {
+            "bytes changed": self.change,
+            "cut": self.cut,
+            "made longer": lambda message: self.measured(message + self.some(self.length()), 1),
+            "length fields changed": self.miscount,
+            "two joined": lambda message: self.measured(message + self.base(), 1),
+            "extensions": self.extend,
+            "any function": lambda message: self.put(message, 1, bytes([self.bits(8) if self.bits(1) else self.below(13)])),
+            "any flags": lambda message: self.put(message, 5, self.some(2) if self.bits(1) else bytes([self.bits(3) << 5, 0])),
+        }
+        makers = {
             "plain": self.base,
             "registrations for seconds": self.registration,
-            "random bytes": self.noisy,
-            "a header, then random bytes": self.headed,
-            "bytes changed": self.changed,
-            "cut": self.cut,
-            "made longer": self.longer,
-            "length fields changed": self.lengths,
-            "two joined": self.joined,
-            "extensions": self.extended,
+            "random bytes": lambda: self.some(self.length()),
+            "a header, then random bytes": lambda: self.measured(self.base()[:16] + self.some(self.length()), 0),
             "texts emptied or changed": self.retold,
-            "any function": self.function,
-            "any flags": self.flags,
             "any language and version": self.language,
-            "broken twice": self.twice,
+            "broken twice": lambda: self.any_step(self.any_step(self.retold())),
         }
-        self.makers = list(self.kinds.items())
+        self.steps = list(steps.values())
+        self.makers = [*makers.items(), *((kind, lambda step=step: step(self.base())) for kind, step in steps.items())]
 
     def message(self):
         """The next one, of at most 65,507 bytes, and its kind."""
         kind, make = self.makers[self.below(len(self.makers))]
         return kind, make()[:LONGEST_DATAGRAM]
+
+    def any_step(self, message):
+        return self.steps[self.below(len(self.steps))](message) if len(message) > 14 else message
 
     def below(self, limit):
         return int(self.random() * limit)
@@ -137,104 +142,64 @@ class Breaker:
         """Mostly a short one, and one of 64 of any length."""
         return self.below(80) if self.bits(6) else self.below(LONGEST_DATAGRAM + 1)
 
-    def base(self):
-        message = bytearray(self.bases[self.below(len(self.bases))])
-        message[10:12] = self.some(2)
-        return message
-
-    def registration(self):
-        """One of 65,536 services, for at most four seconds: so the site is full at times, and empties again."""
-        kind = f"service:t{self.bits(5)}"
-        attrs = self.texts[self.below(2000)] if not self.bits(2) else f"(a={self.bits(4)}),(b=x{self.bits(8)}y)"
-        parts = [entry(f"{kind}://h{self.bits(11)}", 1 + self.bits(2)), kind, "DEFAULT", attrs, b"\0"]
-        return spelled(REGISTER, FRESH if self.bits(2) else 0, parts, xid=self.bits(16))
-
-    def noisy(self):
-        return self.some(self.length())
-
-    def headed(self):
-        message = self.base()[:16] + self.some(self.length())
-        return self.measured(message)
-
     @staticmethod
-    def measured(message):
-        message[2:5] = len(message).to_bytes(3, "big")
+    def put(message, at, piece):
+        message[at : at + len(piece)] = piece
         return message
 
-    def changed(self, message=None):
-        message = message or self.base()
+    def measured(self, message, bits):
+        """The message, with its own length where so many bits of chance are 0."""
+        return self.put(message, 2, len(message).to_bytes(3, "big")) if not bits or not self.bits(bits) else message
+
+    def base(self):
+        return self.put(bytearray(self.bases[self.below(len(self.bases))]), 10, self.some(2))
+
+    def change(self, message):
         for _ in range(1 + self.bits(3)):
             message[self.below(len(message))] = self.bits(8)
         return message
 
-    def cut(self, message=None):
-        message = message or self.base()
+    def cut(self, message):
         message = message[: self.below(len(message))]
-        return self.measured(message) if len(message) > 5 and self.bits(1) else message
+        return self.measured(message, 1) if len(message) > 5 else message
 
-    def longer(self, message=None):
-        message = (message or self.base()) + self.some(self.length())
-        return self.measured(message) if self.bits(1) else message
+    def miscount(self, message):
+        at = 12 + self.below(len(message) - 13) if self.bits(2) else 3
+        near = (int.from_bytes(message[at : at + 2], "big") + self.bits(3) - 4) & 0xFFFF
+        return self.put(message, at, (NUMBERS[self.below(len(NUMBERS))] if self.bits(1) else near).to_bytes(2, "big"))
 
-    def lengths(self, message=None):
-        message = message or self.base()
-        at = 3 if not self.bits(2) else 12 + self.below(len(message) - 13)
-        number = NUMBERS[self.below(len(NUMBERS))] if self.bits(1) else (int.from_bytes(message[at : at + 2], "big") + self.bits(3) - 4) & 0xFFFF
-        message[at : at + 2] = number.to_bytes(2, "big")
-        return message
-
-    def joined(self, message=None):
-        message = (message or self.base()) + self.base()
-        return self.measured(message) if self.bits(1) else message
-
-    def extended(self, message=None):
-        message = message or self.base()
+    def extend(self, message):
         places = [0, len(message), len(message) - 1, 5, 0xFFFFFF, self.bits(16), self.bits(24)]
-        message[7:10] = places[self.below(len(places)) if self.bits(1) else 1].to_bytes(3, "big")
+        self.put(message, 7, places[self.below(len(places)) if self.bits(1) else 1].to_bytes(3, "big"))
         for _ in range(1 + self.bits(1)):
-            number = (self.bits(16) & 0x3FFF) | self.bits(2) << 14
+            number = self.bits(2) << 14 | self.bits(14)
             after = 0 if self.bits(1) else places[self.below(len(places))]
             message += number.to_bytes(2, "big") + after.to_bytes(3, "big") + self.some(self.below(8))
-        return self.measured(message) if self.bits(3) else message
+        return self.measured(message, 0 if self.bits(3) else 1)
+
+    def registration(self):
+        """One of 65,536 services, for at most four seconds: so the site is full at times, and empties again."""
+        kind = f"service:t{self.bits(5)}"
+        attrs = f"(a={self.bits(4)}),(b=x{self.bits(8)}y)" if self.bits(2) else self.texts[self.below(2000)]
+        parts = [entry(f"{kind}://h{self.bits(11)}", 1 + self.bits(2)), kind, "DEFAULT", attrs, b"\0"]
+        return spelled(REGISTER, FRESH if self.bits(2) else 0, parts, xid=self.bits(16))
 
     def retold(self):
         function, flags, parts = PLAIN[self.below(len(PLAIN))]
         parts = list(parts)
         for _ in range(1 + self.bits(1)):
-            at = self.below(len(parts))
-            text = self.texts[self.below(len(self.texts))] if self.bits(2) else ""
+            at, text = self.below(len(parts)), self.texts[self.below(len(self.texts))] if self.bits(2) else ""
             parts[at] = text if isinstance(parts[at], str) or self.bits(1) else entry(text, self.bits(16))
         return bytearray(spelled(function, flags, parts, xid=self.bits(16)))
 
-    def function(self, message=None):
-        message = message or self.base()
-        message[1] = self.bits(8) if self.bits(1) else self.below(13)
-        return message
-
-    def flags(self, message=None):
-        message = message or self.base()
-        message[5:7] = self.some(2) if self.bits(1) else (self.bits(3) << 13).to_bytes(2, "big")
-        return message
-
     def language(self):
-        function, flags, parts = PLAIN[self.below(len(PLAIN))]
         tags = ["", "de", "en-US", "EN", "x" * self.below(300), self.texts[self.below(2000)]]
-        message = bytearray(spelled(function, flags, parts, tags[self.below(len(tags))], self.bits(16)))
-        if not self.bits(2):
-            message[0] = self.bits(8)
-        return message
-
-    def twice(self):
-        steps = (self.changed, self.cut, self.longer, self.lengths, self.joined, self.extended, self.function, self.flags)
-        message = self.retold()
-        for _ in range(2):
-            message = steps[self.below(len(steps))](message) if len(message) > 14 else message
-        return message
+        message = bytearray(spelled(*PLAIN[self.below(len(PLAIN))], tags[self.below(len(tags))], self.bits(16)))
+        return message if self.bits(2) else self.put(message, 0, self.some(1))
 
     def stream(self):
         """The pieces of a stream of one to five messages, of which some are broken; and how it ends."""
-        messages = [self.base() if self.bits(1) else self.message()[1] for _ in range(1 + self.below(5))]
-        whole = bytes().join(messages)
+        whole = b"".join(self.base() if self.bits(1) else self.message()[1] for _ in range(1 + self.below(5)))
         if not self.bits(2):
             whole = whole[: self.below(len(whole) + 1)]
         cuts = sorted(self.below(len(whole) + 1) for _ in range(self.bits(2)))
