@@ -1,7 +1,6 @@
 """The second asker, whom no attack may disturb."""
 
 import multiprocessing
-import signal
 import time
 
 from messages import acknowledgement, attributes, code_of, registration, services, spelled, string, types
@@ -63,7 +62,7 @@ class Asker:
         return self.told.recv() if self.told.poll(10) else ([], 0, ["the second asker did not end"])
 
     def run(self):
-        signal.signal(signal.SIGINT, signal.SIG_IGN)
+        self.server.leave()
         while not self.stopping.is_set() and len(self.wrong) < 100:
             began, number = time.monotonic(), len(self.waits)
             question, right = QUESTIONS[number % len(QUESTIONS)]

@@ -3,7 +3,6 @@
 import collections
 import multiprocessing.connection
 import random
-import signal
 import socket
 import struct
 import time
@@ -57,7 +56,7 @@ def side_by_side(attack, server, seed, count, seconds, times, meanwhile):
 
 
 def guarded(attack, tells, server, seed, source, count, seconds):
-    signal.signal(signal.SIGINT, signal.SIG_IGN)
+    server.leave()
     told = Told()
     try:
         attack(told, server, seed, source, count, time.monotonic() + seconds)

@@ -51,9 +51,10 @@ def free_port():
     raise OSError("no port is free")
 
 
-def read_log(output, told):
+def read_log(server, told):
     """Reads what a server prints until it ends: counts the lines of what it judged by code, and tells each other line at once."""
-    signal.signal(signal.SIGINT, signal.SIG_IGN)
+    server.leave()
+    output = server.process.stdout.fileno()
     counts, bad, rest = collections.Counter(), [], b""
     while chunk := os.read(output, 1 << 20):
         lines, end, rest = (rest + chunk).rpartition(b"\n")
@@ -80,7 +81,7 @@ class Server:
         self.process = subprocess.Popen([program, "slpda.toml"], cwd=folder, stdin=subprocess.PIPE, stdout=subprocess.PIPE, text=True)
         fcntl.fcntl(self.process.stdout, fcntl.F_SETPIPE_SZ, 1 << 20)
         self.told, telling = multiprocessing.Pipe(False)
-        self.reader = multiprocessing.Process(target=read_log, args=(self.process.stdout.fileno(), telling), daemon=True)
+        self.reader = multiprocessing.Process(target=read_log, args=(self, telling), daemon=True)
         self.reader.start()
         telling.close()
 
@@ -95,6 +96,11 @@ class Server:
             self.process.kill()
         self.process.wait()
         self.reader.join(5)
+
+    def leave(self):
+        """In a process beside that of the trial: the server's input ends with that one, and an interrupt is its business."""
+        signal.signal(signal.SIGINT, signal.SIG_IGN)
+        self.process.stdin.close()
 
     def lives(self):
         return self.process.poll() is None
