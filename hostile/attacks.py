@@ -69,6 +69,7 @@ def datagrams(told, server, seed, source, count, end):
     """Broken datagrams. After each few a question has to be answered, so that none is sent that nobody takes."""
     breaker, asker, sender = Breaker(seed), server.datagrams(source), server.datagrams(source)
     sender.setblocking(False)
+    told.sent.update({kind: 0 for kind, _ in breaker.makers})
     left, number = count, 0
     while left > 0 and time.monotonic() < end and len(told.lost) < 3:
         weight, until = 0, max(0, left - WINDOW)
@@ -142,11 +143,13 @@ def ends(told, stream, ending):
 
 
 def explode(server, bounds, say):
-    """Sends each bomb on a stream, and measures how long its answers take."""
+    """Sends each bomb on a stream, and measures how long its answers take; bounds are the seconds that they may take."""
     told = Told()
     time.sleep(5)  # until what was registered for seconds leaves room
     for name, before, messages, code in bombs():
-        bound, waits, codes = bounds.get(name, bounds["any bomb"]), [], []
+        if len(told.lost) > 2:
+            break
+        bound, waits, codes = bounds[name], [], []
         try:
             with server.stream("127.0.2.1", seconds=bound + 5) as stream:
                 for it in before + messages:
@@ -277,18 +280,18 @@ def flood(server, told, questions, seconds, bound, streams=CONNECTIONS):
         it.close()
     server.calms(bound)
     time.sleep(1)
-    held = f"VmRSS {before:,} kB before, {most:,} at most, {server.memory()[0]:,} after: {(most - before) / streams:,.0f} kB a stream"
-    return f"{questions} questions on each of {streams} streams, unread: {held}; a datagram to the same address waited {longest:.2f} s"
+    taken = f"VmRSS {before:,} kB before, {most:,} at most, {server.memory()[0]:,} after: {(most - before) / streams:,.0f} kB a stream"
+    return f"{questions} questions on each of {streams} streams, unread: {taken}; a datagram to the same address waited {longest:.2f} s"
 
 
-def connections(server, bounds, questions, say):
+def connections(server, bound, questions, say):
     told = Told()
     attacks = {
         "more streams than places": lambda: places(server, told),
         "silent streams": lambda: stalled(server, told, 10),
         "half-closed streams": lambda: half_closed(server, told),
         "resets": lambda: resets(server, told),
-        "streams that never read": lambda: say("  " + flood(server, told, questions, 5, bounds["flooded"])) or [],
+        "streams that never read": lambda: say("  " + flood(server, told, questions, 5, bound)) or [],
     }
     for name, attack in attacks.items():
         for it in attack():
