@@ -45,11 +45,15 @@ def side_by_side(attack, server, seed, count, seconds, times, meanwhile):
         part = count // times + (number < count % times)
         words = (attack, tells, server, f"{seed}-{attack.__name__}-{number}", f"127.0.1.{number + 1}", part, seconds)
         multiprocessing.Process(target=guarded, args=words, daemon=True).start()
+        tells.close()
         pipes.append(hears)
     while pipes and time.monotonic() < end:
         for hears in multiprocessing.connection.wait(pipes, 1):
-            told.add(hears.recv())
             pipes.remove(hears)
+            try:
+                told.add(hears.recv())
+            except EOFError:
+                told.lost.append(f"a sender of {attack.__name__} failed")
         meanwhile()
     told.lost += [f"a sender of {attack.__name__} did not end"] * len(pipes)
     return told
