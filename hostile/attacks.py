@@ -211,6 +211,8 @@ def places(server, told):
             if reply := take(it):
                 told.reply(reply)
                 kept += 1
+        except TimeoutError:
+            break
         except OSError:
             pass
     if kept != CONNECTIONS:
