@@ -294,7 +294,7 @@ def connections(server, bound, questions, say):
     told = Told()
     attacks = {
         "more streams than places": lambda: places(server, told),
-        "silent streams": lambda: stalled(server, told, 10),
+        "silent streams": lambda: stalled(server, told, 6),
         "half-closed streams": lambda: half_closed(server, told),
         "resets": lambda: resets(server, told),
         "streams that never read": lambda: say("  " + flood(server, told, questions, 5, bound)) or [],
