@@ -24,7 +24,7 @@ RULE = '[[rule]]\nname = "{}"\nfrom = ["{}"]\naction = "{}"\ntype = "*"\nscopes 
 CONFIGURATION = """scopes = "{scopes}"
 listen = ["127.0.0.1:{port}", "127.0.0.2:{port}"]
 capacity = 1024
-connections = 256
+connections = {connections}
 sweep = 1
 rules = "rules.toml"
 """
@@ -77,7 +77,7 @@ class Server:
         with open(f"{folder}/rules.toml", "w") as it:
             it.write("version = 1\n" + "".join(RULE.format(*rule) for rule in rules))
         with open(f"{folder}/slpda.toml", "w") as it:
-            it.write(CONFIGURATION.format(scopes=scopes, port=self.port))
+            it.write(CONFIGURATION.format(scopes=scopes, port=self.port, connections=CONNECTIONS))
         self.process = subprocess.Popen([program, "slpda.toml"], cwd=folder, stdin=subprocess.PIPE, stdout=subprocess.PIPE, text=True)
         fcntl.fcntl(self.process.stdout, fcntl.F_SETPIPE_SZ, 1 << 20)
         self.told, telling = multiprocessing.Pipe(False)
