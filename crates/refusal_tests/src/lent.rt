@@ -53,22 +53,25 @@ fn tags_answer(alloc: Global, hoard: &mut Hoard) -> Result<bool, NoMemory> {
     Ok(is_taken && !tags.is_empty() && tags.selects(&key))
 }
 
+const ATTRIBUTES: &str = "(the-place-where-it-stands=the Hall),color";
+
 fn attributes_answer(alloc: Global, hoard: &mut Hoard) -> Result<bool, NoMemory> {
-    let attributes = found(Attrs::parse(alloc, "(the-place-where-it-stands=the Hall),color"))?;
-    let filter = found(Filter::parse(alloc, "(&(the-place-where-it-stands=THE h*)(!(ppm>=3)))"))?;
     let key = Key::of(alloc, "The-Place-Where-It-Stands")?;
+    let attributes = Box::new(alloc, found(Attrs::parse(alloc, ATTRIBUTES))?)?;
     let is_taken = hoard.fill(alloc);
     let is_second = match attributes.at(1) {
         Some((tag, _)) => tag.as_str() == key.as_str(),
         None => false,
     };
-    Ok(
-        is_taken
-            && attributes.len() == 2
-            && is_second
-            && attributes.get(&key).is_some()
-            && filter.holds(&attributes),
-    )
+    Ok(is_taken && attributes.len() == 2 && is_second && attributes.get(&key).is_some())
+}
+
+fn filter_answer(alloc: Global, hoard: &mut Hoard) -> Result<bool, NoMemory> {
+    let attributes = Box::new(alloc, found(Attrs::parse(alloc, ATTRIBUTES))?)?;
+    let predicate = "(&(the-place-where-it-stands=THE h*)(!(ppm>=3)))";
+    let filter = Box::new(alloc, found(Filter::parse(alloc, predicate))?)?;
+    let is_taken = hoard.fill(alloc);
+    Ok(is_taken && filter.holds(&attributes))
 }
 
 fn kinds_answer(alloc: Global, hoard: &mut Hoard) -> Result<bool, NoMemory> {
@@ -131,10 +134,11 @@ fn beginnings_answer(alloc: Global, hoard: &mut Hoard) -> Result<bool, NoMemory>
     Ok(is_taken && templates.as_slice().is_empty() && is_waiting && answer.bytes.is_empty())
 }
 
-static NAMES: [&str; 8] = [
+static NAMES: [&str; 9] = [
     "scopes",
     "tags",
-    "attributes and a filter",
+    "attributes",
+    "a filter",
     "types and a URL",
     "rules",
     "templates",
@@ -148,7 +152,8 @@ fn is_answered(alloc: Global, name: &str) -> Result<bool, NoMemory> {
     match name {
         "scopes" => scopes_answer(alloc, &mut hoard),
         "tags" => tags_answer(alloc, &mut hoard),
-        "attributes and a filter" => attributes_answer(alloc, &mut hoard),
+        "attributes" => attributes_answer(alloc, &mut hoard),
+        "a filter" => filter_answer(alloc, &mut hoard),
         "types and a URL" => kinds_answer(alloc, &mut hoard),
         "rules" => rules_answer(alloc, &mut hoard),
         "templates" => templates_answer(alloc, &mut hoard),
