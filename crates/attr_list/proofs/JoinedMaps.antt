@@ -30,7 +30,7 @@ use Rattle.attr_list.proofs.SortedByKey.{ordered}
 abbrev pub settled : List Value → Held
 settled vs = held_of (distinct_values vs)
 
-both : (a b : Bool) → T a → T b → T (a && b)
+pub both : (a b : Bool) → T a → T b → T (a && b)
 both true b p q = q
 both false b p q = absurd p
 

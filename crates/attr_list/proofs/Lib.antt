@@ -7,6 +7,7 @@ pub mod InnerCharacters
 pub mod JoinedMaps
 pub mod ListedTexts
 pub mod Meaning
+pub mod Merged
 pub mod PrintedAttributes
 pub mod ReadElements
 pub mod ReadLists

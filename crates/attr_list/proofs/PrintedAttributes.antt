@@ -69,7 +69,7 @@ held_values (Values []) h = absurd (h.0 refl)
 held_values (Values (v ∷ vs)) h = ap held_of h.2
 
 -- what entries in order hold at a tag is what their elements give it
-pub find_listed : (q : List ℕ) (ps : List (List ℕ × Held)) → T (fin.is_sorted bytes_cmp ps) → AllByRecursion (λ p. IsAttribute p.0 p.1) ps
+find_listed : (q : List ℕ) (ps : List (List ℕ × Held)) → T (fin.is_sorted bytes_cmp ps) → AllByRecursion (λ p. IsAttribute p.0 p.1) ps
     → cond (list_any (λ e. bytes_eq e.tag q) (map element_of ps)) (Some (held_of (distinct_values (values_named q (map element_of ps))))) None ≡ fin.find bytes_cmp q ps
 find_listed q [] s h = refl
 find_listed q (p ∷ ps) s h =

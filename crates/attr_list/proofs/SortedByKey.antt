@@ -24,7 +24,7 @@ before_first : (a b : Bool) → T (a && b) → T a
 before_first true b p = tt
 before_first false b p = p
 
-less : (o : Ordering) → T (is_lt o) → o ≡ Less
+pub less : (o : Ordering) → T (is_lt o) → o ≡ Less
 less Less p = refl
 less Equal p = absurd p
 less Greater p = absurd p

@@ -3,6 +3,7 @@ pub mod Elements
 pub mod Gathering
 pub mod Lists
 pub mod Maps
+pub mod Merging
 pub mod Pieces
 pub mod Reading
 pub mod Stored

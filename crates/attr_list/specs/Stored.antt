@@ -1,5 +1,5 @@
 -- What a list of attributes keeps.
-use Rattle.std.specs.Prelude.{ℕ, Bool, List, map, filter, flat_map, is_none, not, if◌then◌else◌, T}
+use Rattle.std.specs.Prelude.{ℕ, Bool, List, map, filter, flat_map, not, if◌then◌else◌, T}
 use Rattle.slp_text.specs.Tags.{Part, selects}
 use Rattle.std.specs.FinMap as fin
 use Rattle.std.specs.FinMap.{is_sorted}
@@ -33,10 +33,6 @@ is_picked tags selected tag = if selected then selects tags tag else not (select
 
 abbrev pub picked_attributes : List Part → Bool → List Attribute → List Attribute
 picked_attributes tags selected list = filter (λ a. is_picked tags selected a.tag) list
-
--- those whose tags others do not have
-abbrev pub other_attributes : Attributes → List Attribute → List Attribute
-other_attributes others list = filter (λ a. is_none (fin.get others a.tag)) list
 
 -- an attribute as an element of a list
 abbrev pub element_stored : Attribute → Element

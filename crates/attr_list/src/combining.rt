@@ -5,12 +5,13 @@ ghost use Rattle.slp_text.specs.Tags.{selects};
 ghost use Rattle.attr_values.specs.declared.fault.AttrFault.TheVariants as fault;
 ghost use Rattle.attr_list.specs.Maps.{attributes_without, elements_in, joined_attributes, selected_attributes, union_of, updated_attributes};
 ghost use Rattle.attr_list.specs.Pieces.{element_in, IsElement};
-ghost use Rattle.attr_list.specs.Stored.{element_stored, other_attributes, picked_attributes, selected_elements};
+ghost use Rattle.attr_list.specs.Stored.{element_stored, picked_attributes, selected_elements};
 
 use crate::attrs::{Attribute, Attrs};
 use crate::elements::Element;
 use crate::gathering::join;
 use crate::held::copies;
+use crate::merging::merge;
 use attr_values::AttrFault;
 use slp_text::{NoMemory, TagList};
 use std::alloc::Global;
@@ -56,23 +57,6 @@ fn append_elements(
     Ok(())
 }
 
-// The same of those whose tags others do not have.
-fn append_others(
-    alloc: Global,
-    entries: &[Attribute],
-    others: &Attrs,
-    elements: &mut Vec<Element>,
-) -> Result<(), NoMemory>
-    ensures { IfOk result (λ _. map element_in elements.new.items ≡ map element_in elements.old.items ++ map element_stored (other_attributes others.now entries.now)) }
-{
-    for entry in entries {
-        if others.get(&entry.tag).is_none() {
-            elements.push(element_of(alloc, entry)?)?;
-        }
-    }
-    Ok(())
-}
-
 // The same of those attributes whose tags a list of tags selects.
 fn append_selected(
     alloc: Global,
@@ -111,11 +95,8 @@ impl Attrs {
         ensures value { IfOk result (λ a. a ≡ updated_attributes self.now more.now) }
         ensures memory { OnErr result (result ≡ Err fault.NoMemory) }
     {
-        let mut elements = Vec::new(alloc);
-        append_others(alloc, self.entries(), more, &mut elements)?;
-        append_elements(alloc, more.entries(), &mut elements)?;
-        let attributes = join(alloc, elements)?;
-        Ok(attributes)
+        let entries = merge(alloc, self.entries(), more.entries())?;
+        Ok(Attrs::of(entries))
     }
 
     /// Both joined as the elements of one list are, these first. Want of memory is the only fault.

@@ -8,6 +8,7 @@ mod elements;
 mod gathering;
 mod held;
 pub mod laws;
+mod merging;
 mod parsing;
 mod reading;
 mod writing;

@@ -1,22 +1,12 @@
-use Rattle.std.proofs.Common.{◌++◌, ◌∙◌, ap, sym, subst, map}
-use Rattle.std.specs.List.{AllByRecursion}
-use Rattle.attr_list.specs.Lists.{attributes_of}
-use Rattle.attr_list.specs.Pieces.{element_in, IsElement}
-use Rattle.attr_list.specs.Stored.{element_stored, other_attributes}
-use Rattle.attr_list.proofs.Combined.{each-read, others-each, stored-each, updated-is}
-use Rattle.attr_list.proofs.Gathered.{all_append}
+use Rattle.std.proofs.Common.{◌∙◌, ap, sym, subst}
+use Rattle.attr_list.specs.Stored.{attributes_stored, AreStored}
+use Rattle.attr_list.proofs.Merged.{merged-attributes, merged-stored}
 use Rattle.attr_list.proofs.attrs.Attrs.updated.Goals as goal
 
-pub join-requires : goal.join-requires
-join-requires c =
-    let first = map element_stored (other_attributes c.args.more.now c.entries.result.now) in
-    let second = map element_stored c.entries-2.result.now in
-    let all = c.in_ok-append_elements.ensures ∙ ap (λ t. t ++ second) (c.in_ok-append_others.ensures ∙ ap (λ l. map element_in l ++ first) c.new-elements.ensures.items) in
-    each-read _ (subst (AllByRecursion IsElement) (sym all) (all_append IsElement first second (stored-each _ (others-each c.args.more.now _ c.entries.ensures.stored)) (stored-each _ c.entries-2.ensures.stored.each)))
+pub of-requires : goal.of-requires
+of-requires c = subst AreStored (sym c.in_ok-entries.ensures) (merged-stored c.entries.result.now c.entries-2.result.now c.entries.ensures.stored c.entries-2.ensures.stored)
 
 pub returns-clause-value : goal.returns-clause-value
 returns-clause-value c =
-    let first = map element_stored (other_attributes c.args.more.now c.entries.result.now) in
-    let second = map element_stored c.entries-2.result.now in
-    let all = c.in_ok-append_elements.ensures ∙ ap (λ t. t ++ second) (c.in_ok-append_others.ensures ∙ ap (λ l. map element_in l ++ first) c.new-elements.ensures.items) in
-    c.in_ok-attributes.ensures ∙ ap attributes_of all ∙ updated-is c.args.self.now c.args.more.now _ _ c.entries.ensures.stored c.entries-2.ensures.stored c.entries.ensures.value c.entries-2.ensures.value
+    c.of.ensures ∙ ap attributes_stored c.in_ok-entries.ensures
+    ∙ merged-attributes c.args.self.now c.args.more.now c.entries.result.now c.entries-2.result.now c.entries.ensures.stored c.entries-2.ensures.stored c.entries.ensures.value c.entries-2.ensures.value
