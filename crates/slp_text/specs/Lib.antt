@@ -4,11 +4,12 @@ pub mod KeyTexts
 pub mod Keys
 pub mod Parts
 pub mod Reading
-pub mod Runs
 pub mod ScopeNames
 pub mod Scopes
+pub mod Searches
 pub mod Sets
 pub mod Squeezing
 pub mod Steps
+pub mod TagIndexes
 pub mod Tags
 pub mod Words

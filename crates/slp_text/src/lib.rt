@@ -10,6 +10,8 @@ mod keys;
 pub mod laws;
 mod rows;
 mod scopes;
+mod signs;
+mod tag_index;
 mod tags;
 mod texts;
 
@@ -25,5 +27,6 @@ pub use folding::{
 pub use keys::Key;
 pub use rows::Row;
 pub use scopes::{ScopeList, is_plain};
+pub use signs::{Search, Signs};
 pub use tags::TagList;
 pub use texts::Text;

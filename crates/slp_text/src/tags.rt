@@ -1,15 +1,13 @@
 ghost use Rattle.std.specs.Prelude.{◌≡◌, ◌↔◌, ◌++◌, List, [], ◌∷◌, filter, map, IfOk, IfErr, IsTrue};
-ghost use Rattle.std.specs.List.{list_any};
 ghost use Rattle.std.specs.Option.{option_map_or};
 ghost use Rattle.std.specs.Result.{result_ok};
 ghost use Rattle.ucd_case.specs.CaseFolding as case_folding;
 ghost use Rattle.slp_text.specs.Parts.{sign_step, folded_sign, part_with};
 ghost use Rattle.slp_text.specs.Reading.{read_map, IsFault, IsReading};
-ghost use Rattle.slp_text.specs.Runs.{run_of, IsRunWithin};
 ghost use Rattle.slp_text.specs.Scopes.{is_some_text};
 ghost use Rattle.slp_text.specs.Steps.{part_end};
 ghost use Rattle.slp_text.specs.Tags as spec;
-ghost use Rattle.slp_text.specs.Tags.{Sign, sign_bytes, tags_of, ends_of, is_match};
+ghost use Rattle.slp_text.specs.Tags.{Sign, sign_bytes, tags_of};
 ghost use Rattle.slp_text.specs.declared.escapes.Place.TheVariants.{Tag};
 ghost use Rattle.slp_text.specs.declared.escapes.Stage.TheVariants.{Plain};
 
@@ -17,6 +15,7 @@ use crate::escapes::{Place, Stage, Step, is_refused, read_step};
 use crate::faults::{NoMemory, TextFault};
 use crate::folding::is_white_space;
 use crate::keys::Key;
+use crate::tag_index::TagIndex;
 use std::alloc::Global;
 use std::marker::Model;
 use ucd_case::full_folding;
@@ -26,15 +25,19 @@ use ucd_case::full_folding;
 #[derive(Drop)]
 pub struct TagList {
     parts: Vec<Vec<Option<u8>>>,
+    index: TagIndex,
 }
 
 impl Model for TagList {
     ghost use Rattle.std.specs.Prelude.{List, map};
+    ghost use Rattle.slp_text.specs.TagIndexes.{IsIndex};
     ghost use Rattle.slp_text.specs.Tags.{Part};
 
     ghost Value = { List Part };
 
     ghost view = { λ t. map (λ p. p.items) t.parts.items };
+
+    ghost invariant = { λ t. IsIndex t.index (map (λ p. p.items) t.parts.items) };
 }
 
 // Reads one character more of a list of tags, where a raw `*` is `None`.
@@ -181,80 +184,6 @@ fn copied(alloc: Global, parts: &[Vec<Option<u8>>]) -> Result<Vec<Vec<Option<u8>
     Ok(made)
 }
 
-/// How bytes at the start of a part agree with the start of a tag.
-#[derive(Clone, Copy)]
-enum Run {
-    /// The part and the tag end together.
-    Ends,
-    /// That many bytes agree, and a `*` follows in the part.
-    Star(usize),
-    /// They don't agree, or one ends first.
-    Fails,
-}
-
-// How a part up to its first `*` agrees with a tag.
-fn first_run(part: &[Option<u8>], tag: &[u8]) -> Run
-    ensures value { result ≡ run_of part.now tag.now }
-    ensures within { IsRunWithin part.now tag.now result }
-{
-    for i in 0..part.len() {
-        match part[i] {
-            None => return Run::Star(i),
-            Some(b) => {
-                if i >= tag.len() || tag[i] != b {
-                    return Run::Fails;
-                }
-            }
-        }
-    }
-    if tag.len() == part.len() {
-        Run::Ends
-    } else {
-        Run::Fails
-    }
-}
-
-// Whether a part matches some end of a tag. A run that agrees up to a `*` is never tried further on:
-// what matches after a later one matches after it too.
-fn matches_an_end(part: &[Option<u8>], tag: &[u8]) -> bool
-    ensures { result ≡ list_any (is_match part.now) (ends_of tag.now) }
-{
-    let mut rest = part;
-    let mut left = tag;
-    loop {
-        match first_run(rest, left) {
-            Run::Ends => return true,
-            Run::Star(n) => {
-                rest = &rest[n + 1..];
-                left = &left[n..];
-            }
-            Run::Fails => {
-                if left.is_empty() {
-                    return false;
-                }
-                left = &left[1..];
-            }
-        }
-    }
-}
-
-// Whether a part matches a tag.
-fn matches_tag(part: &[Option<u8>], tag: &[u8]) -> bool
-    ensures { result ≡ is_match part.now tag.now }
-{
-    match first_run(part, tag) {
-        Run::Ends => true,
-        Run::Star(n) => matches_an_end(&part[n + 1..], &tag[n..]),
-        Run::Fails => false,
-    }
-}
-
-fn some_part_matches(parts: &[Vec<Option<u8>>], tag: &[u8]) -> bool
-    ensures { result ≡ list_any (λ part. is_match part.items tag.now) parts.now }
-{
-    parts.iter().any(|part| matches_tag(part.as_slice(), tag))
-}
-
 impl TagList {
     /// The parts that a text names: what stands between its commas, unescaped, folded and with its
     /// white space squeezed, without the empty ones. A raw `*` stands for any run of characters; what
@@ -263,7 +192,8 @@ impl TagList {
         ensures { IsReading result (tags_of text.now) }
     {
         let parts = parts_of(alloc, text)?;
-        Ok(TagList { parts })
+        let index = TagIndex::of(alloc, &parts)?;
+        Ok(TagList { parts, index })
     }
 
     /// The same, or `None` where a text is no list of tags.
@@ -277,12 +207,12 @@ impl TagList {
         }
     }
 
-    /// Whether a part matches the tag, or there is no part. It takes no memory, and at most time for
-    /// the product of the lengths of each part and the tag.
+    /// Whether a part matches the tag, or there is no part. It takes no memory: the tag is looked up
+    /// among the parts without a `*`, and each of the others takes time for its length and the tag's.
     pub fn selects(&self, tag: &Key) -> bool
         ensures { result ≡ spec.selects self.now tag.now }
     {
-        self.is_empty() || some_part_matches(&self.parts, tag.as_str().as_bytes())
+        self.is_empty() || self.index.has(tag.as_str().as_bytes())
     }
 
     /// Whether there is no part. Takes no memory.
@@ -297,6 +227,7 @@ impl TagList {
         ensures { IfOk result (λ l. l ≡ self.now) }
     {
         let parts = copied(alloc, &self.parts)?;
-        Ok(TagList { parts })
+        let index = TagIndex::of(alloc, &parts)?;
+        Ok(TagList { parts, index })
     }
 }

@@ -2,4 +2,3 @@ pub mod Building
 pub mod Folding
 pub mod Ordered
 pub mod Pieces
-pub mod Runs

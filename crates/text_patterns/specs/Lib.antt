@@ -1,3 +1,2 @@
 pub mod Characters
 pub mod Patterns
-pub mod Runs

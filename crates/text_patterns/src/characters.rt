@@ -50,6 +50,9 @@ impl<'a> KeyCharacters<'a> {
         }
         let (c, rest) = split_first(self.rest)?;
         self.rest = rest;
+        if c.is_ascii() {
+            return Some(c.to_ascii_lowercase());
+        }
         match full_folding(c) {
             [] => Some(c),
             [first, rest @ ..] => {
