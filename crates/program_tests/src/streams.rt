@@ -3,22 +3,25 @@ ghost use Rattle.std.specs.Prelude.{◌≡◌};
 
 use crate::assertion::assert_holds;
 use crate::fakes::{Sink, Source};
-use crate::messages::{EMPTY_REPLY, REQUEST};
+use crate::messages::{EMPTY_REPLY, REQUEST, numbered};
 use access_rules::Addr;
 use slp_answer::{Answer, Sent};
 use slp_loops::{Connection, LoopFault, Next, Serve};
 use slp_text::NoMemory;
 use std::alloc::Global;
 use std::io::ErrorKind;
+use std::test::Fail;
 
 /// 127.0.0.1.
 const LOOPBACK: Addr = Addr(0x7f00_0001);
 
-/// Answers each message by the reply of a directory without entries.
+/// Answers each message by the header of a reply with the message's number, and then by these bytes.
 #[derive(Drop)]
-struct Empty;
+struct Replying<'a> {
+    rest: &'a [u8],
+}
 
-impl Serve for Empty {
+impl<'a> Serve for Replying<'a> {
     ghost steps = { λ before asker message limit outcome answer after. after ≡ before };
 
     ghost settles = { λ before after. after ≡ before };
@@ -26,22 +29,26 @@ impl Serve for Empty {
     fn serve(
         &mut self,
         _asker: Addr,
-        _message: &[u8],
+        message: &[u8],
         _limit: usize,
         answer: &mut Answer,
     ) -> Result<Sent, NoMemory> {
         answer.bytes.clear();
-        answer.bytes.extend_from_slice(&EMPTY_REPLY)?;
+        answer.bytes.extend_from_slice(&EMPTY_REPLY[..10])?;
+        answer
+            .bytes
+            .extend_from_slice(message.get(10..12).unwrap_or(&[]))?;
+        answer.bytes.extend_from_slice(self.rest)?;
         Ok(Sent::Bytes(0))
     }
 
     fn settle(&mut self) {}
 }
 
-// A source of the request in pieces of so many bytes, after which the input ends.
-fn source(piece: usize) -> Source<'static> {
+// A source of bytes in pieces of so many, after which the input ends.
+fn source(bytes: &[u8], piece: usize) -> Source<'_> {
     Source {
-        rest: &REQUEST,
+        rest: bytes,
         piece,
         calls: 0,
         trouble: None,
@@ -64,8 +71,11 @@ fn drive(
     source: &mut Source<'_>,
     sink: &mut Sink,
 ) -> Result<Next, LoopFault> {
+    let mut server = Replying {
+        rest: &EMPTY_REPLY[12..],
+    };
     for _ in 0..1_000 {
-        let read = connection.on_readable(source, &mut Empty)?;
+        let read = connection.on_readable(source, &mut server)?;
         let written = connection.on_writable(sink)?;
         if written == Next::Closed {
             return Ok(Next::Closed);
@@ -93,82 +103,102 @@ fn answers(
 }
 
 #[test]
-fn pieces_come_and_go(rt: HostRuntime) {
-    let mut from = source(3);
+fn pieces_come_and_go(rt: HostRuntime) -> Result<(), Fail> {
+    let requests = numbered(rt.alloc(), &REQUEST, 3)?;
+    let replies = numbered(rt.alloc(), &EMPTY_REPLY, 3)?;
+    let mut from = source(requests.as_slice(), 3);
     let mut to = sink(rt.alloc(), 1);
     let holds = answers(rt.alloc(), &mut from, &mut to, &[Ok(Next::Closed)]);
     assert_holds(&rt, holds, "the stream ends");
     assert_holds(
         &rt,
-        to.bytes.as_slice() == EMPTY_REPLY.as_slice(),
-        "the reply is whole",
+        to.bytes.as_slice() == replies.as_slice(),
+        "the replies are whole",
     );
+    Ok(())
 }
 
 #[test]
-fn all_is_written_at_once_that_is_taken(rt: HostRuntime) {
-    let mut from = source(48);
+fn all_is_written_at_once_that_is_taken(rt: HostRuntime) -> Result<(), Fail> {
+    let requests = numbered(rt.alloc(), &REQUEST, 3)?;
+    let mut from = source(requests.as_slice(), 144);
     let mut to = sink(rt.alloc(), 100);
     let holds = answers(rt.alloc(), &mut from, &mut to, &[Ok(Next::Closed)]);
     assert_holds(&rt, holds && to.calls == 1, "one write");
+    Ok(())
 }
 
 const FAILED: [Result<Next, LoopFault>; 2] = [Err(LoopFault::Io), Ok(Next::Closed)];
 
+// Three messages of 48 bytes are 21 reads of 7 bytes, and one that meets the end. The nth message is whole after 7n reads.
 #[test]
-fn a_reader_or_a_writer_fails(rt: HostRuntime) {
-    for place in [0, 7, 15] {
-        let mut from = source(3);
-        from.trouble = Some((place, ErrorKind::ConnectionReset));
-        let mut to = sink(rt.alloc(), 1);
+fn a_reader_fails_at_each_read(rt: HostRuntime) -> Result<(), Fail> {
+    let requests = numbered(rt.alloc(), &REQUEST, 3)?;
+    for place in 0..22u8 {
+        let replies = numbered(rt.alloc(), &EMPTY_REPLY, place / 7)?;
+        let mut from = source(requests.as_slice(), 7);
+        from.trouble = Some((usize::from(place), ErrorKind::ConnectionReset));
+        let mut to = sink(rt.alloc(), 100);
         let holds = answers(rt.alloc(), &mut from, &mut to, &FAILED);
         assert_holds(
             &rt,
-            holds && to.bytes.is_empty(),
-            "a reader fails, and nothing is written",
+            holds && to.bytes.as_slice() == replies.as_slice(),
+            "what was whole before is answered",
         );
     }
-    for place in [0, 3, 19] {
-        let mut from = source(48);
+    Ok(())
+}
+
+// Three replies of 20 bytes are 60 writes of one byte.
+#[test]
+fn a_writer_fails_after_each_byte(rt: HostRuntime) -> Result<(), Fail> {
+    let requests = numbered(rt.alloc(), &REQUEST, 3)?;
+    let replies = numbered(rt.alloc(), &EMPTY_REPLY, 3)?;
+    for place in 0..60usize {
+        let mut from = source(requests.as_slice(), 48);
         let mut to = sink(rt.alloc(), 1);
         to.trouble = Some((place, ErrorKind::BrokenPipe));
         let holds = answers(rt.alloc(), &mut from, &mut to, &FAILED);
         assert_holds(
             &rt,
-            holds && to.bytes.as_slice() == &EMPTY_REPLY[..place],
-            "a writer fails, and what was written is the front",
+            holds && replies.get(..place) == Some(to.bytes.as_slice()),
+            "what was written is the front",
         );
     }
+    Ok(())
 }
 
 // Whether a reader that would block is waited for, and one that a signal interrupts is read again.
 fn is_met(alloc: Global, kind: ErrorKind, next: Next) -> bool {
-    let mut from = source(3);
+    let mut from = source(&REQUEST, 3);
     from.trouble = Some((0, kind));
     let mut connection = Connection::new(alloc, LOOPBACK);
-    connection.on_readable(&mut from, &mut Empty) == Ok(next)
+    connection.on_readable(&mut from, &mut Replying { rest: &[] }) == Ok(next)
 }
 
 #[test]
-fn a_wait_or_a_signal_loses_nothing(rt: HostRuntime) {
+fn a_wait_or_a_signal_loses_nothing(rt: HostRuntime) -> Result<(), Fail> {
     assert_holds(
         &rt,
         is_met(rt.alloc(), ErrorKind::WouldBlock, Next::Blocked)
             && is_met(rt.alloc(), ErrorKind::Interrupted, Next::More),
         "what is done next",
     );
+    let requests = numbered(rt.alloc(), &REQUEST, 3)?;
+    let replies = numbered(rt.alloc(), &EMPTY_REPLY, 3)?;
     for kind in [ErrorKind::WouldBlock, ErrorKind::Interrupted] {
-        for place in 0..16 {
-            let mut from = source(3);
+        for place in 0..60usize {
+            let mut from = source(requests.as_slice(), 7);
             from.trouble = Some((place, kind));
             let mut to = sink(rt.alloc(), 1);
             to.trouble = Some((place, kind));
             answers(rt.alloc(), &mut from, &mut to, &[Ok(Next::More); 4]);
             assert_holds(
                 &rt,
-                to.bytes.as_slice() == EMPTY_REPLY.as_slice(),
-                "the reply is whole",
+                to.bytes.as_slice() == replies.as_slice(),
+                "the replies are whole",
             );
         }
     }
+    Ok(())
 }
