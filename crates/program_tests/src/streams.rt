@@ -202,3 +202,45 @@ fn a_wait_or_a_signal_loses_nothing(rt: HostRuntime) -> Result<(), Fail> {
     }
     Ok(())
 }
+
+/// How many bytes a peer takes at once, and how often it was read by then: at first nothing is taken. Each read brings a
+/// message, whose reply has 4,096 bytes, so that 32 are 131,072 bytes.
+const TAKEN: [(usize, usize); 5] = [(0, 33), (4_095, 33), (1, 34), (4_096, 35), (135_168, 68)];
+
+// Whether no more is read after so many reads, where a peer has taken so many bytes more.
+fn is_read_up_to(
+    connection: &mut Connection,
+    server: &mut Replying<'_>,
+    from: &mut Source<'_>,
+    to: &mut Sink,
+    (taken, reads): (usize, usize),
+) -> bool {
+    to.piece = taken;
+    let mut next = connection.on_writable(to).and(Ok(Next::More));
+    for _ in 0..100 {
+        if next == Ok(Next::More) {
+            next = connection.on_readable(from, server);
+        }
+    }
+    next == Ok(Next::Blocked) && from.calls == reads
+}
+
+#[test]
+fn a_peer_that_takes_nothing_is_not_read(rt: HostRuntime) -> Result<(), Fail> {
+    let requests = numbered(rt.alloc(), &REQUEST, 100)?;
+    let rest = vec![in rt.alloc(); 0; 4_084]?;
+    let mut server = Replying {
+        rest: rest.as_slice(),
+    };
+    let mut from = source(requests.as_slice(), 48);
+    let mut to = sink(rt.alloc(), 0);
+    let mut connection = Connection::new(rt.alloc(), LOOPBACK);
+    for row in TAKEN {
+        assert_holds(
+            &rt,
+            is_read_up_to(&mut connection, &mut server, &mut from, &mut to, row),
+            "while more than 131,072 bytes wait",
+        );
+    }
+    Ok(())
+}
