@@ -166,18 +166,6 @@ fn replies_count_that_fit(rt: HostRuntime) -> Result<(), Fail> {
         are_answered(alloc, &skipped)? == (true, 1),
         "another XID is skipped",
     );
-    for length in [49, 30] {
-        let turns = [
-            at(1, Event::Datagram(&cut[..length]), Ok(Step::OpenStream)),
-            at(2, Event::Datagram(&FOUND_REPLY), Ok(Step::Wait(16))),
-            at(3, Event::Stream(&FOUND_REPLY), done),
-        ];
-        assert_holds(
-            &rt,
-            are_answered(alloc, &turns)? == (true, 1),
-            "a stream for what is cut",
-        );
-    }
     let partial = Err(ClientFault::Partial);
     let turns = [
         at(1, Event::Datagram(&cut), Ok(Step::OpenStream)),
@@ -205,6 +193,84 @@ fn replies_count_that_fit(rt: HostRuntime) -> Result<(), Fail> {
         are_answered(alloc, &turns)? == (true, 0),
         "a code stays",
     );
+    Ok(())
+}
+
+// The found reply with a longer URL, so that it has 710 bytes, and with these flags.
+fn long_reply(alloc: Global, flags: u8) -> Result<Vec<u8>, Fail> {
+    let mut front = FOUND_REPLY;
+    front[3] = 0x02;
+    front[4] = 0xc6;
+    front[5] = flags;
+    front[23] = 0x02;
+    front[24] = 0xac;
+    let mut reply = Vec::from_slice(alloc, &front[..48])?;
+    for _ in 0..661 {
+        reply.push(b'a')?;
+    }
+    reply.push(0)?;
+    Ok(reply)
+}
+
+#[test]
+fn what_is_cut_is_asked_on_a_stream(rt: HostRuntime) -> Result<(), Fail> {
+    let alloc = rt.alloc();
+    let mut cut = FOUND_REPLY;
+    cut[5] = 0x80;
+    let whole = long_reply(alloc, 0)?;
+    let mut long = long_reply(alloc, 0x80)?;
+    long.truncate(700);
+    for bytes in [&cut[..], &cut[..30], long.as_slice()] {
+        let turns = [
+            at(1, Event::Datagram(bytes), Ok(Step::OpenStream)),
+            at(2, Event::Datagram(&FOUND_REPLY), Ok(Step::Wait(16))),
+            at(3, Event::Stream(whole.as_slice()), Ok(Step::Done)),
+        ];
+        assert_holds(
+            &rt,
+            are_answered(alloc, &turns)? == (true, 1),
+            "a stream for what is cut",
+        );
+    }
+    Ok(())
+}
+
+// Whether a message that is no whole reply is skipped, as a datagram and on a stream: the times go on.
+fn is_skipped(alloc: Global, bytes: &[u8], cut: &[u8]) -> Result<bool, Fail> {
+    let by_datagram = [
+        at(1, Event::Datagram(bytes), Ok(Step::Wait(2))),
+        at(2, Event::Datagram(bytes), Ok(Step::Send)),
+        at(15, Event::Datagram(bytes), Err(ClientFault::GaveUp)),
+    ];
+    let by_stream = [
+        at(1, Event::Datagram(cut), Ok(Step::OpenStream)),
+        at(2, Event::Stream(bytes), Ok(Step::Wait(16))),
+        at(15, Event::Stream(bytes), Ok(Step::Wait(16))),
+        at(16, Event::Stream(bytes), Err(ClientFault::GaveUp)),
+    ];
+    Ok(
+        are_answered(alloc, &by_datagram)? == (true, 0)
+            && are_answered(alloc, &by_stream)? == (true, 0),
+    )
+}
+
+#[test]
+fn what_is_no_reply_is_skipped(rt: HostRuntime) -> Result<(), Fail> {
+    let (mut many, mut foreign, mut advert) = (FOUND_REPLY, FOUND_REPLY, FOUND_REPLY);
+    many[18] = 0xff;
+    many[19] = 0xff;
+    foreign[1] = 99;
+    advert[1] = 8;
+    let mut cut = FOUND_REPLY;
+    cut[5] = 0x80;
+    for (bytes, name) in [
+        (&many[..], "a count of 65,535 with one entry"),
+        (&foreign[..], "a function that is none"),
+        (&advert[..], "an advert with another body"),
+        (&FOUND_REPLY[..48], "a byte less than the length says"),
+    ] {
+        assert_holds(&rt, is_skipped(rt.alloc(), bytes, &cut)?, name);
+    }
     Ok(())
 }
 
