@@ -16,7 +16,7 @@ length-front (suc n) [] h = absurd cc
 length-front (suc n) (None ∷ ps) h = absurd cc
 length-front (suc n) (Some c ∷ ps) h = ap suc (length-front n ps h)
 
-same : (n : ℕ) → (n == n) ≡ true
+pub same : (n : ℕ) → (n == n) ≡ true
 same n = elim (n == n) as (λ b. (n == n) ≡ b → b ≡ true) [ true ↦ λ e. refl | false ↦ λ e. absurd (eqb-false n n e refl) ] refl
 
 pub front-more : (n c : ℕ) (p : List Sign) → has_front n p ≡ true → has_at n c p ≡ true → (front (suc n) p ≡ front n p ++ c ∷ []) × (has_front (suc n) p ≡ true)
@@ -48,45 +48,6 @@ pub star-within : (n : ℕ) (p : List Sign) → star_at n p ≡ true → n < len
 star-within n [] h = absurd cc
 star-within zero (s ∷ ps) h = omega arith
 star-within (suc n) (s ∷ ps) h = let within = star-within n ps h in omega (arith, within)
-
--- what a sign says of a character
-abbrev fits : Sign → ℕ → Bool
-fits None c = false
-fits (Some d) c = d == c
-
-at-sign : (n c : ℕ) (p : List Sign) (s : Sign) → n < length p → has_at n c p ≡ fits (get_or p n s) c
-at-sign n c [] s h = absurd (omega (arith, h))
-at-sign zero c (None ∷ ps) s h = refl
-at-sign zero c (Some d ∷ ps) s h = refl
-at-sign (suc n) c (t ∷ ps) s h = at-sign n c ps s (omega (arith, h))
-
-pub at-some : (n c d : ℕ) (p : List Sign) (s : Sign) → n < length p → get_or p n s ≡ Some d → (d == c) ≡ has_at n c p
-at-some n c d p s h e = ap (λ x. fits x c) (sym e) ∙ sym (at-sign n c p s h)
-
-pub at-none : (n c : ℕ) (p : List Sign) (s : Sign) → n < length p → get_or p n s ≡ None → false ≡ has_at n c p
-at-none n c p s h e = ap (λ x. fits x c) (sym e) ∙ sym (at-sign n c p s h)
-
-pub at-past : (n c : ℕ) (p : List Sign) → length p ≤ n → false ≡ has_at n c p
-at-past n c [] h = refl
-at-past zero c (s ∷ ps) h = absurd (omega (arith, h))
-at-past (suc n) c (s ∷ ps) h = at-past n c ps (omega (arith, h))
-
-star-sign : (n : ℕ) (p : List Sign) (s : Sign) → n < length p → is_none (get_or p n s) ≡ star_at n p
-star-sign n [] s h = absurd (omega (arith, h))
-star-sign zero (None ∷ ps) s h = refl
-star-sign zero (Some d ∷ ps) s h = refl
-star-sign (suc n) (t ∷ ps) s h = star-sign n ps s (omega (arith, h))
-
-pub star-here : (n : ℕ) (p : List Sign) (s : Sign) → n < length p → get_or p n s ≡ None → true ≡ star_at n p
-star-here n p s h e = ap is_none (sym e) ∙ star-sign n p s h
-
-pub star-other : (n c : ℕ) (p : List Sign) (s : Sign) → n < length p → get_or p n s ≡ Some c → false ≡ star_at n p
-star-other n c p s h e = ap is_none (sym e) ∙ star-sign n p s h
-
-pub star-past : (n : ℕ) (p : List Sign) → length p ≤ n → false ≡ star_at n p
-star-past n [] h = refl
-star-past zero (s ∷ ps) h = absurd (omega (arith, h))
-star-past (suc n) (s ∷ ps) h = star-past n ps (omega (arith, h))
 
 -- ---- ends of texts
 
@@ -543,10 +504,8 @@ character-push p falls i st f h long ss within front-is longest =
 
 -- ---- the piece that begins last
 
-pub piece-at : (p : List Sign) (i st c : ℕ) (s : Sign) → i < length p → st ≤ i → get_or p i s ≡ Some c → has_at (i - st) c (drop st p) ≡ true
-piece-at p i st c s less within is =
-    let e : st + (i - st) ≡ i = omega (arith, within) in
-    at-later (i - st) st c p ∙ ap (λ j. has_at j c p) e ∙ sym (at-some i c c p s less is) ∙ same c
+pub piece-at : (p : List Sign) (i st c : ℕ) → st ≤ i → has_at i c p ≡ true → has_at (i - st) c (drop st p) ≡ true
+piece-at p i st c within at = let e : st + (i - st) ≡ i = omega (arith, within) in at-later (i - st) st c p ∙ ap (λ j. has_at j c p) e ∙ at
 
 pub piece-more : (p : List Sign) (i st c : ℕ) → st ≤ i → has_front (i - st) (drop st p) ≡ true → has_at (i - st) c (drop st p) ≡ true → has_front (i - st + 1) (drop st p) ≡ true
 piece-more p i st c within h at = let e : suc (i - st) ≡ i - st + 1 = omega arith in subst (λ j. has_front j (drop st p) ≡ true) e (front-more (i - st) c (drop st p) h at).1
@@ -558,10 +517,9 @@ cut-falls p falls n h = subst (λ q. AreFalls q (take (length falls - n) (drop n
 abbrev pub AreSoFar : List Sign → ℕ → ℕ → List ℕ → Type 0
 AreSoFar p i st falls = (length falls ≡ i + 1) × (st ≤ i) × (starts st p ≡ true) × (has_front (i - st) (drop st p) ≡ true) × ArePieceFalls p falls
 
-pub so_far-star : (p : List Sign) (i st later-st : ℕ) (falls more : List ℕ) (s : Sign) → i < length p → get_or p i s ≡ None → later-st ≡ i + 1 → more ≡ falls ++ 0 ∷ []
+pub so_far-star : (p : List Sign) (i st later-st : ℕ) (falls more : List ℕ) → star_at i p ≡ true → later-st ≡ i + 1 → more ≡ falls ++ 0 ∷ []
     → AreSoFar p i st falls → AreSoFar p (i + 1) later-st more
-so_far-star p i st later-st falls more s less is st-is falls-is h =
-    let star : star_at i p ≡ true = sym (star-here i p s less is) in
+so_far-star p i st later-st falls more star st-is falls-is h =
     let next : suc i ≡ i + 1 = omega arith in
     let none : i + 1 - later-st ≡ 0 = omega (arith, st-is) in (
       ap length falls-is ∙ (let all = length-append falls (0 ∷ []) in omega (arith, all, h.0)),
@@ -571,10 +529,10 @@ so_far-star p i st later-st falls more s less is st-is falls-is h =
       subst (λ f. ArePieceFalls p f) (sym falls-is) (star-push p falls i h.4 h.0 star),
     )
 
-pub so_far-character : (p : List Sign) (i st later-st f c : ℕ) (falls more : List ℕ) (s : Sign) → i < length p → get_or p i s ≡ Some c → later-st ≡ st → more ≡ falls ++ f ∷ []
+pub so_far-character : (p : List Sign) (i st later-st f c : ℕ) (falls more : List ℕ) → has_at i c p ≡ true → later-st ≡ st → more ≡ falls ++ f ∷ []
     → IsLongestEnd (drop st p) f (drop 1 (front (i - st + 1) (drop st p))) → AreSoFar p i st falls → AreSoFar p (i + 1) later-st more
-so_far-character p i st later-st f c falls more s less is st-is falls-is longest h =
-    let at = piece-at p i st c s less h.1 is in
+so_far-character p i st later-st f c falls more fits st-is falls-is longest h =
+    let at = piece-at p i st c h.1 fits in
     let front-is = piece-more p i st c h.1 h.3 at in
     let long : i - st + 1 ≡ i + 1 - later-st = omega (arith, st-is, h.1) in (
       ap length falls-is ∙ (let all = length-append falls (f ∷ []) in omega (arith, all, h.0)),

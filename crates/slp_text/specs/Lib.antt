@@ -8,6 +8,7 @@ pub mod ScopeNames
 pub mod Scopes
 pub mod Searches
 pub mod Sets
+pub mod SignCodes
 pub mod Squeezing
 pub mod Steps
 pub mod TagIndexes

@@ -58,8 +58,10 @@ pub record Sought : Type 0 where
   pub came : ℕ
   pub floats : Bool
 
+-- whether a piece that may stand further on, of which n signs came last, leads to a match with the text that is still to come
+abbrev pub floating : List Sign → ℕ → List ℕ → Bool
+floating p n text = list_any (is_match p) (ends_of (front n p ++ text))
+
 -- whether a text that is still to come is what it searches for
 abbrev pub finds : Sought → List ℕ → Bool
-finds s text =
-    if s.floats then list_any (is_match s.signs) (ends_of (front s.came s.signs ++ text))
-    else is_match s.signs (front s.came s.signs ++ text)
+finds s text = if s.floats then floating s.signs s.came text else is_match s.signs (front s.came s.signs ++ text)

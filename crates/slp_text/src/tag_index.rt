@@ -29,11 +29,11 @@ fn word_of(alloc: Global, part: &[Option<u8>]) -> Result<Option<Vec<u8>>, NoMemo
     Ok(Some(word))
 }
 
-fn number_of(sign: Option<u8>) -> Option<u32>
+fn character_of(sign: Option<u8>) -> Option<char>
     ensures { result ≡ sign }
 {
     match sign {
-        Some(b) => Some(u32::from(b)),
+        Some(b) => Some(char::from(b)),
         None => None,
     }
 }
@@ -44,9 +44,9 @@ fn signs_of(alloc: Global, part: &[Option<u8>]) -> Result<Signs, NoMemory>
 {
     let mut signs = Vec::with_capacity(alloc, part.len())?;
     for sign in part {
-        signs.push(number_of(*sign))?;
+        signs.push(character_of(*sign))?;
     }
-    Signs::new(alloc, signs)
+    Signs::new(alloc, &signs)
 }
 
 // Whether signs match bytes.

@@ -1,33 +1,63 @@
-use Rattle.std.proofs.Common.{◌+◌, ◌-◌, length, take, drop, sym, subst, ap, ◌∙◌}
-use Rattle.slp_text.specs.Searches.{has_at, IsLongestEnd, front, AreFalls}
+use Rattle.std.proofs.Common.{◌≡◌, ◌+◌, ◌-◌, ◌<◌, suc, length, take, drop, get_or, true, refl, sym, subst, ap, ◌∙◌, arith}
+use Rattle.slp_text.specs.Searches.{has_at, has_front, IsLongestEnd, front, AreFalls}
+use Rattle.slp_text.specs.SignCodes.{end_code, signs_in}
 use Rattle.slp_text.proofs.Matches.{rest_all}
-use Rattle.slp_text.proofs.Searches.{piece-at, cut-falls, so_far-star, so_far-character}
+use Rattle.slp_text.proofs.Searches.{piece-at, so_far-star, so_far-character}
+use Rattle.slp_text.proofs.SignCodes.{cut-codes, own-code, small-code, star-there}
 use Rattle.slp_text.proofs.signs.falls_of.Goals as goal
-use Rattle.slp_text.proofs.signs.falls_of.Goals.{in-None+in_ok-push-in-None, in-Some+in_ok-push-in-Some}
+use Rattle.slp_text.proofs.signs.falls_of.Goals.{then-c+in_ok-push-2, else-c+in_ok-push-3}
+
+pub next_fall-fall-requires-clause-codes : goal.next_fall-fall-requires-clause-codes
+next_fall-fall-requires-clause-codes c = (cut-codes c.loop-i.start c.args.codes.now (omega (arith, c.loop-i.invariant.1)) c.requires).1
 
 pub next_fall-fall-requires-clause-falls : goal.next_fall-fall-requires-clause-falls
 next_fall-fall-requires-clause-falls c =
     let now = c.loop-i.invariant in
     let st = c.loop-i.start in
-    subst (λ f. AreFalls (take (length c.args.signs.now - st) (drop st c.args.signs.now)) (take (length f - st) (drop st f))) (sym c.deref.ensures.value)
-    (cut-falls c.args.signs.now c.loop-i.falls.items st (now.4 st now.2))
+    let cut = cut-codes st c.args.codes.now (omega (arith, now.1)) c.requires in
+    let falls = ap (λ f. take (length f - st) (drop st f)) c.deref.ensures.value ∙ rest_all st c.loop-i.falls.items in
+    subst (λ p. AreFalls p (take (length c.deref.result.now - st) (drop st c.deref.result.now))) (sym cut.0) (subst (AreFalls (drop st (signs_in c.args.codes.now))) (sym falls) (now.4 st now.2))
+
+pub next_fall-fall-requires-clause-came : goal.next_fall-fall-requires-clause-came
+next_fall-fall-requires-clause-came c =
+    let now = c.loop-i.invariant in
+    ap (has_front (c.loop-i.i - c.loop-i.start)) (cut-codes c.loop-i.start c.args.codes.now (omega (arith, now.1)) c.requires).0 ∙ now.3
 
 pub next_fall-fall-requires-clause-next : goal.next_fall-fall-requires-clause-next
 next_fall-fall-requires-clause-next c =
     let now = c.loop-i.invariant in
-    let p = c.args.signs.now in
-    ap (has_at (c.loop-i.i - c.loop-i.start) c.in-Some.c) (rest_all c.loop-i.start p) ∙ piece-at p c.loop-i.i c.loop-i.start c.in-Some.c _ c.loop-i-test.true now.1 c.in-Some.is
+    let codes = c.args.codes.now in
+    let i = c.loop-i.i in
+    let x = get_or codes i 0 in
+    let fits = c.type_inv.codes i in
+    let range : x < 4294967296 = omega (arith, fits) in
+    let small = small-code i codes x refl range c.if-c.false (omega arith) c.requires in
+    ap (has_at (i - c.loop-i.start) x) (cut-codes c.loop-i.start codes (omega (arith, now.1)) c.requires).0
+    ∙ piece-at (signs_in codes) i c.loop-i.start x now.1 (own-code i codes x refl small (omega arith) c.requires)
+
+pub next_fall-fall-requires-clause-character : goal.next_fall-fall-requires-clause-character
+next_fall-fall-requires-clause-character c =
+    let fits = c.type_inv.codes c.loop-i.i in
+    let range : get_or c.args.codes.now c.loop-i.i 0 < 4294967296 = omega (arith, fits) in
+    small-code c.loop-i.i c.args.codes.now (get_or c.args.codes.now c.loop-i.i 0) refl range c.if-c.false (omega arith) c.requires
 
 pub loop-i-preserved : goal.loop-i-preserved
 loop-i-preserved c =
     let now = c.loop-i.invariant in
-    let p = c.args.signs.now in
+    let codes = c.args.codes.now in
+    let p = signs_in codes in
     let i = c.loop-i.i in
     let st = c.loop-i.start in
     let falls = c.loop-i.falls.items in
-    elim c.match-signs-i.branch [
-      | in-None+in_ok-push-in-None w ↦ so_far-star p i st c.match-signs-i.start falls c.match-signs-i.falls.items _ c.loop-i-test.true w.in-None.is w.start-is (ap (λ v. v.items) w.falls-is ∙ w.in_ok-push-in-None.ensures.items) now
-      | in-Some+in_ok-push-in-Some w ↦
-          let longest = subst (λ q. IsLongestEnd q w.next_fall-fall.result (drop 1 (front (i - st + 1) q))) (rest_all st p) w.next_fall-fall.ensures in
-          so_far-character p i st c.match-signs-i.start w.next_fall-fall.result w.in-Some.c falls c.match-signs-i.falls.items _ c.loop-i-test.true w.in-Some.is w.start-is (ap (λ v. v.items) w.falls-is ∙ w.in_ok-push-in-Some.ensures.items) longest now
+    let x = get_or codes i 0 in
+    elim c.if-c.branch [
+      | then-c+in_ok-push-2 w ↦
+          so_far-star p i st c.if-c.start falls c.if-c.falls.items (star-there i codes x refl w.if-c.true (omega arith) c.requires) w.start-is (ap (λ v. v.items) w.falls-is ∙ w.in_ok-push-2.ensures.items) now
+      | else-c+in_ok-push-3 w ↦
+          let cut = (cut-codes st codes (omega (arith, now.1)) c.requires).0 in
+          let fits = c.type_inv.codes i in
+          let range : x < 4294967296 = omega (arith, fits) in
+          let small = small-code i codes x refl range w.if-c.false (omega arith) c.requires in
+          let longest = subst (λ q. IsLongestEnd q w.next_fall-fall.result (drop 1 (front (i - st + 1) q))) cut w.next_fall-fall.ensures in
+          so_far-character p i st c.if-c.start w.next_fall-fall.result x falls c.if-c.falls.items (own-code i codes x refl small (omega arith) c.requires) w.start-is (ap (λ v. v.items) w.falls-is ∙ w.in_ok-push-3.ensures.items) longest now
     ]

@@ -1,22 +1,23 @@
 use Rattle.std.proofs.Common.{◌<◌, drop, get_or, subst, arith}
 use Rattle.slp_text.specs.Searches.{front, IsLongestEnd}
+use Rattle.slp_text.specs.SignCodes.{signs_in}
 use Rattle.slp_text.proofs.Searches.{fall-less, more-dropped, one-longest}
 use Rattle.slp_text.proofs.signs.next_fall.Goals as goal
 
 pub returns-then-came-eq0 : goal.returns-then-came-eq0
-returns-then-came-eq0 c = one-longest c.args.signs.now c.args.came c.if-came-eq0.true
+returns-then-came-eq0 c = one-longest (signs_in c.args.codes.now) c.args.came c.if-came-eq0.true
 
 pub advance-requires-clause-within : goal.advance-requires-clause-within
 advance-requires-clause-within c =
     let n = c.args.came in
     let some : 0 < c.args.came = omega (arith, c.if-came-eq0.false) in
     let fall = c.requires.falls n some c.requires.within c.requires.came in
-    let less = fall-less c.args.signs.now n (get_or c.args.falls.now n 0) some c.requires.came fall.0 in
+    let less = fall-less (signs_in c.args.codes.now) n (get_or c.args.falls.now n 0) some c.requires.came fall.0 in
     omega (arith, less, c.requires.within)
 
 pub returns : goal.returns
 returns c =
-    let p = c.args.signs.now in
+    let p = signs_in c.args.codes.now in
     let n = c.args.came in
     let some : 0 < c.args.came = omega (arith, c.if-came-eq0.false) in
     subst (IsLongestEnd p c.advance.result) (more-dropped n c.args.c p some c.requires.came c.requires.next)

@@ -1,9 +1,14 @@
-use Rattle.std.proofs.Common.{◌+◌, length, refl, sym, subst, ap, ◌∙◌}
+use Rattle.std.proofs.Common.{◌≡◌, length, refl, sym, subst, ap, ◌∙◌}
 use Rattle.slp_text.specs.Searches.{ArePieceFalls}
+use Rattle.slp_text.specs.SignCodes.{signs_in, AreCodes}
 use Rattle.slp_text.proofs.signs.Signs.search.Goals as goal
 
 pub invariant_of-result : goal.invariant_of-result
 invariant_of-result c =
-    let signs = c.deref.ensures.value in
-    let falls = c.deref-2.ensures.value in
-    (ap length falls ∙ c.self.invariant.0 ∙ ap (λ p. length p + 1) (sym signs), subst (λ p. ArePieceFalls p c.deref-2.result.now) (sym signs) (subst (ArePieceFalls c.self.inside.signs.items) (sym falls) c.self.invariant.1), refl)
+    let codes = c.deref.ensures.value in
+    let falls = c.deref-2.ensures.value in (
+      subst AreCodes (sym codes) c.self.invariant.0,
+      ap length falls ∙ c.self.invariant.1 ∙ ap length (sym codes),
+      subst (λ p. ArePieceFalls (signs_in p) c.deref-2.result.now) (sym codes) (subst (ArePieceFalls (signs_in c.self.inside.codes.items)) (sym falls) c.self.invariant.2),
+      refl,
+    )
