@@ -1,5 +1,8 @@
-ghost use Rattle.std.specs.Prelude.{◌≡◌, ◌∷◌, [], MatchOption, chars};
-ghost use Rattle.text_patterns.specs.Characters.{characters_left, folded_left, key_characters};
+ghost use Rattle.std.specs.Char.{to_ascii_lowercase};
+ghost use Rattle.std.specs.List.{list_all};
+ghost use Rattle.std.specs.Prelude.{◌≡◌, ◌≤◌, ◌∷◌, ◌++◌, [], MatchOption, chars, drop, length, map, take, true};
+ghost use Rattle.slp_text.specs.Keys.{is_word_byte};
+ghost use Rattle.text_patterns.specs.Characters.{characters_left, folded_left, key_characters, plain_left};
 
 use slp_text::is_white_space;
 use ucd_case::full_folding;
@@ -23,6 +26,16 @@ fn split_first(text: &str) -> Option<(char, &str)>
     let mut characters = text.chars();
     let c = characters.next()?;
     Some((c, characters.as_str()))
+}
+
+// What comes after so many bytes of ASCII at the front of a text.
+#[inline(always)]
+fn behind(text: &str, count: usize) -> &str
+    requires within { count ≤ length text.now }
+    requires plain { list_all is_word_byte (take count text.now) ≡ true }
+    ensures { result.now ≡ drop count text.now }
+{
+    &text[count..]
 }
 
 impl<'a> KeyCharacters<'a> {
@@ -59,6 +72,31 @@ impl<'a> KeyCharacters<'a> {
                 self.folding = rest;
                 Some(*first)
             }
+        }
+    }
+
+    /// The bytes that come next as they lie in the text, where nothing was put off. Takes no memory.
+    #[inline(always)]
+    pub fn plain_bytes(&self) -> &'a [u8]
+        ensures { result.now ≡ plain_left self.now }
+    {
+        if self.ahead.is_none() && self.folding.is_empty() {
+            self.rest.as_bytes()
+        } else {
+            &[]
+        }
+    }
+
+    /// Goes on behind so many of them, which are of ASCII and no white space. Takes no memory.
+    #[inline(always)]
+    pub fn skip(&mut self, count: usize)
+        requires within { count ≤ length (plain_left self.old) }
+        requires plain { list_all is_word_byte (take count (plain_left self.old)) ≡ true }
+        ensures { characters_left self.old ≡ map to_ascii_lowercase (take count (plain_left self.old)) ++ characters_left self.new }
+    {
+        if count > 0 {
+            self.rest = behind(self.rest, count);
+            self.begun = true;
         }
     }
 

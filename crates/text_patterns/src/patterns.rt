@@ -97,11 +97,15 @@ impl Pattern {
     {
         let mut search = self.signs.search();
         let mut characters = KeyCharacters::new(text);
-        while let Some(c) = characters.next() {
+        loop {
+            let count = search.take_plain(characters.plain_bytes());
+            characters.skip(count);
+            let Some(c) = characters.next() else {
+                return search.ends();
+            };
             if let Some(found) = search.step(u32::from(c)) {
                 return found;
             }
         }
-        search.ends()
     }
 }
