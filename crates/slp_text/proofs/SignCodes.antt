@@ -1,9 +1,7 @@
 -- What is said of signs, said of their codes.
-use Rattle.std.proofs.Common.{◌≡◌, ℕ, suc, zero, ◌+◌, ◌<◌, ◌≤◌, ◌-◌, Bool, true, false, ◌==◌, List, [], ◌∷◌, ◌++◌, length, length-drop, take, drop, get_or, map, Some, None, refl, sym, ap, ap₂, subst, ◌∙◌, arith, eqb-true}
+use Rattle.std.proofs.Common.{◌≡◌, ℕ, suc, zero, ◌+◌, ◌<◌, ◌-◌, true, false, ◌==◌, List, [], ◌∷◌, ◌++◌, length, length-drop, take, drop, get_or, map, Some, None, refl, sym, ap, subst, ◌∙◌, arith, eqb-true}
 use Rattle.std.specs.List.{AllByRecursion}
 use Rattle.std.specs.Prelude.{◌≢◌, cond}
-use Rattle.std.proofs.lemmas.Bool.{eqb-false}
-use Rattle.slp_text.specs.Tags.{Sign}
 use Rattle.slp_text.specs.SignCodes.{star_code, end_code, sign_in, signs_in, AreCodes}
 use Rattle.slp_text.specs.Searches.{has_at, has_front, star_at}
 use Rattle.slp_text.proofs.Matches.{both_ways, rest_all}

@@ -13,6 +13,7 @@ use std::marker::Model;
 
 /// The codes of a `*` and of the end of signs, which no character has.
 const STAR: u32 = u32::MAX;
+
 const END: u32 = u32::MAX - 1;
 
 /// A text with `*` for any run of characters, ready to be searched for, which contracts see as its signs:
@@ -139,11 +140,7 @@ fn falls_of(alloc: Global, codes: &[u32]) -> Result<Vec<usize>, NoMemory>
 
 // What comes after a star, and where a search of it goes on.
 #[inline(always)]
-fn after_star<'a>(
-    codes: &'a [u32],
-    falls: &'a [usize],
-    place: usize,
-) -> (&'a [u32], &'a [usize])
+fn after_star<'a>(codes: &'a [u32], falls: &'a [usize], place: usize) -> (&'a [u32], &'a [usize])
     requires within { place < length codes.now }
     requires long { length falls.now ≡ length codes.now }
     ensures codes { result.0.now ≡ drop (place + 1) codes.now }

@@ -35,32 +35,23 @@ fn is_white_sign(sign: Option<char>) -> bool
     }
 }
 
-fn number_of(sign: Option<char>) -> Option<u32>
-    ensures { result ≡ sign }
-{
-    match sign {
-        Some(c) => Some(u32::from(c)),
-        None => None,
-    }
-}
-
 // Appends a folded sign, after a space if white space came since the last one. White space itself is
 // put off; whether it was is answered.
-fn add_sign(sign: Option<char>, gap: bool, signs: &mut Vec<Option<u32>>) -> Result<bool, NoMemory>
+fn add_sign(sign: Option<char>, gap: bool, signs: &mut Vec<Option<char>>) -> Result<bool, NoMemory>
     ensures { IfOk result (λ now. (rest : List Sign) → pattern_with now signs.new.items rest ≡ pattern_with gap signs.old.items (sign ∷ rest)) }
 {
     if is_white_sign(sign) {
         return Ok(true);
     }
     if gap && !signs.is_empty() {
-        signs.push(Some(u32::from(' ')))?;
+        signs.push(Some(' '))?;
     }
-    signs.push(number_of(sign))?;
+    signs.push(sign)?;
     Ok(false)
 }
 
 // The same of the characters of a text, folded.
-fn add_text(text: &str, gap: bool, signs: &mut Vec<Option<u32>>) -> Result<bool, NoMemory>
+fn add_text(text: &str, gap: bool, signs: &mut Vec<Option<char>>) -> Result<bool, NoMemory>
     ensures { IfOk result (λ now. (rest : List Sign) → pattern_with now signs.new.items rest ≡ pattern_with gap signs.old.items (map Some (default_case_fold (chars text.now)) ++ rest)) }
 {
     let mut gap = gap;
@@ -86,7 +77,7 @@ impl Pattern {
             gap = add_text(piece.as_str(), gap, &mut signs)?;
             begun = true;
         }
-        let signs = Signs::new(alloc, signs)?;
+        let signs = Signs::new(alloc, &signs)?;
         Ok(Pattern { signs })
     }
 

@@ -1,5 +1,5 @@
-use Rattle.std.proofs.Common.{◌≡◌, ◌++◌, ◌∷◌, [], sym, subst, ap, ◌∙◌, take, length, ◌≤◌, arith, take_all}
-use Rattle.slp_text.specs.SignCodes.{end_code, sign_in, signs_in, AreCodes}
+use Rattle.std.proofs.Common.{sym, subst, ap, ◌∙◌, arith, take_all}
+use Rattle.slp_text.specs.SignCodes.{signs_in, AreCodes}
 use Rattle.slp_text.proofs.SignCodes.{ended-codes}
 use Rattle.slp_text.proofs.signs.codes_of.Goals as goal
 

@@ -1,6 +1,6 @@
-use Rattle.std.proofs.Common.{◌≡◌, ◌+◌, ◌-◌, ◌<◌, suc, length, take, drop, get_or, true, refl, sym, subst, ap, ◌∙◌, arith}
+use Rattle.std.proofs.Common.{◌+◌, ◌-◌, ◌<◌, length, take, drop, get_or, refl, sym, subst, ap, ◌∙◌, arith}
 use Rattle.slp_text.specs.Searches.{has_at, has_front, IsLongestEnd, front, AreFalls}
-use Rattle.slp_text.specs.SignCodes.{end_code, signs_in}
+use Rattle.slp_text.specs.SignCodes.{signs_in}
 use Rattle.slp_text.proofs.Matches.{rest_all}
 use Rattle.slp_text.proofs.Searches.{piece-at, so_far-star, so_far-character}
 use Rattle.slp_text.proofs.SignCodes.{cut-codes, own-code, small-code, star-there}

@@ -1,8 +1,8 @@
-use Rattle.std.proofs.Common.{◌≡◌, ◌+◌, ◌<◌, ◌≤◌, ◌∷◌, false, length, sym, subst, ap, ◌∙◌, arith}
+use Rattle.std.proofs.Common.{◌≡◌, ◌∷◌, false, sym, subst, ap, ◌∙◌, arith}
 use Rattle.slp_text.specs.Searches.{finds, star_at}
 use Rattle.slp_text.specs.SignCodes.{signs_in}
 use Rattle.slp_text.proofs.Searches.{first-falls, front-next, came-longest, turned-nothing, turned-floats, turned-fits, turned-fails}
-use Rattle.slp_text.proofs.SignCodes.{at-inside, came-within, no-signs}
+use Rattle.slp_text.proofs.SignCodes.{came-within, no-signs}
 use Rattle.slp_text.proofs.signs.Search.turn.Goals as goal
 
 pub returns-then-self-eq1 : goal.returns-then-self-eq1

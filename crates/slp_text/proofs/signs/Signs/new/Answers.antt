@@ -1,4 +1,4 @@
-use Rattle.std.proofs.Common.{◌≡◌, length, subst, ap, ◌∙◌}
+use Rattle.std.proofs.Common.{length, subst, ap, ◌∙◌}
 use Rattle.slp_text.specs.Searches.{ArePieceFalls}
 use Rattle.slp_text.specs.SignCodes.{signs_in}
 use Rattle.slp_text.proofs.signs.Signs.new.Goals as goal
