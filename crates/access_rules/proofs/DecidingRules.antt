@@ -13,7 +13,7 @@ use Rattle.access_rules.specs.declared.rules.Verdict.{Verdict}
 
 -- some rule, for what is read past the last
 no_rule : Rule
-no_rule = record { name = []; from = []; action = See; kind = None; scopes = None; allow = false }
+no_rule = record { name = []; from = []; action = See; kind = None; scopes = None; allow = false; owner = false }
 
 rule_of_verdict : (rules : SiteRules) (o : Option ℕ) → (verdict_at rules o).rule ≡ o
 rule_of_verdict rules None = refl

@@ -2,4 +2,5 @@ pub mod Addresses
 pub mod Arrays
 pub mod DecidingRules
 pub mod KeysOfTables
+pub mod Owners
 pub mod ReadRules

@@ -31,10 +31,10 @@ abbrev pub Text : Type 0
 Text = List ℕ
 
 abbrev pub rule_code : Coded Rule
-rule_code = code_by (Text × (List Prefix × (Action × (Option Text × (Option (List Text) × Bool)))))
-    (coded× (coded_list coded_ℕ) (coded× (coded_list prefix_code) (coded× action_code (coded× (coded_option (coded_list coded_ℕ)) (coded× (coded_option (coded_list (coded_list coded_ℕ))) coded_bool)))))
-    (λ r. (r.name, (r.from, (r.action, (r.kind, (r.scopes, r.allow))))))
-    (λ t. record { name = t.0; from = t.1.0; action = t.1.1.0; kind = t.1.1.1.0; scopes = t.1.1.1.1.0; allow = t.1.1.1.1.1 })
+rule_code = code_by (Text × (List Prefix × (Action × (Option Text × (Option (List Text) × (Bool × Bool))))))
+    (coded× (coded_list coded_ℕ) (coded× (coded_list prefix_code) (coded× action_code (coded× (coded_option (coded_list coded_ℕ)) (coded× (coded_option (coded_list (coded_list coded_ℕ))) (coded× coded_bool coded_bool))))))
+    (λ r. (r.name, (r.from, (r.action, (r.kind, (r.scopes, (r.allow, r.owner)))))))
+    (λ t. record { name = t.0; from = t.1.0; action = t.1.1.0; kind = t.1.1.1.0; scopes = t.1.1.1.1.0; allow = t.1.1.1.1.1.0; owner = t.1.1.1.1.1.1 })
     (λ _. refl)
 
 abbrev pub rules_code : Coded SiteRules

@@ -1,6 +1,6 @@
 -- Which rule decides.
-use Rattle.std.specs.Prelude.{ℕ, Bool, true, false, ◌-◌, ◌/◌, ◌^◌, ◌==◌, ◌&&◌, nat_le, List, [], length, position, slice_get, Option, Some, None}
-use Rattle.std.specs.List.{list_any}
+use Rattle.std.specs.Prelude.{ℕ, Bool, true, false, ◌-◌, ◌/◌, ◌^◌, ◌==◌, ◌&&◌, ◌||◌, not, nat_le, List, [], length, position, slice_get, Option, Some, None}
+use Rattle.std.specs.List.{list_all, list_any}
 use Rattle.std.specs.Option.{option_map_or}
 use Rattle.slp_text.specs.Words.{bytes_eq}
 use Rattle.service_url.specs.Types.{covers}
@@ -36,22 +36,29 @@ abbrev pub allows_scope : Option (List (List ℕ)) → List ℕ → Bool
 allows_scope None scope = true
 allows_scope (Some named) scope = list_any (λ s. bytes_eq s scope) named
 
--- what is asked of the rules, but for the scope: who asks, to do what, and of which type
+-- what is asked of the rules, but for the scope: who asks, to do what, of which type, and who registered it
 pub record Deed : Type 0 where
   pub asker : ℕ
   pub action : Action
   pub kind : List ℕ
+  pub registrant : ℕ
 
-abbrev pub deed : ℕ → Action → List ℕ → Deed
-deed asker action kind = record { asker = asker; action = action; kind = kind }
+abbrev pub deed : ℕ → Action → List ℕ → ℕ → Deed
+deed asker action kind registrant = record { asker = asker; action = action; kind = kind; registrant = registrant }
 
 -- the same, wherever its type lies
 abbrev pub deed_in : code.Deed → Deed
-deed_in d = deed d.asker d.action d.kind.now
+deed_in d = deed d.asker d.action d.kind.now d.registrant
 
--- a rule fits a deed in a scope
+-- who asks is who registered
+abbrev pub is_own : Deed → Bool
+is_own d = d.asker == d.registrant
+
+-- a rule fits a deed in a scope; one of owners fits no deed of another
 abbrev pub fits : Deed → List ℕ → Rule → Bool
-fits d scope r = list_any (λ p. holds p d.asker) r.from && action_eq r.action d.action && allows_kind r.kind d.kind && allows_scope r.scopes scope
+fits d scope r =
+    list_any (λ p. holds p d.asker) r.from && action_eq r.action d.action && allows_kind r.kind d.kind && allows_scope r.scopes scope
+    && (not r.owner || is_own d)
 
 -- what decides for a site: its rules, in their order
 abbrev pub SiteRules : Type 0
@@ -77,3 +84,11 @@ verdict_at rules (Some index) = record { allow = option_map_or (λ r. r.allow) (
 -- The first rule that fits decides.
 abbrev pub deciding : SiteRules → Deed → List ℕ → Verdict
 deciding rules d scope = verdict_at rules (position (fits d scope) (rules_in rules))
+
+-- a rule is about owners, if it is about this action
+abbrev pub is_owners : Action → Rule → Bool
+is_owners action r = not (action_eq r.action action) || r.owner
+
+-- no rule is about owners
+abbrev pub is_without_owners : SiteRules → Bool
+is_without_owners rules = list_all (λ r. not r.owner) (rules_in rules)

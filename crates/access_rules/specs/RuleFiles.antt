@@ -1,9 +1,9 @@
 -- What a rule file says, from the table that its text is.
-use Rattle.std.specs.Prelude.{◌≡◌, ℕ, ◌+◌, Bool, true, false, not, ◌==◌, ◌&&◌, ◌||◌, nat_le, nat_lt, List, [], ◌∷◌, ◌++◌, length, codes, Option, Some, None, is_some, Result, Ok, Err, if◌then◌else◌, option_and_then}
+use Rattle.std.specs.Prelude.{◌≡◌, ℕ, ◌+◌, Bool, true, false, not, ◌==◌, ◌&&◌, ◌||◌, nat_le, nat_lt, List, [], ◌∷◌, ◌++◌, length, codes, Option, Some, None, Result, Ok, Err, if◌then◌else◌, option_and_then}
 use Rattle.std.specs.List.{flat_map, list_all, list_any}
 use Rattle.std.specs.Option.{option_map, option_map_or}
 use Rattle.std.specs.Result.{result_ok}
-use Rattle.toml.specs.Data.{Data, as_str, as_table, Members, get_member}
+use Rattle.toml.specs.Data.{Data, as_bool, as_integer, as_str, as_table, Members, get_member}
 use Rattle.toml.specs.Parse.{parse_document}
 use Rattle.slp_text.specs.Ascii.{comma, hyphen, is_digit, is_lower}
 use Rattle.slp_text.specs.Reading.{read_map, read_then}
@@ -12,8 +12,10 @@ use Rattle.slp_text.specs.Words.{bytes_eq}
 use Rattle.service_url.specs.Types.{type_of}
 use Rattle.access_rules.specs.Addresses.{prefix_of}
 use Rattle.access_rules.specs.Deciding.{SiteRules}
-use Rattle.access_rules.specs.Tables.{if_where, is_some_list, number_in, each_in, array_values, text_at, values_at, keys_of}
+use Rattle.access_rules.specs.Tables.{if_where, is_some_list, natural, each_in, array_values, text_at, values_at, keys_of}
 use Rattle.access_rules.specs.declared.fault.RuleFault.{RuleFault}
+use Rattle.access_rules.specs.declared.version.Version.{Version}
+use Rattle.access_rules.specs.declared.version.Version.TheVariants.{One, Two}
 use Rattle.access_rules.specs.declared.fault.RuleFault.TheVariants.{Shape, TwiceName, NoMemory, Toml}
 use Rattle.access_rules.specs.declared.rule.Action.{Action}
 use Rattle.access_rules.specs.declared.rule.Action.TheVariants.{Register, Withdraw, See}
@@ -49,6 +51,18 @@ scopes_key = codes "scopes"
 
 abbrev pub verdict_key : List ℕ
 verdict_key = codes "verdict"
+
+abbrev pub owner_key : List ℕ
+owner_key = codes "owner"
+
+-- ---- versions
+
+abbrev pub version_numbered : ℕ → Option Version
+version_numbered n = if n == 1 then Some One else (if n == 2 then Some Two else None)
+
+-- the version that a table names
+abbrev pub version_in : Members → Option Version
+version_in table = option_and_then version_numbered (option_and_then natural (option_and_then as_integer (get_member version_key table)))
 
 -- ---- what stands at each key of a rule
 
@@ -132,11 +146,21 @@ verdict_named word =
 abbrev pub verdict_in : Members → Option Bool
 verdict_in table = option_and_then verdict_named (text_at verdict_key table)
 
+-- whether it is about owners alone: it is not where nothing says so
+abbrev pub owner_in : Members → Option Bool
+owner_in table = option_map_or as_bool (get_member owner_key table) (Some false)
+
 -- ---- rules
 
-abbrev pub is_rule_key : List ℕ → Bool
-is_rule_key key =
+-- a key that a rule has in every version
+abbrev pub is_common_key : List ℕ → Bool
+is_common_key key =
     list_any (bytes_eq key) (name_key ∷ from_key ∷ action_key ∷ type_key ∷ scopes_key ∷ verdict_key ∷ [])
+
+-- a key that a rule may have
+abbrev pub is_rule_key : Version → List ℕ → Bool
+is_rule_key One key = is_common_key key
+is_rule_key Two key = is_common_key key || bytes_eq key owner_key
 
 -- what it is about that is done, and whether it is allowed
 abbrev pub deed_in : Members → Option (Action × Bool)
@@ -155,24 +179,25 @@ matter_in table =
 -- the rule of what stands at the keys of a table
 abbrev pub rule_with : Members → Option Rule
 rule_with table =
-    option_and_then (λ deed. option_and_then (λ matter. option_and_then (λ name. option_and_then (λ from.
-    Some (record { name = name; from = from; action = deed.0; kind = matter.0; scopes = matter.1; allow = deed.1 }))
+    option_and_then (λ deed. option_and_then (λ matter. option_and_then (λ owner. option_and_then (λ name. option_and_then (λ from.
+    Some (record { name = name; from = from; action = deed.0; kind = matter.0; scopes = matter.1; allow = deed.1; owner = owner }))
     (from_in table))
     (name_in table))
+    (owner_in table))
     (matter_in table))
     (deed_in table)
 
--- the rule that a table is: it has just these keys
-abbrev pub rule_of_table : Members → Option Rule
-rule_of_table table = if list_all is_rule_key (keys_of table) then rule_with table else None
+-- the rule that a table is: it has no other key than those of its version
+abbrev pub rule_of_table : Version → Members → Option Rule
+rule_of_table version table = if list_all (is_rule_key version) (keys_of table) then rule_with table else None
 
-abbrev pub rule_in : Data → Option Rule
-rule_in d = option_and_then rule_of_table (as_table d)
+abbrev pub rule_in : Version → Data → Option Rule
+rule_in version d = option_and_then (rule_of_table version) (as_table d)
 
 -- the rules that values are, of which the first has this number; at fault is the first that is none
-abbrev pub rules_from : ℕ → List Data → Result SiteRules RuleFault
-rules_from n [] = Ok []
-rules_from n (d ∷ ds) = option_map_or (λ r. read_map (λ rs. r ∷ rs) (rules_from (n + 1) ds)) (rule_in d) (Err (Shape n))
+abbrev pub rules_from : Version → ℕ → List Data → Result SiteRules RuleFault
+rules_from version n [] = Ok []
+rules_from version n (d ∷ ds) = option_map_or (λ r. read_map (λ rs. r ∷ rs) (rules_from version (n + 1) ds)) (rule_in version d) (Err (Shape n))
 
 -- no two have one name
 abbrev pub are_named_once : SiteRules → Bool
@@ -187,9 +212,9 @@ named_once rs = if are_named_once rs then Ok rs else Err TwiceName
 abbrev pub is_file_key : List ℕ → Bool
 is_file_key key = list_any (bytes_eq key) (version_key ∷ rule_key ∷ [])
 
--- version 1, and no other key
-abbrev pub is_file : Members → Bool
-is_file table = is_some (option_and_then (number_in 1 1) (get_member version_key table)) && list_all is_file_key (keys_of table)
+-- the version of a file: it has no other key
+abbrev pub file_version : Members → Option Version
+file_version table = if list_all is_file_key (keys_of table) then version_in table else None
 
 -- the values of its rules, none where the key is missing
 abbrev pub all_values_in : Members → Option (List Data)
@@ -203,7 +228,7 @@ rule_values_in table =
 -- What a table says: first the file itself is asked for, then rule after rule, last that no two have one name.
 unfoldable pub rules_in_table : Members → Result SiteRules RuleFault
 rules_in_table table =
-    if is_file table then option_map_or (λ ds. read_then named_once (rules_from 1 ds)) (rule_values_in table) (Err (Shape 0)) else Err (Shape 0)
+    option_map_or (λ version. option_map_or (λ ds. read_then named_once (rules_from version 1 ds)) (rule_values_in table) (Err (Shape 0))) (file_version table) (Err (Shape 0))
 
 abbrev pub rules_in_document : Option Members → Result SiteRules RuleFault
 rules_in_document None = Err Toml

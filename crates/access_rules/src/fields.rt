@@ -6,11 +6,12 @@ ghost use Rattle.std.specs.Option.{option_copied, option_map};
 ghost use Rattle.toml.specs.Data.{get_member};
 ghost use Rattle.toml.specs.View.{table_view, view};
 ghost use Rattle.access_rules.specs.RuleFiles as spec;
-ghost use Rattle.access_rules.specs.RuleFiles.{action_in, action_named, comma_ended, from_in, is_every_scope, is_scope_name, kind_in, kind_named, listed_scopes, name_in, prefix_in, scope_name_in, scopes_in, scopes_listed, verdict_in, verdict_named};
+ghost use Rattle.access_rules.specs.RuleFiles.{action_in, action_named, comma_ended, from_in, is_every_scope, is_scope_name, kind_in, kind_named, listed_scopes, name_in, owner_in, prefix_in, scope_name_in, scopes_in, scopes_listed, verdict_in, verdict_named, version_in, version_numbered};
 ghost use Rattle.access_rules.specs.Tables as tables;
 ghost use Rattle.access_rules.specs.Tables.{each_in, keys_of};
 
 use crate::rule::{Action, Prefix};
+use crate::version::Version;
 use service_url::{ServiceType, UrlFault};
 use slp_text::{NoMemory, Row, ScopeList, Text, TextFault};
 use std::alloc::Global;
@@ -151,6 +152,16 @@ pub fn verdict(table: &Table) -> Option<bool>
     verdict_of(text_at(table, "verdict")?)
 }
 
+/// Whether it is about owners alone, which it is not where nothing says so.
+pub fn owner(table: &Table) -> Option<bool>
+    ensures { result ≡ owner_in (table_view table.now) }
+{
+    match value_at(table, "owner") {
+        Some(value) => value.as_bool(),
+        None => Some(false),
+    }
+}
+
 fn kind_of(alloc: Global, text: &str) -> Result<Option<Option<ServiceType>>, NoMemory>
     ensures { IfOk result (λ o. o ≡ kind_named text.now) }
 {
@@ -257,13 +268,33 @@ pub fn scopes(alloc: Global, table: &Table) -> Result<Option<Option<ScopeList>>,
     }
 }
 
-fn is_rule_key(key: &str) -> bool
-    ensures { result ≡ spec.is_rule_key key.now }
+/// The version that a table names.
+pub fn version(table: &Table) -> Option<Version>
+    ensures { result ≡ version_in (table_view table.now) }
+{
+    match value_at(table, "version")?.as_integer()? {
+        1 => Some(Version::One),
+        2 => Some(Version::Two),
+        _ => None,
+    }
+}
+
+fn is_common_key(key: &str) -> bool
+    ensures { result ≡ spec.is_common_key key.now }
 {
     matches!(
         key,
         "name" | "from" | "action" | "type" | "scopes" | "verdict"
     )
+}
+
+fn is_rule_key(version: Version, key: &str) -> bool
+    ensures { result ≡ spec.is_rule_key version key.now }
+{
+    match version {
+        Version::One => is_common_key(key),
+        Version::Two => is_common_key(key) || key == "owner",
+    }
 }
 
 fn is_file_key(key: &str) -> bool
@@ -272,18 +303,18 @@ fn is_file_key(key: &str) -> bool
     matches!(key, "version" | "rule")
 }
 
-fn are_rule_keys(table: &Table) -> bool
-    ensures { result ≡ list_all (λ key. spec.is_rule_key (string_bytes key)) (keys table.now) }
+fn are_rule_keys(version: Version, table: &Table) -> bool
+    ensures { result ≡ list_all (λ key. spec.is_rule_key version (string_bytes key)) (keys table.now) }
 {
-    table.keys().all(|key| is_rule_key(key.as_str()))
+    table.keys().all(|key| is_rule_key(version, key.as_str()))
 }
 
-/// Whether a table has no key but those of a rule.
+/// Whether a table has no key but those of a rule in a file of this version.
 #[tactic(auto, using(crate::proofs::KeysOfTables::test_keys))]
-pub fn has_rule_keys(table: &Table) -> bool
-    ensures { result ≡ list_all spec.is_rule_key (keys_of (table_view table.now)) }
+pub fn has_rule_keys(version: Version, table: &Table) -> bool
+    ensures { result ≡ list_all (spec.is_rule_key version) (keys_of (table_view table.now)) }
 {
-    are_rule_keys(table)
+    are_rule_keys(version, table)
 }
 
 fn are_file_keys(table: &Table) -> bool

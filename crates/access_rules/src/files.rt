@@ -12,6 +12,7 @@ use crate::fault::RuleFault;
 use crate::fields;
 use crate::rule::{Action, Rule};
 use crate::rules::Rules;
+use crate::version::Version;
 use service_url::ServiceType;
 use slp_text::{NoMemory, ScopeList};
 use std::alloc::Global;
@@ -58,6 +59,9 @@ fn rule_of(alloc: Global, table: &Table) -> Result<Option<Rule>, NoMemory>
     let Some((kind, scopes)) = matter(alloc, table)? else {
         return Ok(None);
     };
+    let Some(owner) = fields::owner(table) else {
+        return Ok(None);
+    };
     let Some(name) = fields::name(alloc, table)? else {
         return Ok(None);
     };
@@ -69,30 +73,31 @@ fn rule_of(alloc: Global, table: &Table) -> Result<Option<Rule>, NoMemory>
             kind,
             scopes,
             allow,
+            owner,
         })),
         None => Ok(None),
     }
 }
 
 // The rule that a value is.
-fn rule(alloc: Global, value: &Value) -> Result<Option<Rule>, NoMemory>
-    ensures { IfOk result (λ o. o ≡ rule_in (view value.now)) }
+fn rule(alloc: Global, version: Version, value: &Value) -> Result<Option<Rule>, NoMemory>
+    ensures { IfOk result (λ o. o ≡ rule_in version (view value.now)) }
 {
     match value.as_table() {
-        Some(table) if fields::has_rule_keys(table) => rule_of(alloc, table),
+        Some(table) if fields::has_rule_keys(version, table) => rule_of(alloc, table),
         _ => Ok(None),
     }
 }
 
 // The rules that values are, of which the first is rule 1.
 #[tactic(auto, using(crate::proofs::ReadRules::read_rule))]
-fn rules(alloc: Global, values: &[Value]) -> Result<Vec<Rule>, RuleFault>
+fn rules(alloc: Global, version: Version, values: &[Value]) -> Result<Vec<Rule>, RuleFault>
     requires { length values.now ≤ 1024 }
-    ensures { IsReading (read_map (λ v. v.items) result) (rules_from 1 (map view values.now)) }
+    ensures { IsReading (read_map (λ v. v.items) result) (rules_from version 1 (map view values.now)) }
 {
     let mut rules = Vec::new(alloc);
     for (i, value) in values.iter().enumerate() {
-        match rule(alloc, value)? {
+        match rule(alloc, version, value)? {
             Some(rule) => rules.push(rule)?,
             None => return Err(RuleFault::Shape(i + 1)),
         }
@@ -117,14 +122,14 @@ fn are_named_once(rules: &[Rule]) -> bool
     true
 }
 
-// Whether a table has the version of a rule file, and no key besides.
-fn is_file(table: &Table) -> bool
-    ensures { result ≡ spec.is_file (table_view table.now) }
+// The version of a rule file, if a table has no key besides those of one.
+fn file_version(table: &Table) -> Option<Version>
+    ensures { result ≡ spec.file_version (table_view table.now) }
 {
-    match fields::value_at(table, "version") {
-        Some(version) => version.as_integer() == Some(1) && fields::has_file_keys(table),
-        None => false,
+    if !fields::has_file_keys(table) {
+        return None;
     }
+    fields::version(table)
 }
 
 // The values of the rules, none where there is no key.
@@ -149,20 +154,21 @@ fn rule_values(table: &Table) -> Option<&[Value]>
 }
 
 impl Rules {
-    /// The rules that a table is: `version = 1` and an array `rule` of tables, each of which has just
-    /// `name`, `from`, `action`, `type`, `scopes` and `verdict`. First the file is asked for, then rule
-    /// after rule (`Shape`), last that no two rules have one name (`TwiceName`).
+    /// The rules that a table is: `version = 1` or `2`, and an array `rule` of tables, each of which has
+    /// `name`, `from`, `action`, `type`, `scopes` and `verdict`, and in version 2 `owner` if it is wanted.
+    /// First the file is asked for, then rule after rule (`Shape`), last that no two rules have one name
+    /// (`TwiceName`).
     #[tactic(auto, unfolding(crate::specs::RuleFiles::rules_in_table))]
     pub fn from_table(alloc: Global, table: &Table) -> Result<Rules, RuleFault>
         ensures { IsReading result (rules_in_table (table_view table.now)) }
     {
-        if !is_file(table) {
+        let Some(version) = file_version(table) else {
             return Err(RuleFault::Shape(0));
-        }
+        };
         let Some(values) = rule_values(table) else {
             return Err(RuleFault::Shape(0));
         };
-        let rules = rules(alloc, values)?;
+        let rules = rules(alloc, version, values)?;
         if !are_named_once(&rules) {
             return Err(RuleFault::TwiceName);
         }

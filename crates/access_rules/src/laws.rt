@@ -1,7 +1,11 @@
 //! What holds of every list of rules. The functions do nothing: their contracts are the laws.
-ghost use Rattle.std.specs.Prelude.{◌≡◌, ◌≢◌, ◌<◌, ◌&&◌, ℕ, true, false, List, slice_get, Some, None};
-ghost use Rattle.std.specs.List.{list_any};
-ghost use Rattle.access_rules.specs.Deciding.{Deed, SiteRules, deciding, fits, rules_in};
+ghost use Rattle.std.specs.Prelude.{◌≡◌, ◌≢◌, ◌<◌, ◌&&◌, ℕ, true, false, List, slice_get, Some, None, Ok};
+ghost use Rattle.std.specs.List.{list_all, list_any};
+ghost use Rattle.toml.specs.Data.{Members};
+ghost use Rattle.access_rules.specs.Deciding.{Deed, SiteRules, deciding, deed, fits, is_own, is_owners, is_without_owners, rules_in};
+ghost use Rattle.access_rules.specs.RuleFiles.{rules_in_table, version_in};
+ghost use Rattle.access_rules.specs.declared.rule.Action.{Action};
+ghost use Rattle.access_rules.specs.declared.version.Version.TheVariants.{One};
 ghost use Rattle.access_rules.specs.declared.rule.Rule.{Rule};
 
 /// The rule that decides fits, its word is the verdict, and no rule before it fits.
@@ -24,4 +28,20 @@ pub fn a_covered_rule_never_decides()
     ensures { (rules : SiteRules) (first later : ℕ) (wide narrow : Rule) → first < later → slice_get (rules_in rules) first ≡ Some wide → slice_get (rules_in rules) later ≡ Some narrow
         → ((d : Deed) (scope : List ℕ) → fits d scope narrow ≡ true → fits d scope wide ≡ true)
         → (d : Deed) (scope : List ℕ) → (deciding rules d scope).rule ≢ Some later }
+{}
+
+/// Where each rule about an action is about owners alone, nobody is allowed it with what another registered.
+pub fn owners_alone_are_allowed()
+    ensures { (rules : SiteRules) (d : Deed) (scope : List ℕ) → list_all (is_owners d.action) (rules_in rules) ≡ true → is_own d ≡ false → (deciding rules d scope).allow ≡ false }
+{}
+
+/// Rules without owners decide the same whoever registered.
+pub fn without_owners_nobody_is_asked_for()
+    ensures { (rules : SiteRules) (asker : ℕ) (action : Action) (kind : List ℕ) (one other : ℕ) (scope : List ℕ) → is_without_owners rules ≡ true
+        → deciding rules (deed asker action kind one) scope ≡ deciding rules (deed asker action kind other) scope }
+{}
+
+/// A file of version 1 has no rules about owners.
+pub fn the_first_version_has_no_owners()
+    ensures { (table : Members) (rules : SiteRules) → version_in table ≡ Some One → rules_in_table table ≡ Ok rules → is_without_owners rules ≡ true }
 {}

@@ -9,8 +9,10 @@ mod files;
 pub mod laws;
 mod rule;
 mod rules;
+mod version;
 
 pub use address::{Addr, number};
 pub use fault::RuleFault;
 pub use rule::{Action, Deed, Prefix, Rule};
 pub use rules::{Rules, Verdict};
+pub use version::Version;

@@ -16,12 +16,14 @@ pub enum Action {
     See,
 }
 
-/// What is asked of the rules, but for the scope: who asks, to do what, and of which type.
+/// What is asked of the rules, but for the scope: who asks, to do what, of which type, and who
+/// registered it.
 #[derive(Clone, Copy)]
 pub struct Deed<'a> {
     pub asker: Addr,
     pub action: Action,
     pub kind: &'a ServiceType,
+    pub registrant: Addr,
 }
 
 /// The addresses whose first bits are these, as in `10.0.0.0/8`.
@@ -81,6 +83,8 @@ pub struct Rule {
     /// `None` is every scope.
     pub scopes: Option<ScopeList>,
     pub allow: bool,
+    /// Whether it is about what the asker registered, and about nothing else.
+    pub owner: bool,
 }
 
 #[inline(always)]
@@ -128,5 +132,6 @@ impl Rule {
             && self.is_from(deed.asker)
             && self.is_of_kind(deed.kind)
             && self.is_in_scope(scope)
+            && (!self.owner || deed.asker.0 == deed.registrant.0)
     }
 }

@@ -99,8 +99,15 @@ impl Rules {
     }
 
     /// The same, where what is asked comes in parts.
-    pub fn decide(&self, asker: Addr, action: Action, kind: &ServiceType, scope: &Key) -> Verdict
-        ensures value { result ≡ deciding self.now (deed asker action kind.now) scope.now }
+    pub fn decide(
+        &self,
+        asker: Addr,
+        action: Action,
+        kind: &ServiceType,
+        scope: &Key,
+        registrant: Addr,
+    ) -> Verdict
+        ensures value { result ≡ deciding self.now (deed asker action kind.now registrant) scope.now }
         ensures within { IfSome result.rule (λ place. place < number self.now) }
     {
         self.verdict(
@@ -108,6 +115,7 @@ impl Rules {
                 asker,
                 action,
                 kind,
+                registrant,
             },
             scope,
         )

@@ -7,8 +7,8 @@ use Rattle.access_rules.proofs.files.rules.Goals as goal
 -- the rule that was read stands after those so far
 pub loop-i-preserved : goal.loop-i-preserved
 loop-i-preserved c =
-    let is : rule_in (view (get_or c.args.values.now c.loop-i.i c.index-values-i.result)) ≡ Some c.in-Some.rule =
-    ap (λ v. rule_in (view v)) (sym c.index-values-i.is) ∙ (sym c.in_ok-rule.ensures ∙ c.in-Some.is) in
-    let step = read_step c.args.values.now c.loop-i.i c.index-values-i.result c.loop-i.rules.items c.in-Some.rule (omega arith) is in
+    let is : rule_in c.args.version (view (get_or c.args.values.now c.loop-i.i c.index-values-i.result)) ≡ Some c.in-Some.rule =
+    ap (λ v. rule_in c.args.version (view v)) (sym c.index-values-i.is) ∙ (sym c.in_ok-rule.ensures ∙ c.in-Some.is) in
+    let step = read_step c.args.version c.args.values.now c.loop-i.i c.index-values-i.result c.loop-i.rules.items c.in-Some.rule (omega arith) is in
     let pushed : c.push.new.self.items ≡ c.loop-i.rules.items ++ c.in-Some.rule ∷ [] = c.in_ok-push-in-Some.ensures.items in
     rw pushed (sym step ∙ c.loop-i.invariant)

@@ -1,0 +1,158 @@
+-- Rules about owners, and rules without them.
+use Rattle.std.proofs.Common.{◌≡◌, ℕ, ◌+◌, Bool, true, false, cond, List, [], ◌∷◌, length, Option, Some, None, refl, sym, ap, ap₂, subst, ◌∙◌}
+use Rattle.std.specs.Prelude.{◌&&◌, ◌||◌, not, nat_lt, position, Result, Ok, Err, option_and_then}
+use Rattle.std.specs.List.{list_all, list_any, prefix_len}
+use Rattle.std.specs.Option.{option_map_or}
+use Rattle.std.specs.Ordering.{match_ordering, nat_cmp}
+use Rattle.std.specs.Cmp.Lexicographic.{slice_cmp}
+use Rattle.std.specs.declared.cmp.Ordering.TheVariants.{Less, Equal, Greater}
+use Rattle.std.proofs.lemmas.Bool.{and_parts}
+use Rattle.std.proofs.lemmas.Map.Lookups.{exact_bytes}
+use Rattle.std.proofs.lemmas.Option.{none-some, same_Some}
+use Rattle.toml.specs.Data.{Data, as_bool, as_table, Members, no_members, member, get_member}
+use Rattle.slp_text.specs.Reading.{read_map, read_then}
+use Rattle.access_rules.specs.Deciding.{Deed, SiteRules, action_eq, allows_kind, allows_scope, deciding, deed, fits, holds, is_own, is_owners, is_without_owners, rules_in, verdict_at}
+use Rattle.access_rules.specs.RuleFiles.{are_named_once, deed_in, from_in, is_common_key, is_file_key, matter_in, name_in, named_once, owner_key, rule_in, rule_of_table, rule_values_in, rule_with, rules_from, rules_in_table, version_in}
+use Rattle.access_rules.specs.Tables.{keys_of}
+use Rattle.access_rules.specs.declared.fault.RuleFault.{RuleFault}
+use Rattle.access_rules.specs.declared.fault.RuleFault.TheVariants.{Shape, TwiceName}
+use Rattle.access_rules.specs.declared.rule.Action.{Action}
+use Rattle.access_rules.specs.declared.rule.Prefix.{Prefix}
+use Rattle.access_rules.specs.declared.rule.Rule.{Rule}
+use Rattle.access_rules.specs.declared.version.Version.{Version}
+use Rattle.access_rules.specs.declared.version.Version.TheVariants.{One}
+use Rattle.access_rules.proofs.DecidingRules.{no_rule_allows}
+
+-- ---- owners alone
+
+and-none : (a b : Bool) → b ≡ false → (a && b) ≡ false
+and-none true b h = h
+and-none false b h = refl
+
+none-and : (a b : Bool) → a ≡ false → (a && b) ≡ false
+none-and true b h = cc
+none-and false b h = refl
+
+true-false : {A : Type 0} (b : Bool) → b ≡ true → b ≡ false → A
+true-false true h k = absurd cc
+true-false false h k = absurd cc
+
+-- a rule about owners fits no deed of another
+owners-miss : (d : Deed) (scope : List ℕ) (r : Rule) → is_owners d.action r ≡ true → is_own d ≡ false → fits d scope r ≡ false
+owners-miss d scope r owners other =
+    let from = list_any (λ p. holds p d.asker) r.from in
+    let kind = allows_kind r.kind d.kind in
+    let scoped = allows_scope r.scopes scope in
+    elim (action_eq r.action d.action) as (λ b. action_eq r.action d.action ≡ b → (not b || r.owner) ≡ true → ((((from && b) && kind) && scoped) && (not r.owner || is_own d)) ≡ false) [
+      | true ↦ λ e is. and-none (((from && true) && kind) && scoped) (not r.owner || is_own d) (ap₂ (λ a b. not a || b) is other)
+      | false ↦ λ e is. none-and (((from && false) && kind) && scoped) (not r.owner || is_own d) (none-and ((from && false) && kind) scoped (none-and (from && false) kind (and-none from false refl)))
+    ] refl owners
+
+none-fits : (d : Deed) (scope : List ℕ) (rules : List Rule) → list_all (is_owners d.action) rules ≡ true → is_own d ≡ false → list_any (λ r. fits d scope r && r.allow) rules ≡ false
+none-fits d scope [] owners other = refl
+none-fits d scope (r ∷ rs) owners other =
+    let parts = and_parts (is_owners d.action r) (list_all (is_owners d.action) rs) owners in
+    ap₂ ◌||◌ (none-and (fits d scope r) r.allow (owners-miss d scope r parts.0 other)) (none-fits d scope rs parts.1 other)
+
+pub owners-alone : (rules : SiteRules) (d : Deed) (scope : List ℕ) → list_all (is_owners d.action) (rules_in rules) ≡ true → is_own d ≡ false → (deciding rules d scope).allow ≡ false
+owners-alone rules d scope owners other = no_rule_allows rules d scope (none-fits d scope rules owners other)
+
+-- ---- without owners
+
+same-fit : (asker : ℕ) (action : Action) (kind : List ℕ) (one other : ℕ) (scope : List ℕ) (r : Rule) → not r.owner ≡ true → fits (deed asker action kind one) scope r ≡ fits (deed asker action kind other) scope r
+same-fit asker action kind one other scope r plain =
+    ap (λ b. ((((list_any (λ p. holds p asker) r.from && action_eq r.action action) && allows_kind r.kind kind) && allows_scope r.scopes scope) && (b || is_own (deed asker action kind one)))) plain
+    ∙ sym (ap (λ b. ((((list_any (λ p. holds p asker) r.from && action_eq r.action action) && allows_kind r.kind kind) && allows_scope r.scopes scope) && (b || is_own (deed asker action kind other)))) plain)
+
+same-prefix : (p q : Rule → Bool) → ((r : Rule) → not r.owner ≡ true → p r ≡ q r) → (rules : List Rule) → list_all (λ r. not r.owner) rules ≡ true → prefix_len (λ r. not (p r)) rules ≡ prefix_len (λ r. not (q r)) rules
+same-prefix p q same [] plain = refl
+same-prefix p q same (r ∷ rs) plain =
+    let parts = and_parts (not r.owner) (list_all (λ x. not x.owner) rs) plain in
+    ap₂ (λ b n. cond (not b) (1 + n) 0) (same r parts.0) (same-prefix p q same rs parts.1)
+
+same-place : (asker : ℕ) (action : Action) (kind : List ℕ) (one other : ℕ) (scope : List ℕ) (rules : List Rule) → list_all (λ r. not r.owner) rules ≡ true
+    → position (fits (deed asker action kind one) scope) rules ≡ position (fits (deed asker action kind other) scope) rules
+same-place asker action kind one other scope rules plain =
+    ap (λ n. cond (nat_lt n (length rules)) (Some n) None) (same-prefix (fits (deed asker action kind one) scope) (fits (deed asker action kind other) scope) (same-fit asker action kind one other scope) rules plain)
+
+pub whoever-registered : (rules : SiteRules) (asker : ℕ) (action : Action) (kind : List ℕ) (one other : ℕ) (scope : List ℕ) → is_without_owners rules ≡ true
+    → deciding rules (deed asker action kind one) scope ≡ deciding rules (deed asker action kind other) scope
+whoever-registered rules asker action kind one other scope plain = ap (verdict_at rules) (same-place asker action kind one other scope rules plain)
+
+-- ---- version 1
+
+equal_key : (k : List ℕ) → slice_cmp nat_cmp owner_key k ≡ Equal → is_common_key k ≡ true → ⊥
+equal_key k e common = let same = exact_bytes owner_key k e in let no : is_common_key owner_key ≡ true = subst (λ (x : List ℕ). is_common_key x ≡ true) (sym same) common in cc
+
+no-owner : (table : Members) → list_all is_common_key (keys_of table) ≡ true → get_member owner_key table ≡ None
+no-owner no_members common = refl
+no-owner (member k d ms) common =
+    let parts = and_parts (is_common_key k) (list_all is_common_key (keys_of ms)) common in
+    elim (slice_cmp nat_cmp owner_key k) as (λ o. slice_cmp nat_cmp owner_key k ≡ o → match_ordering o (get_member owner_key ms) (Some d) (get_member owner_key ms) ≡ None) [
+      | Less ↦ λ e. no-owner ms parts.1
+      | Equal ↦ λ e. absurd (equal_key k e parts.0)
+      | Greater ↦ λ e. no-owner ms parts.1
+    ] refl
+
+abbrev rule_made : Option (Action × Bool) → Option (Option (List ℕ) × Option (List (List ℕ))) → Option Bool → Option (List ℕ) → Option (List Prefix) → Option Rule
+rule_made deed matter owner name from =
+    option_and_then (λ d. option_and_then (λ m. option_and_then (λ o. option_and_then (λ n. option_and_then (λ f.
+    Some (record { name = n; from = f; action = d.0; kind = m.0; scopes = m.1; allow = d.1; owner = o })) from) name) owner) matter) deed
+
+made-plain : (deed : Option (Action × Bool)) (matter : Option (Option (List ℕ) × Option (List (List ℕ)))) (name : Option (List ℕ)) (from : Option (List Prefix)) (r : Rule) → rule_made deed matter (Some false) name from ≡ Some r → r.owner ≡ false
+made-plain None matter name from r is = absurd (none-some r is)
+made-plain (Some d) None name from r is = absurd (none-some r is)
+made-plain (Some d) (Some m) None from r is = absurd (none-some r is)
+made-plain (Some d) (Some m) (Some n) None r is = absurd (none-some r is)
+made-plain (Some d) (Some m) (Some n) (Some f) r is = ap (λ (x : Rule). x.owner) (sym (same_Some _ r is))
+
+table-plain : (table : Members) (r : Rule) → rule_of_table One table ≡ Some r → r.owner ≡ false
+table-plain table r =
+    elim (list_all is_common_key (keys_of table)) as (λ b. list_all is_common_key (keys_of table) ≡ b → cond b (rule_with table) None ≡ Some r → r.owner ≡ false) [
+      | true ↦ λ common is.
+          made-plain (deed_in table) (matter_in table) (name_in table) (from_in table) r
+          (ap (λ o. rule_made (deed_in table) (matter_in table) o (name_in table) (from_in table)) (ap (λ (o : Option Data). option_map_or as_bool o (Some false)) (sym (no-owner table common))) ∙ is)
+      | false ↦ λ other is. absurd (none-some r is)
+    ] refl
+
+rule-plain : (o : Option Members) (r : Rule) → option_and_then (rule_of_table One) o ≡ Some r → r.owner ≡ false
+rule-plain None r is = absurd (none-some r is)
+rule-plain (Some table) r is = table-plain table r is
+
+err-ok : {A : Type 0} (f : RuleFault) (rules : SiteRules) → ◌≡◌ {A = Result SiteRules RuleFault} (Err f) (Ok rules) → A
+err-ok f rules is = absurd cc
+
+same-ok : (a b : SiteRules) → ◌≡◌ {A = Result SiteRules RuleFault} (Ok a) (Ok b) → a ≡ b
+same-ok a b is = cc
+
+read-plain : (o : Option Rule) (rest : Result SiteRules RuleFault) (n : ℕ) (rules : SiteRules) → ((r : Rule) → o ≡ Some r → r.owner ≡ false) → ((rs : SiteRules) → rest ≡ Ok rs → is_without_owners rs ≡ true)
+    → option_map_or (λ r. read_map (λ rs. r ∷ rs) rest) o (Err (Shape n)) ≡ Ok rules → is_without_owners rules ≡ true
+read-plain None rest n rules first later is = err-ok (Shape n) rules is
+read-plain (Some r) (Err f) n rules first later is = err-ok f rules is
+read-plain (Some r) (Ok rs) n rules first later is =
+    subst (λ (x : SiteRules). is_without_owners x ≡ true) (same-ok (r ∷ rs) rules is)
+    (ap₂ (λ a b. not a && b) (first r refl) (later rs refl))
+
+from-plain : (n : ℕ) (ds : List Data) (rules : SiteRules) → rules_from One n ds ≡ Ok rules → is_without_owners rules ≡ true
+from-plain n [] rules is = subst (λ (x : SiteRules). is_without_owners x ≡ true) (same-ok [] rules is) refl
+from-plain n (d ∷ ds) rules is = read-plain (rule_in One d) (rules_from One (n + 1) ds) n rules (λ r. rule-plain (as_table d) r) (from-plain (n + 1) ds) is
+
+once-plain : (read : Result SiteRules RuleFault) (rules : SiteRules) → ((rs : SiteRules) → read ≡ Ok rs → is_without_owners rs ≡ true) → read_then named_once read ≡ Ok rules → is_without_owners rules ≡ true
+once-plain (Err f) rules each = λ is. err-ok f rules is
+once-plain (Ok rs) rules each =
+    elim (are_named_once rs) as (λ b. cond b (Ok rs) (Err TwiceName) ≡ Ok rules → is_without_owners rules ≡ true) [
+      | true ↦ λ is. subst (λ (x : SiteRules). is_without_owners x ≡ true) (same-ok rs rules is) (each rs refl)
+      | false ↦ λ is. err-ok TwiceName rules is
+    ]
+
+values-plain : (o : Option (List Data)) (rules : SiteRules) → option_map_or (λ ds. read_then named_once (rules_from One 1 ds)) o (Err (Shape 0)) ≡ Ok rules → is_without_owners rules ≡ true
+values-plain None rules is = err-ok (Shape 0) rules is
+values-plain (Some ds) rules is = once-plain (rules_from One 1 ds) rules (from-plain 1 ds) is
+
+pub first-version : (table : Members) (rules : SiteRules) → version_in table ≡ Some One → rules_in_table table ≡ Ok rules → is_without_owners rules ≡ true
+unfolding rules_in_table
+first-version table rules one =
+    elim (list_all is_file_key (keys_of table)) as (λ b. option_map_or (λ version. option_map_or (λ ds. read_then named_once (rules_from version 1 ds)) (rule_values_in table) (Err (Shape 0))) (cond b (version_in table) None) (Err (Shape 0)) ≡ Ok rules → is_without_owners rules ≡ true) [
+      | true ↦ λ is. values-plain (rule_values_in table) rules (ap (λ (o : Option Version). option_map_or (λ version. option_map_or (λ ds. read_then named_once (rules_from version 1 ds)) (rule_values_in table) (Err (Shape 0))) o (Err (Shape 0))) (sym one) ∙ is)
+      | false ↦ λ is. err-ok (Shape 0) rules is
+    ]

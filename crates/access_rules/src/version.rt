@@ -1,0 +1,9 @@
+//! Versions of rule files: each says which keys a rule may have.
+
+/// The version of a rule file.
+#[derive(Clone, Copy, Debug, PartialEq, Eq)]
+pub enum Version {
+    One,
+    /// A rule may be about owners (`owner`).
+    Two,
+}
