@@ -158,24 +158,24 @@ is_some-map : {A B : Type 0} (f : A → B) (o : Option A) → is_some (option_ma
 is_some-map f None = refl
 is_some-map f (Some x) = refl
 
-pub is_kept-denial : (rules : SiteRules) (asker : ℕ) (e : Entry) → is_kept rules asker e ≡ is_some (denial_of rules (deed asker Withdraw e.kind) e.scopes)
+pub is_kept-denial : (rules : SiteRules) (asker : ℕ) (e : Entry) → is_kept rules asker e ≡ is_some (denial_of rules (deed asker Withdraw e.kind e.owner) e.scopes)
 is_kept-denial rules asker e =
-    sym (is_some-map (by_rule rules (deed asker Withdraw e.kind)) (find (is_denied rules (deed asker Withdraw e.kind)) e.scopes) ∙ is_some-find (is_denied rules (deed asker Withdraw e.kind)) e.scopes)
+    sym (is_some-map (by_rule rules (deed asker Withdraw e.kind e.owner)) (find (is_denied rules (deed asker Withdraw e.kind e.owner)) e.scopes) ∙ is_some-find (is_denied rules (deed asker Withdraw e.kind e.owner)) e.scopes)
 
 none-of : (o : Option Because) → is_some o ≡ false → o ≡ None
 none-of None h = refl
 none-of (Some b) h = cc
 
-pub not-kept : (rules : SiteRules) (asker : ℕ) (e : Entry) → is_kept rules asker e ≡ false → denial_of rules (deed asker Withdraw e.kind) e.scopes ≡ None
-not-kept rules asker e h = none-of (denial_of rules (deed asker Withdraw e.kind) e.scopes) (sym (is_kept-denial rules asker e) ∙ h)
+pub not-kept : (rules : SiteRules) (asker : ℕ) (e : Entry) → is_kept rules asker e ≡ false → denial_of rules (deed asker Withdraw e.kind e.owner) e.scopes ≡ None
+not-kept rules asker e h = none-of (denial_of rules (deed asker Withdraw e.kind e.owner) e.scopes) (sym (is_kept-denial rules asker e) ∙ h)
 
 -- an entry's ruling says whether it may be withdrawn
 kept-ruling_on : (g : Grounds) (r : RuledEntry) → IsRuling g r → is_kept g.rules g.asker (entry_in r) ≡ not r.ruling.verdict.allow
 kept-ruling_on g r is =
     is_kept-denial g.rules g.asker (entry_in r)
-    ∙ (elim (r.ruling.verdict.allow) as (λ b. r.ruling.verdict.allow ≡ b → is_some (denial_of g.rules (deed g.asker Withdraw (entry_in r).kind) (entry_in r).scopes) ≡ not b) [
-      | true ↦ λ t. ap is_some (ruling-allowed g.rules (deed g.asker Withdraw (entry_in r).kind) (entry_in r).scopes r.ruling is t)
-      | false ↦ λ t. ap is_some (ruling-denied g.rules (deed g.asker Withdraw (entry_in r).kind) (entry_in r).scopes r.ruling is t)
+    ∙ (elim (r.ruling.verdict.allow) as (λ b. r.ruling.verdict.allow ≡ b → is_some (denial_of g.rules (deed g.asker Withdraw (entry_in r).kind (entry_in r).owner) (entry_in r).scopes) ≡ not b) [
+      | true ↦ λ t. ap is_some (ruling-allowed g.rules (deed g.asker Withdraw (entry_in r).kind (entry_in r).owner) (entry_in r).scopes r.ruling is t)
+      | false ↦ λ t. ap is_some (ruling-denied g.rules (deed g.asker Withdraw (entry_in r).kind (entry_in r).owner) (entry_in r).scopes r.ruling is t)
     ] refl)
 
 -- ---- a walk with one more
@@ -233,6 +233,6 @@ module _ (g : Grounds) (scopes : List (List ℕ)) (walk : Walk) where
       first = earlier_entry-meets (IsRuling g) walk.first r ruling_on.first is;
       kept = elim (r.ruling.verdict.allow) as (λ b. r.ruling.verdict.allow ≡ b → IfSome (cond b walk.kept (Some (earlier_ruling walk.kept r))) (IsDenial g)) [
         | true ↦ λ t. ruling_on.kept
-        | false ↦ λ t. earlier_entry-meets (IsDenial g) walk.kept r ruling_on.kept (ruling-denied g.rules (deed g.asker Withdraw (entry_in r).kind) (entry_in r).scopes r.ruling is t)
+        | false ↦ λ t. earlier_entry-meets (IsDenial g) walk.kept r ruling_on.kept (ruling-denied g.rules (deed g.asker Withdraw (entry_in r).kind (entry_in r).owner) (entry_in r).scopes r.ruling is t)
       ] refl;
     }

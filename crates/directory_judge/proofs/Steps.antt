@@ -34,7 +34,7 @@ use Rattle.directory_judge.specs.Withdrawals.{withdrawal_of_texts}
 
 module _ (g : Grounds) (h : Header) (r : Registration) (t : Particulars) where
   accepts : Judgement
-  accepts = Accepts (record { moment = g.now; act = act_of h r t }) (allowance g t)
+  accepts = Accepts (record { moment = g.now; act = act_of g h r t }) (allowance g t)
 
   -- what is judged by the pair
   by_pair : Option Judgement
@@ -45,11 +45,11 @@ module _ (g : Grounds) (h : Header) (r : Registration) (t : Particulars) where
 
   -- the entry that is named
   abbrev entry_in : Entry
-  entry_in = record { url = r.entry.url; language = key_of h.language; kind = t.kind; scopes = t.scopes; attrs = t.attrs; deadline = g.now + r.entry.lifetime }
+  entry_in = record { url = r.entry.url; language = key_of h.language; kind = t.kind; scopes = t.scopes; attrs = t.attrs; deadline = g.now + r.entry.lifetime; owner = g.asker }
 
-  act-of : IsActOf g.now h.flags.fresh entry_in (act_of h r t)
-  act-of = elim (h.flags.fresh) as (λ b. IsActOf g.now b entry_in (cond b (Put (putting_of h r t)) (Set (setting_of h r t)))) [
-    | true ↦ (putting_of h r t, refl, refl)
+  act-of : IsActOf g.now h.flags.fresh entry_in (act_of g h r t)
+  act-of = elim (h.flags.fresh) as (λ b. IsActOf g.now b entry_in (cond b (Put (putting_of g h r t)) (Set (setting_of h r t)))) [
+    | true ↦ (putting_of g h r t, refl, refl)
     | false ↦ (setting_of h r t, refl, record { pair = refl; attributes = refl; deadline = refl })
   ]
 
@@ -61,32 +61,32 @@ module _ (g : Grounds) (h : Header) (r : Registration) (t : Particulars) where
     not_empty : (length t.scopes == 0) ≡ false
     not_empty = grind (arith, nat_tests)
 
-    judgement-allowed : denial_of g.rules (deed g.asker Register t.kind) t.scopes ≡ None → judgement_of_particulars g h r t ≡ unwrap_or by_pair accepts
+    judgement-allowed : denial_of g.rules (deed g.asker Register t.kind g.asker) t.scopes ≡ None → judgement_of_particulars g h r t ≡ unwrap_or by_pair accepts
     unfolding by_pair accepts
     judgement-allowed allowed =
         ap (λ b. unwrap_or (option_or (cond b (Some (denial (by_step decider.Scope (Some t.kind)))) None) (option_or (denial_of_new g t) by_pair)) accepts) not_empty
         ∙ ap (λ d. unwrap_or (option_or (option_map denial d) by_pair) accepts) allowed
 
-    pub judgement-denied : (b : Because) → denial_of g.rules (deed g.asker Register t.kind) t.scopes ≡ Some b → judgement_of_particulars g h r t ≡ denial b
+    pub judgement-denied : (b : Because) → denial_of g.rules (deed g.asker Register t.kind g.asker) t.scopes ≡ Some b → judgement_of_particulars g h r t ≡ denial b
     unfolding by_pair accepts
     judgement-denied b is =
         ap (λ b. unwrap_or (option_or (cond b (Some (denial (by_step decider.Scope (Some t.kind)))) None) (option_or (denial_of_new g t) by_pair)) accepts) not_empty
         ∙ ap (λ d. unwrap_or (option_or (option_map denial d) by_pair) accepts) is
 
     -- what the steps come to that look at an entry's pair
-    pub IsJudgement-named : (e : Entry) (b : Because) (j : Judged) → denial_of g.rules (deed g.asker Register t.kind) t.scopes ≡ None → t.url ≡ r.entry.url
-        → e ≡ record { url = t.url; language = key_of h.language; kind = t.kind; scopes = t.scopes; attrs = t.attrs; deadline = g.now + r.entry.lifetime }
+    pub IsJudgement-named : (e : Entry) (b : Because) (j : Judged) → denial_of g.rules (deed g.asker Register t.kind g.asker) t.scopes ≡ None → t.url ≡ r.entry.url
+        → e ≡ record { url = t.url; language = key_of h.language; kind = t.kind; scopes = t.scopes; attrs = t.attrs; deadline = g.now + r.entry.lifetime; owner = g.asker }
         → b ≡ allowance g t → IsJudgedNamed g h.flags.fresh e b j → IsJudgement g.live j (judgement_of_particulars g h r t)
     unfolding by_pair accepts
     IsJudgement-named e b j allowed named is by_first by =
-        let made : e ≡ entry_in = is ∙ ap (λ url. record { url = url; language = key_of h.language; kind = t.kind; scopes = t.scopes; attrs = t.attrs; deadline = g.now + r.entry.lifetime }) named in
+        let made : e ≡ entry_in = is ∙ ap (λ url. record { url = url; language = key_of h.language; kind = t.kind; scopes = t.scopes; attrs = t.attrs; deadline = g.now + r.entry.lifetime; owner = g.asker }) named in
         let at : IsJudgedNamed g h.flags.fresh entry_in (allowance g t) j = subst (λ x. IsJudgedNamed g h.flags.fresh entry_in x j) by_first (subst (λ x. IsJudgedNamed g h.flags.fresh x b j) made by) in
         let same : ◌≡◌ {A = Particulars} (particulars_named entry_in) t = λ i. record { url = sym named i; kind = t.kind; scopes = t.scopes; attrs = t.attrs } in
         subst (IsJudgement g.live j) (sym (judgement-allowed allowed))
         (subst (λ (x : Particulars). IsJudgement g.live j (unwrap_or
         (option_or (denial_of_live g h.flags.fresh x (fin.get g.live (pair_in h r)))
         (option_or (denial_of_template g x.kind (resulting_attributes h.flags.fresh x (fin.get g.live (pair_in h r))))
-        (denial_of_room g (pair_in h r) x))) accepts)) same (at (act_of h r t) act-of))
+        (denial_of_room g (pair_in h r) x))) accepts)) same (at (act_of g h r t) act-of))
 
 -- ---- a withdrawal
 
@@ -125,10 +125,10 @@ module _ (g : Grounds) (language : List ℕ) (tags : List Part) (w : Withdrawn) 
 -- ---- a withdrawal of tags
 
 pub tagged-some : (g : Grounds) (q : Pair) (tags : List Part) (scopes : List (List ℕ)) (e : Entry) → fin.get g.live q ≡ Some e → e.scopes ≡ scopes
-    → judgement_of_removal g q tags scopes ≡ unwrap_or (option_or (denial_in g Withdraw e.kind e.scopes) (denial_of_template g e.kind (attributes_without e.attrs tags))) (Accepts (removal_event g q tags) (release g e))
+    → judgement_of_removal g q tags scopes ≡ unwrap_or (option_or (denial_in g Withdraw e.kind e.owner e.scopes) (denial_of_template g e.kind (attributes_without e.attrs tags))) (Accepts (removal_event g q tags) (release g e))
 tagged-some g q tags scopes e found same =
     ap (judgement_of_tagged g q tags scopes) found
-    ∙ ap (λ b. cond b (unwrap_or (option_or (denial_in g Withdraw e.kind e.scopes) (denial_of_template g e.kind (attributes_without e.attrs tags))) (Accepts (removal_event g q tags) (release g e))) (denial_by decider.Scope))
+    ∙ ap (λ b. cond b (unwrap_or (option_or (denial_in g Withdraw e.kind e.owner e.scopes) (denial_of_template g e.kind (attributes_without e.attrs tags))) (Accepts (removal_event g q tags) (release g e))) (denial_by decider.Scope))
     (ap (λ ss. texts_eq ss scopes) same ∙ texts_itself scopes)
 
 -- ---- the step of the template

@@ -33,9 +33,9 @@ moment_in (Withdraws moment w) = moment
 moment_in (Sweeps moment) = moment
 moment_in (Reloads moment rules) = moment
 
--- the entry that a registration founds at a moment
+-- the entry that a registration founds at a moment: its owner is who asked for it
 abbrev pub entry_of : ℕ → Putting → Entry
-entry_of moment p = record { url = p.url; language = p.language; kind = p.kind; scopes = p.scopes; attrs = p.attributes; deadline = moment + p.lifetime }
+entry_of moment p = record { url = p.url; language = p.language; kind = p.kind; scopes = p.scopes; attrs = p.attributes; deadline = moment + p.lifetime; owner = p.asker }
 
 -- an entry that an update sets at a moment: the tags that it names hold what it says, the others what they held
 abbrev pub entry_set : ℕ → Setting → Entry → Entry

@@ -5,8 +5,9 @@ use Rattle.access_rules.specs.Deciding.{SiteRules}
 use Rattle.attr_list.specs.Lists.{Attributes}
 use Rattle.slp_text.specs.Tags.{Part}
 
--- a registration
+-- a registration, and who asked for it
 pub record Putting : Type 0 where
+  pub asker : ℕ
   pub url : List ℕ
   pub language : List ℕ
   pub kind : List ℕ

@@ -121,8 +121,8 @@ denial because = Denies (code_by because.decider) because
 abbrev pub denial_of : SiteRules → Deed → List (List ℕ) → Option Because
 denial_of rules d scopes = option_map (by_rule rules d) (find (is_denied rules d) scopes)
 
-abbrev pub denial_in : Grounds → Action → List ℕ → List (List ℕ) → Option Judgement
-denial_in g action kind scopes = option_map denial (denial_of g.rules (deed g.asker action kind) scopes)
+abbrev pub denial_in : Grounds → Action → List ℕ → ℕ → List (List ℕ) → Option Judgement
+denial_in g action kind registrant scopes = option_map denial (denial_of g.rules (deed g.asker action kind registrant) scopes)
 
 -- what decides on a deed in some scopes, if there are any: what denies it in the first of them in which it is denied, else what allows it in the first of all
 abbrev pub ruling_on : SiteRules → Deed → List (List ℕ) → Option (Result Because Because)
@@ -189,14 +189,14 @@ supports site scope = list_any (λ s. bytes_eq s scope) site.scopes
 abbrev pub denial_of_scopes : Particulars → Option Judgement
 denial_of_scopes t = if length t.scopes == 0 then Some (denial (by_step decider.Scope (Some t.kind))) else None
 
--- its type may not be registered in some scope
+-- its type may not be registered in some scope by its asker, who is to be its registrant
 abbrev pub denial_of_new : Grounds → Particulars → Option Judgement
-denial_of_new g t = denial_in g Register t.kind t.scopes
+denial_of_new g t = denial_in g Register t.kind g.asker t.scopes
 
--- nor may what a fresh one would replace
+-- nor may what it would replace or update, which its own registrant registered
 abbrev pub denial_of_old : Grounds → Option Entry → Option Judgement
 denial_of_old g None = None
-denial_of_old g (Some e) = denial_in g Register e.kind e.scopes
+denial_of_old g (Some e) = denial_in g Register e.kind e.owner e.scopes
 
 -- what an update is of must be live, and of just its type and scopes
 abbrev pub denial_of_update : Particulars → Option Entry → Option Judgement
@@ -206,9 +206,9 @@ denial_of_update t (Some e) =
     else if not (texts_eq e.scopes t.scopes) then Some (denial (by_step decider.Scope (Some t.kind)))
     else None
 
--- what is live of the pair speaks against a fresh registration, or against an update
+-- what is live of the pair speaks against an update, or it may not be registered
 abbrev pub denial_of_live : Grounds → Bool → Particulars → Option Entry → Option Judgement
-denial_of_live g fresh t o = if fresh then denial_of_old g o else denial_of_update t o
+denial_of_live g fresh t o = option_or (if fresh then None else denial_of_update t o) (denial_of_old g o)
 
 -- The attributes that an entry would have: those that are named, and of an update the others that what it updates has.
 abbrev pub resulting_attributes : Bool → Particulars → Option Entry → Attributes
@@ -223,20 +223,20 @@ abbrev pub denial_of_room : Grounds → Pair → Particulars → Option Judgemen
 denial_of_room g q t = if is_none (fin.get g.live q) && (nat_le g.site.capacity (fin.len g.live)) then Some (denial (by_step decider.Full (Some t.kind))) else None
 
 -- the registration that is made
-abbrev pub putting_of : Header → Registration → Particulars → Putting
-putting_of h r t = record { url = r.entry.url; language = key_of h.language; kind = t.kind; scopes = t.scopes; attributes = t.attrs; lifetime = r.entry.lifetime }
+abbrev pub putting_of : Grounds → Header → Registration → Particulars → Putting
+putting_of g h r t = record { asker = g.asker; url = r.entry.url; language = key_of h.language; kind = t.kind; scopes = t.scopes; attributes = t.attrs; lifetime = r.entry.lifetime }
 
 -- the update that is made
 abbrev pub setting_of : Header → Registration → Particulars → Setting
 setting_of h r t = record { url = r.entry.url; language = key_of h.language; attributes = t.attrs; lifetime = r.entry.lifetime }
 
 -- a fresh registration founds an entry, another updates one
-abbrev pub act_of : Header → Registration → Particulars → Act
-act_of h r t = if h.flags.fresh then Put (putting_of h r t) else history.Set (setting_of h r t)
+abbrev pub act_of : Grounds → Header → Registration → Particulars → Act
+act_of g h r t = if h.flags.fresh then Put (putting_of g h r t) else history.Set (setting_of h r t)
 
 -- what decided on the first stored scope
 abbrev pub allowance : Grounds → Particulars → Because
-allowance g t = by_rule g.rules (deed g.asker Register t.kind) (unwrap_or (slice_get t.scopes 0) [])
+allowance g t = by_rule g.rules (deed g.asker Register t.kind g.asker) (unwrap_or (slice_get t.scopes 0) [])
 
 abbrev pub judgement_of_particulars : Grounds → Header → Registration → Particulars → Judgement
 judgement_of_particulars g h r t =
@@ -246,7 +246,7 @@ judgement_of_particulars g h r t =
     (option_or (denial_of_live g h.flags.fresh t (fin.get g.live (pair_in h r)))
     (option_or (denial_of_template g t.kind (resulting_attributes h.flags.fresh t (fin.get g.live (pair_in h r))))
     (denial_of_room g (pair_in h r) t)))))
-    (Accepts (record { moment = g.now; act = act_of h r t }) (allowance g t))
+    (Accepts (record { moment = g.now; act = act_of g h r t }) (allowance g t))
 
 abbrev pub judgement_of_reading : Grounds → Header → Registration → Result Particulars Judgement → Judgement
 judgement_of_reading g h r (Ok t) = judgement_of_particulars g h r t
@@ -275,16 +275,16 @@ first_of = first_from None
 
 -- some scope of it is one in which its type may not be withdrawn
 abbrev pub is_kept : SiteRules → ℕ → Entry → Bool
-is_kept rules asker e = list_any (is_denied rules (deed asker Withdraw e.kind)) e.scopes
+is_kept rules asker e = list_any (is_denied rules (deed asker Withdraw e.kind e.owner)) e.scopes
 
 -- who denies an entry's withdrawal in the first of its scopes in which there is a denial
 abbrev pub denial_of_kept : Grounds → Option Entry → Option Judgement
 denial_of_kept g None = None
-denial_of_kept g (Some e) = denial_in g Withdraw e.kind e.scopes
+denial_of_kept g (Some e) = denial_in g Withdraw e.kind e.owner e.scopes
 
 -- what decided on an entry's first scope
 abbrev pub release : Grounds → Entry → Because
-release g e = by_rule g.rules (deed g.asker Withdraw e.kind) (unwrap_or (slice_get e.scopes 0) [])
+release g e = by_rule g.rules (deed g.asker Withdraw e.kind e.owner) (unwrap_or (slice_get e.scopes 0) [])
 
 abbrev pub withdrawal_event : Grounds → List ℕ → List (List ℕ) → Event
 withdrawal_event g url scopes = record { moment = g.now; act = history.Withdraw (record { url = url; scopes = scopes }) }
@@ -316,7 +316,7 @@ abbrev pub judgement_of_tagged : Grounds → Pair → List Part → List (List �
 judgement_of_tagged g q tags scopes None = Ignores
 judgement_of_tagged g q tags scopes (Some e) =
     if texts_eq e.scopes scopes
-    then unwrap_or (option_or (denial_in g Withdraw e.kind e.scopes) (denial_of_template g e.kind (attributes_without e.attrs tags))) (Accepts (removal_event g q tags) (release g e))
+    then unwrap_or (option_or (denial_in g Withdraw e.kind e.owner e.scopes) (denial_of_template g e.kind (attributes_without e.attrs tags))) (Accepts (removal_event g q tags) (release g e))
     else denial_by decider.Scope
 
 abbrev pub judgement_of_removal : Grounds → Pair → List Part → List (List ℕ) → Judgement

@@ -93,11 +93,12 @@ founding q h = unless_withdrawn (since_put q h) (last_that (put_of q) h)
 abbrev pub tag_at : Pair → List ℕ → History → Option (Option Held)
 tag_at q tag h = last_that (held_of q tag) h
 
--- An entry stands: its type and scopes are its founding's, each tag holds what the last event says that speaks of it, and the deadline is what the last
+-- An entry stands: its owner, type and scopes are its founding's, each tag holds what the last event says that speaks of it, and the deadline is what the last
 -- event says that sets one.
 pub record Stands (h : History) (e : Entry) : Type 0 where
   pub by : Putting
   pub founded : founding (pair_of e) h ≡ Some by
+  pub owner : e.owner ≡ by.asker
   pub kind : e.kind ≡ by.kind
   pub scopes : e.scopes ≡ by.scopes
   pub attributes : (tag : List ℕ) → tag_at (pair_of e) tag h ≡ Some (fin.get e.attrs tag)

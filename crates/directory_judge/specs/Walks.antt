@@ -42,11 +42,11 @@ walk_with walk r = record {
 
 -- the ruling is what the rules say of the entry's withdrawal
 abbrev pub IsRuling : Grounds → RuledEntry → Type 0
-IsRuling g r = ruling_on g.rules (deed g.asker Withdraw r.entry.now.kind) r.entry.now.scopes ≡ Some (ruling_in r.ruling)
+IsRuling g r = ruling_on g.rules (deed g.asker Withdraw r.entry.now.kind r.entry.now.owner) r.entry.now.scopes ≡ Some (ruling_in r.ruling)
 
 -- the ruling denies the entry's withdrawal
 abbrev pub IsDenial : Grounds → RuledEntry → Type 0
-IsDenial g r = denial_of g.rules (deed g.asker Withdraw r.entry.now.kind) r.entry.now.scopes ≡ Some (because_in r.ruling)
+IsDenial g r = denial_of g.rules (deed g.asker Withdraw r.entry.now.kind r.entry.now.owner) r.entry.now.scopes ≡ Some (because_in r.ruling)
 
 -- what a walk keeps was ruled on, and what is kept back was denied
 pub record IsRuledWalk (g : Grounds) (walk : Walk) : Type 0 where

@@ -39,16 +39,17 @@ impl<'a, R: Registry> Model for Grounds<'a, R> {
 }
 
 impl<'a, R: Registry> Grounds<'a, R> {
-    /// What the rules say of an action on a type in some scopes, if there are any: what denies it in the
-    /// first of them, in key order, in which it is denied, else what allows it in the first of all.
+    /// What the rules say of an action on what a registrant has of a type in some scopes, if there are
+    /// any: what denies it in the first of them, in key order, in which it is denied, else what allows it in the first of all.
     /// Each scope is asked once, and no memory is taken.
     pub fn rule<'b>(
         &self,
         action: Action,
         kind: &'b ServiceType,
         scopes: &'b ScopeList,
+        registrant: Addr,
     ) -> Option<Ruling<'b>>
-        ensures { option_map ruling_in result ≡ ruling_on self.now.rules (deed self.now.asker action kind.now) scopes.now }
+        ensures { option_map ruling_in result ≡ ruling_on self.now.rules (deed self.now.asker action kind.now registrant) scopes.now }
     {
         let mut first = None;
         for place in 0..scopes.len() {
@@ -57,6 +58,7 @@ impl<'a, R: Registry> Grounds<'a, R> {
                     asker: self.asker,
                     action,
                     kind,
+                    registrant,
                 };
                 let verdict = self.rules.verdict(&deed, scope);
                 let ruling = Ruling {

@@ -22,12 +22,12 @@ use std::alloc::Global;
 use std::sync::Arc;
 
 impl<'a, R: Registry> Grounds<'a, R> {
-    // What denies that an entry is replaced, if there is one.
-    fn replacing_denial(&self, old: Option<&'a Entry>) -> Option<Reason<'a>>
+    // What denies that an entry is replaced or updated, if there is one.
+    pub(crate) fn replacing_denial(&self, old: Option<&'a Entry>) -> Option<Reason<'a>>
         ensures { option_map (λ r. spec.denial (because_of r)) result ≡ denial_of_old self.now (option_copied old.entry) }
     {
         let old = old?;
-        match self.rule(Action::Register, &old.kind, &old.scopes) {
+        match self.rule(Action::Register, &old.kind, &old.scopes, old.owner) {
             Some(ruling) if !ruling.verdict.allow => Some(ruling.reason()),
             _ => None,
         }
@@ -94,7 +94,7 @@ impl<'a, R: Registry> Grounds<'a, R> {
         registration: &RegistrationView<'_>,
         particulars: Particulars,
     ) -> Result<Entry, NoMemory>
-        ensures { IfOk result (λ e. e ≡ record { url = particulars.url; language = key_of header.now.language.now; kind = particulars.kind; scopes = particulars.scopes; attrs = particulars.attrs; deadline = self.now.now + registration.now.entry.lifetime }) }
+        ensures { IfOk result (λ e. e ≡ record { url = particulars.url; language = key_of header.now.language.now; kind = particulars.kind; scopes = particulars.scopes; attrs = particulars.attrs; deadline = self.now.now + registration.now.entry.lifetime; owner = self.now.asker }) }
     {
         let language = Key::of(alloc, header.language)?;
         let Particulars {
@@ -110,6 +110,7 @@ impl<'a, R: Registry> Grounds<'a, R> {
             scopes,
             attrs,
             deadline: u64::from(self.moment) + u64::from(registration.entry.lifetime),
+            owner: self.asker,
         })
     }
 
@@ -126,7 +127,7 @@ impl<'a, R: Registry> Grounds<'a, R> {
         ensures { IfOk result (λ j. IsJudgement self.now.live (judgement_in j) (judgement_of_particulars self.now (header_in header.now) (registration_in registration.now) particulars)) }
     {
         let named = self.named(alloc, header, registration, particulars)?;
-        match self.rule(Action::Register, &named.kind, &named.scopes) {
+        match self.rule(Action::Register, &named.kind, &named.scopes, named.owner) {
             None => {
                 let told = Decision::denied(
                     alloc,

@@ -29,6 +29,7 @@ fn remaining(alloc: Global, entry: &Entry, tags: &TagList) -> Result<Arc<Entry>,
         scopes: entry.scopes.copy(alloc)?,
         attrs,
         deadline: entry.deadline,
+        owner: entry.owner,
     };
     Ok(Arc::new(alloc, left)?)
 }
@@ -53,7 +54,7 @@ impl<R: Registry> Grounds<'_, R> {
         if old.scopes != withdrawn.scopes {
             return Ok(Decision::Denied(Because::by(Decider::Scope, None)));
         }
-        match self.rule(Action::Withdraw, &old.kind, &old.scopes) {
+        match self.rule(Action::Withdraw, &old.kind, &old.scopes, old.owner) {
             None => Ok(Decision::Denied(Because::by(Decider::Scope, None))),
             Some(ruling) if ruling.verdict.allow => {
                 let entry = remaining(alloc, old, tags)?;

@@ -16,15 +16,24 @@ use slp_text::NoMemory;
 use std::alloc::Global;
 use std::sync::Arc;
 
-// The entry that is named, with the other attributes of the one that it updates.
+// The entry that stands, with the attributes and the deadline that an update of it names.
 fn updated(alloc: Global, old: &Entry, named: Entry) -> Result<Arc<Entry>, NoMemory>
-    ensures { IfOk result (λ e. arc_value e ≡ record named { attrs = updated_attributes old.now.attrs named.attrs }) }
+    requires pair { pair_of named ≡ pair_of old.now }
+    requires kind { named.kind ≡ old.now.kind }
+    requires scopes { named.scopes ≡ old.now.scopes }
+    ensures { IfOk result (λ e. arc_value e ≡ record old.now { attrs = updated_attributes old.now.attrs named.attrs; deadline = named.deadline }) }
 {
     let attrs = match old.attrs.updated(alloc, &named.attrs) {
         Ok(attrs) => attrs,
         Err(_) => return Err(NoMemory),
     };
-    let entry = Entry { attrs, ..named };
+    // What is named is moved, and is the same as what stands.
+    let owner = old.owner;
+    let entry = Entry {
+        attrs,
+        owner,
+        ..named
+    };
     Ok(Arc::new(alloc, entry)?)
 }
 
@@ -63,6 +72,9 @@ impl<'a, R: Registry> Grounds<'a, R> {
         match self.updatable(&named) {
             Err(reason) => Decision::denied(alloc, reason),
             Ok(old) => {
+                if let Some(reason) = self.replacing_denial(Some(old)) {
+                    return Decision::denied(alloc, reason);
+                }
                 let entry = updated(alloc, old, named)?;
                 if !self.conforms(&entry.kind, &entry.attrs) {
                     return Decision::denied(

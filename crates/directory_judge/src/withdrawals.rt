@@ -115,7 +115,7 @@ impl<'a, R: Registry> Grounds<'a, R> {
         if entry.scopes != *scopes {
             return walk;
         }
-        match self.rule(Action::Withdraw, &entry.kind, &entry.scopes) {
+        match self.rule(Action::Withdraw, &entry.kind, &entry.scopes, entry.owner) {
             Some(ruling) => walk.with(RuledEntry { entry, ruling }),
             None => walk,
         }

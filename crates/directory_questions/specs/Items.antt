@@ -24,13 +24,13 @@ use Rattle.directory_questions.specs.declared.query.Target.{Target}
 use Rattle.directory_questions.specs.declared.query.Target.TheVariants.{Kind, Place}
 use Rattle.directory_questions.specs.declared.query.TypeQuery.{TypeQuery}
 
--- some scope of the entry, of the request and of the site is one in which the asker may see its type
+-- some scope of the entry, of the request and of the site is one in which the asker may see what its owner registered of its type
 pub record Open (rs : SiteRules) (site : Site) (asker : ℕ) (asked : List (List ℕ)) (e : Entry) : Type 0 where
   pub scope : List ℕ
   pub stored : Contains e.scopes scope
   pub requested : Contains asked scope
   pub supported : Contains site.scopes scope
-  pub allowed : IsTrue (deciding rs (deed asker See e.kind) scope).allow
+  pub allowed : IsTrue (deciding rs (deed asker See e.kind e.owner) scope).allow
 
 -- the entry is live, and open to the asker in the scopes that are asked for
 pub record IsOpenNow (from : Standpoint) (asked : List (List ℕ)) (e : Entry) : Type 0 where

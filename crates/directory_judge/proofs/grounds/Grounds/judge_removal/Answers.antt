@@ -27,7 +27,7 @@ returns-in-None g c =
     let on = c.args.self.now in
     let old = c.in-Some.old.now in
     let same = texts_same old.scopes c.args.withdrawn.now.scopes (not-false _ (sym c.ne.ensures ∙ c.if-ne.false)) in
-    let none : length old.scopes ≡ 0 = no-scopes old.scopes (ruling-none on.rules (deed on.asker Withdraw old.kind) old.scopes (sym c.rule.ensures ∙ ap (option_map ruling_in) c.in-None.is)).1 in
+    let none : length old.scopes ≡ 0 = no-scopes old.scopes (ruling-none on.rules (deed on.asker Withdraw old.kind old.owner) old.scopes (sym c.rule.ensures ∙ ap (option_map ruling_in) c.in-None.is)).1 in
     absurd (omega (arith, none, ap length same, c.requires.scoped))
 
 pub invariant_of-result : goal.invariant_of-result
@@ -49,7 +49,7 @@ returns-then-not-conforms g c =
     let found : fin.get on.live q ≡ Some old = ap (λ l. let p : Pair = (w.url, l) in fin.get on.live p) (sym c.in_ok-language.ensures) ∙ sym c.live_entry.ensures.value ∙ ap option_copied c.in-Some.is in
     let same = texts_same old.scopes w.scopes (not-false _ (sym c.ne.ensures ∙ c.if-ne.false)) in
     let ruled = sym c.rule.ensures ∙ ap (option_map ruling_in) c.in-Some-rule.is in
-    let allowed = ruling-allowed on.rules (deed on.asker Withdraw old.kind) old.scopes c.in-Some-rule.ruling ruled c.if-ruling.true in
+    let allowed = ruling-allowed on.rules (deed on.asker Withdraw old.kind old.owner) old.scopes c.in-Some-rule.ruling ruled c.if-ruling.true in
     let made : ◌≡◌ {A = Entry} (arc_value c.in_ok-entry-in-Some-rule.entry) (record old { attrs = attributes_without old.attrs tags }) = c.in_ok-entry-in-Some-rule.ensures in
     let fault : is_none (template_fault on.site.templates old.kind (attributes_without old.attrs tags)) ≡ false =
     ap (λ (x : Entry). is_none (template_fault on.site.templates old.kind x.attrs)) (sym (c.deref.ensures ∙ made)) ∙ sym c.conforms.ensures ∙ c.if-not-conforms.true in
@@ -71,12 +71,12 @@ returns-in-Some-rule g c =
     let found : fin.get on.live q ≡ Some old = ap (λ l. let p : Pair = (w.url, l) in fin.get on.live p) (sym c.in_ok-language.ensures) ∙ sym c.live_entry.ensures.value ∙ ap option_copied c.in-Some.is in
     let same = texts_same old.scopes w.scopes (not-false _ (sym c.ne.ensures ∙ c.if-ne.false)) in
     let ruled = sym c.rule.ensures ∙ ap (option_map ruling_in) c.in-Some-rule.is in
-    let allowed = ruling-allowed on.rules (deed on.asker Withdraw old.kind) old.scopes c.in-Some-rule.ruling ruled c.if-ruling.true in
+    let allowed = ruling-allowed on.rules (deed on.asker Withdraw old.kind old.owner) old.scopes c.in-Some-rule.ruling ruled c.if-ruling.true in
     let made : ◌≡◌ {A = Entry} (arc_value c.in_ok-entry-in-Some-rule.entry) (record old { attrs = attributes_without old.attrs tags }) = c.in_ok-entry-in-Some-rule.ensures in
     let conforms : is_none (template_fault on.site.templates old.kind (attributes_without old.attrs tags)) ≡ true =
     ap (λ (x : Entry). is_none (template_fault on.site.templates old.kind x.attrs)) (sym (c.deref.ensures ∙ made)) ∙ sym c.conforms.ensures ∙ c.if-not-conforms.false in
     let because : c.in_ok-because-in-Some-rule.because ≡ release on old =
-    c.in_ok-because-in-Some-rule.ensures ∙ c.reason.ensures ∙ ruling-first on.rules (deed on.asker Withdraw old.kind) old.scopes c.in-Some-rule.ruling ruled allowed in (
+    c.in_ok-because-in-Some-rule.ensures ∙ c.reason.ensures ∙ ruling-first on.rules (deed on.asker Withdraw old.kind old.owner) old.scopes c.in-Some-rule.ruling ruled allowed in (
       removal_event on q tags,
       tagged-some on q tags w.scopes old found same
           ∙ ap₂ (λ d t. unwrap_or (option_or (option_map denial d) t) (Accepts (removal_event on q tags) (release on old))) allowed (template-allows on old.kind (attributes_without old.attrs tags) conforms)

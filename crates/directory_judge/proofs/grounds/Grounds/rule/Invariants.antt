@@ -3,4 +3,4 @@ use Rattle.directory_judge.proofs.Rulings.{IsAsked}
 use Rattle.directory_judge.proofs.grounds.Grounds.rule.Given as goal
 
 abbrev pub invariant-loop-place : goal.invariant-loop-place
-invariant-loop-place g l = IsAsked l.self.rules (deed l.self.asker l.action l.kind) l.scopes l.first l.place
+invariant-loop-place g l = IsAsked l.self.rules (deed l.self.asker l.action l.kind l.registrant) l.scopes l.first l.place

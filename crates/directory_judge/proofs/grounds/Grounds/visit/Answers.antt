@@ -28,5 +28,5 @@ returns-in-None-clause-entry g c =
     let e = c.args.entry.now in
     let same : texts_eq e.scopes c.args.scopes.now ≡ true = not-false (texts_eq e.scopes c.args.scopes.now) (sym c.ne.ensures ∙ c.if-ne.false) in
     let long = as_long bytes_eq e.scopes c.args.scopes.now same in
-    let none = no-scopes e.scopes (ruling-none on.rules (deed on.asker Withdraw e.kind) e.scopes (sym c.rule.ensures ∙ ap (option_map ruling_in) c.in-None.is)).1 in
+    let none = no-scopes e.scopes (ruling-none on.rules (deed on.asker Withdraw e.kind e.owner) e.scopes (sym c.rule.ensures ∙ ap (option_map ruling_in) c.in-None.is)).1 in
     absurd (omega (arith, none, long, c.requires.some_scope))
