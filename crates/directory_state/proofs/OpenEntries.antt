@@ -173,9 +173,9 @@ module _ (o : Opening) (h : History) (s : State) (m asker n : ℕ) (scopes : Lis
   from-seen e has =
       let listed = listed-held p s.entries es l e (from-filter seen es e has) in
       let two = and_parts (outlives n e) (is_allowed (rules o.rules h) asker (asked_scopes o.site scopes) e) (sym (sees_there e) ∙ passes-filter seen es e has) in
-      let some = list_any-some (λ t. has_scope t e && (deciding (rules o.rules h) (deed asker See e.kind) t).allow) (asked_scopes o.site scopes) two.1 in
+      let some = list_any-some (λ t. has_scope t e && (deciding (rules o.rules h) (deed asker See e.kind e.owner) t).allow) (asked_scopes o.site scopes) two.1 in
       let scope = some.0 in
-      let three = and_parts (has_scope scope e) (deciding (rules o.rules h) (deed asker See e.kind) scope).allow some.2 in
+      let three = and_parts (has_scope scope e) (deciding (rules o.rules h) (deed asker See e.kind e.owner) scope).allow some.2 in
       let lives = ((fold.entries (pair_of e) e).0 listed.0).1 in
       record {
         opened = record {
@@ -196,7 +196,7 @@ module _ (o : Opening) (h : History) (s : State) (m asker n : ℕ) (scopes : Lis
       let open_to = a.opened.open_to in
       let got = (fold.entries (pair_of e) e).1 (refl, record { stands = a.opened.live.stands; lasts = omega (arith, a.opened.live.lasts) }) in
       let asked = Contains-filter (is_asked o.site scopes) o.site.scopes open_to.scope open_to.supported (contains-list_any scopes open_to.scope open_to.requested) in
-      let allowed = some-list_any (λ t. has_scope t e && (deciding (rules o.rules h) (deed asker See e.kind) t).allow) (asked_scopes o.site scopes) open_to.scope asked
+      let allowed = some-list_any (λ t. has_scope t e && (deciding (rules o.rules h) (deed asker See e.kind e.owner) t).allow) (asked_scopes o.site scopes) open_to.scope asked
       (ap₂ ◌&&◌ (contains-list_any e.scopes open_to.scope open_to.stored) open_to.allowed) in
       Contains-filter seen es e (held-listed p s.entries es l e got a.about)
       (sees_there e ∙ ap₂ ◌&&◌ (lt-ltb n e.deadline (omega (arith, at, a.opened.live.lasts))) allowed)

@@ -26,9 +26,9 @@ abbrev pub deadlines_with : List Entry → List UrlDeadline → List UrlDeadline
 deadlines_with [] ps = ps
 deadlines_with (e ∷ es) ps = deadlines_with es (with_deadline e.url e.deadline ps)
 
--- the entry stands in a scope, in which the asker may see its type
+-- the entry stands in a scope, in which the asker may see what its owner registered of its type
 abbrev pub is_open_in : SiteRules → ℕ → Entry → List ℕ → Bool
-is_open_in rules asker e s = has_scope s e && (deciding rules (deed asker See e.kind) s).allow
+is_open_in rules asker e s = has_scope s e && (deciding rules (deed asker See e.kind e.owner) s).allow
 
 -- it is so of one of the scopes
 abbrev pub is_allowed : SiteRules → ℕ → List (List ℕ) → Entry → Bool

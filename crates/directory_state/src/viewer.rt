@@ -41,7 +41,7 @@ fn is_of_last(found: &[&Entry], entry: &Entry) -> bool
 }
 
 impl Viewer<'_> {
-    // Whether an entry stands in a scope in which the asker may see its type.
+    // Whether an entry stands in a scope in which the asker may see what its owner registered of its type.
     #[inline(always)]
     fn is_open_in(&self, entry: &Entry, scope: &Key) -> bool
         ensures { result ≡ is_open_in self.now.rules.now self.now.asker entry.now scope.now }
@@ -50,6 +50,7 @@ impl Viewer<'_> {
             asker: self.asker,
             action: Action::See,
             kind: &entry.kind,
+            registrant: entry.owner,
         };
         entry.scopes.has(scope) && self.rules.verdict(&seeing, scope).allow
     }
