@@ -67,21 +67,21 @@ no-map : {A B : Type 0} (f : A → B) (o : Option A) → option_map f o ≡ None
 no-map f None h = refl
 no-map f (Some x) h = absurd (none-some (f x) (sym h))
 
-module _ (g : Grounds) (a : Action) (kind : List ℕ) (scopes : List (List ℕ)) where
-  ruled-in : denial_of g.rules (deed g.asker a kind) scopes ≡ None → IsRuledIn g a kind scopes
+module _ (g : Grounds) (a : Action) (kind : List ℕ) (registrant : ℕ) (scopes : List (List ℕ)) where
+  ruled-in : denial_of g.rules (deed g.asker a kind registrant) scopes ≡ None → IsRuledIn g a kind registrant scopes
   ruled-in none s has =
-      All-contains (IsAllowing g.rules (deed g.asker a kind)) scopes s
-      (all-allow g.rules (deed g.asker a kind) scopes (no-map (by_rule g.rules (deed g.asker a kind)) (find (is_denied g.rules (deed g.asker a kind)) scopes) none)) has
+      All-contains (IsAllowing g.rules (deed g.asker a kind registrant)) scopes s
+      (all-allow g.rules (deed g.asker a kind registrant) scopes (no-map (by_rule g.rules (deed g.asker a kind registrant)) (find (is_denied g.rules (deed g.asker a kind registrant)) scopes) none)) has
 
-  ruled-out_of : IsRuledIn g a kind scopes → denial_of g.rules (deed g.asker a kind) scopes ≡ None
+  ruled-out_of : IsRuledIn g a kind registrant scopes → denial_of g.rules (deed g.asker a kind registrant) scopes ≡ None
   ruled-out_of ruled =
-      ap (option_map (by_rule g.rules (deed g.asker a kind)))
-      (none-denies g.rules (deed g.asker a kind) scopes (All-weaker (Contains scopes) (IsAllowing g.rules (deed g.asker a kind)) ruled scopes (All-contains_itself scopes)))
+      ap (option_map (by_rule g.rules (deed g.asker a kind registrant)))
+      (none-denies g.rules (deed g.asker a kind registrant) scopes (All-weaker (Contains scopes) (IsAllowing g.rules (deed g.asker a kind registrant)) ruled scopes (All-contains_itself scopes)))
 
-  undenied : denial_in g a kind scopes ≡ None → IsRuledIn g a kind scopes
-  undenied none = ruled-in (no-map denial (denial_of g.rules (deed g.asker a kind) scopes) none)
+  undenied : denial_in g a kind registrant scopes ≡ None → IsRuledIn g a kind registrant scopes
+  undenied none = ruled-in (no-map denial (denial_of g.rules (deed g.asker a kind registrant) scopes) none)
 
-  no_denial : IsRuledIn g a kind scopes → denial_in g a kind scopes ≡ None
+  no_denial : IsRuledIn g a kind registrant scopes → denial_in g a kind registrant scopes ≡ None
   no_denial ruled = ap (option_map denial) (ruled-out_of ruled)
 
 -- ---- steps that deny, one after the other
@@ -140,30 +140,36 @@ old-none : (g : Grounds) (q : Pair) (o : Option Entry) → fin.get g.live q ≡ 
 old-none g q None is none e found = absurd (none-some e (sym is ∙ found))
 old-none g q (Some x) is none e found =
     let same = same_Some x e (sym is ∙ found) in
-    subst (λ (y : Entry). IsRuledIn g action.Register y.kind y.scopes) same (undenied g action.Register x.kind x.scopes none)
+    subst (λ (y : Entry). IsRuledIn g action.Register y.kind y.owner y.scopes) same (undenied g action.Register x.kind x.owner x.scopes none)
 
 none-old : (g : Grounds) (q : Pair) (o : Option Entry) → fin.get g.live q ≡ o → MayReplace g q → denial_of_old g o ≡ None
 none-old g q None is may = refl
-none-old g q (Some x) is may = no_denial g action.Register x.kind x.scopes (may x is)
+none-old g q (Some x) is may = no_denial g action.Register x.kind x.owner x.scopes (may x is)
 
 update-tests : (a b : Bool) (j k : Judgement) → cond (not a) (Some j) (cond (not b) (Some k) None) ≡ None → (a ≡ true) × (b ≡ true)
 update-tests true true j k h = (refl, refl)
 update-tests true false j k h = absurd (none-some k (sym h))
 update-tests false b j k h = absurd (none-some j (sym h))
 
-update-none : (g : Grounds) (q : Pair) (t : Particulars) (o : Option Entry) → fin.get g.live q ≡ o → denial_of_update t o ≡ None → MayUpdate g q t
+both-none : (a b : Option Judgement) → option_or a b ≡ None → (a ≡ None) × (b ≡ None)
+both-none None b h = (refl, h)
+both-none (Some j) b h = absurd (none-some j (sym h))
+
+update-none : (g : Grounds) (q : Pair) (t : Particulars) (o : Option Entry) → fin.get g.live q ≡ o → option_or (denial_of_update t o) (denial_of_old g o) ≡ None → MayUpdate g q t
 update-none g q t None is none = absurd (none-some _ (sym none))
 update-none g q t (Some e) is none =
-    let k = update-tests (bytes_eq e.kind t.kind) (texts_eq e.scopes t.scopes) (denial (by_step decider.Update (Some t.kind))) (denial (by_step decider.Scope (Some t.kind))) none in
-    record { entry = e; live = is; kind = bytes_same e.kind t.kind k.0; scopes = texts_same e.scopes t.scopes k.1 }
+    let both = both-none (denial_of_update t (Some e)) (denial_of_old g (Some e)) none in
+    let k = update-tests (bytes_eq e.kind t.kind) (texts_eq e.scopes t.scopes) (denial (by_step decider.Update (Some t.kind))) (denial (by_step decider.Scope (Some t.kind))) both.0 in
+    record { entry = e; live = is; kind = bytes_same e.kind t.kind k.0; scopes = texts_same e.scopes t.scopes k.1; ruled = undenied g action.Register e.kind e.owner e.scopes both.1 }
 
-none-update : (g : Grounds) (q : Pair) (t : Particulars) → MayUpdate g q t → denial_of_update t (fin.get g.live q) ≡ None
+none-update : (g : Grounds) (q : Pair) (t : Particulars) → MayUpdate g q t → option_or (denial_of_update t (fin.get g.live q)) (denial_of_old g (fin.get g.live q)) ≡ None
 none-update g q t may =
     let e = may.entry in
     let update : Judgement = denial (by_step decider.Update (Some t.kind)) in
     let other : Judgement = denial (by_step decider.Scope (Some t.kind)) in
-    ap (denial_of_update t) may.live
-    ∙ ap₂ (λ a b. cond (not a) (Some update) (cond (not b) (Some other) None)) (ap (λ k. bytes_eq k t.kind) may.kind ∙ bytes_itself t.kind) (ap (λ s. texts_eq s t.scopes) may.scopes ∙ texts_itself t.scopes)
+    ap (λ o. option_or (denial_of_update t o) (denial_of_old g o)) may.live
+    ∙ ap₂ (λ a b. option_or (cond (not a) (Some update) (cond (not b) (Some other) None)) (denial_of_old g (Some e))) (ap (λ k. bytes_eq k t.kind) may.kind ∙ bytes_itself t.kind) (ap (λ s. texts_eq s t.scopes) may.scopes ∙ texts_itself t.scopes)
+    ∙ no_denial g action.Register e.kind e.owner e.scopes may.ruled
 
 live-none : (g : Grounds) (fresh : Bool) (q : Pair) (t : Particulars) → denial_of_live g fresh t (fin.get g.live q) ≡ None → MayFollow fresh g q t
 live-none g true q t none = old-none g q (fin.get g.live q) refl none
@@ -204,7 +210,7 @@ module _ (g : Grounds) (q : Pair) (t : Particulars) where
 
 denying-old : (g : Grounds) (o : Option Entry) → IsDenying (denial_of_old g o)
 denying-old g None = tt
-denying-old g (Some e) = denying-map (denial_of g.rules (deed g.asker action.Register e.kind) e.scopes)
+denying-old g (Some e) = denying-map (denial_of g.rules (deed g.asker action.Register e.kind e.owner) e.scopes)
 
 update-denies : (a b : Bool) (x y : Because) → IsDenying (cond (not a) (Some (denial x)) (cond (not b) (Some (denial y)) None))
 update-denies true true x y = tt
@@ -215,9 +221,13 @@ denying-update : (t : Particulars) (o : Option Entry) → IsDenying (denial_of_u
 denying-update t None = tt
 denying-update t (Some e) = update-denies (bytes_eq e.kind t.kind) (texts_eq e.scopes t.scopes) (by_step decider.Update (Some t.kind)) (by_step decider.Scope (Some t.kind))
 
+denying-or : (a b : Option Judgement) → IsDenying a → IsDenying b → IsDenying (option_or a b)
+denying-or None b first second = second
+denying-or (Some j) b first second = first
+
 denying-live : (g : Grounds) (fresh : Bool) (t : Particulars) (o : Option Entry) → IsDenying (denial_of_live g fresh t o)
 denying-live g true t o = denying-old g o
-denying-live g false t o = denying-update t o
+denying-live g false t o = denying-or (denial_of_update t o) (denial_of_old g o) (denying-update t o) (denying-old g o)
 
 module _ (g : Grounds) (h : Header) (r : Registration) where
   named-allowed : (t : Particulars) (event : Event) (because : Because) → particulars g.site h r ≡ Ok t → judgement_of_particulars g h r t ≡ Accepts event because → RegistrationIsAllowed g h r event
@@ -225,13 +235,13 @@ module _ (g : Grounds) (h : Header) (r : Registration) where
       let q = pair_in h r in
       let live = fin.get g.live q in
       let attrs = resulting_attributes h.flags.fresh t live in
-      let accepts : Judgement = Accepts (record { moment = g.now; act = act_of h r t }) (allowance g t) in
+      let accepts : Judgement = Accepts (record { moment = g.now; act = act_of g h r t }) (allowance g t) in
       let by_room = denial_of_room g q t in
       let by_template = denial_of_template g t.kind attrs in
       let by_live = denial_of_live g h.flags.fresh t live in
       let by_rules = denial_of_new g t in
       let s = step-none (denial_of_scopes t) (option_or by_rules (option_or by_live (option_or by_template by_room))) accepts event because (denying-test (length t.scopes == 0) (by_step decider.Scope (Some t.kind))) is in
-      let n = step-none by_rules (option_or by_live (option_or by_template by_room)) accepts event because (denying-map (denial_of g.rules (deed g.asker action.Register t.kind) t.scopes)) s.1 in
+      let n = step-none by_rules (option_or by_live (option_or by_template by_room)) accepts event because (denying-map (denial_of g.rules (deed g.asker action.Register t.kind g.asker) t.scopes)) s.1 in
       let l = step-none by_live (option_or by_template by_room) accepts event because (denying-live g h.flags.fresh t live) n.1 in
       let c = step-none by_template by_room accepts event because (denying-test (is_some (template_fault g.site.templates t.kind attrs)) (by_step decider.Template (Some t.kind))) l.1 in
       let m = last-none by_room accepts event because (denying-test (is_none live && nat_le g.site.capacity (fin.len g.live)) (by_step decider.Full (Some t.kind))) c.1 in
@@ -239,7 +249,7 @@ module _ (g : Grounds) (h : Header) (r : Registration) where
         named = t;
         reads = reads;
         in_scope = in_scope-some t s.0;
-        ruled = undenied g action.Register t.kind t.scopes n.0;
+        ruled = undenied g action.Register t.kind g.asker t.scopes n.0;
         follows = live-none g h.flags.fresh q t l.0;
         conforms = template-none g t.kind attrs c.0;
         room = room-none g q t m.0;
@@ -252,7 +262,7 @@ module _ (g : Grounds) (h : Header) (r : Registration) where
       let q = pair_in h r in
       let live = fin.get g.live q in
       let attrs = resulting_attributes h.flags.fresh t live in
-      let accepts : Judgement = Accepts (record { moment = g.now; act = act_of h r t }) (allowance g t) in
+      let accepts : Judgement = Accepts (record { moment = g.now; act = act_of g h r t }) (allowance g t) in
       let by_room = denial_of_room g q t in
       let by_template = denial_of_template g t.kind attrs in
       let by_live = denial_of_live g h.flags.fresh t live in
@@ -260,7 +270,7 @@ module _ (g : Grounds) (h : Header) (r : Registration) where
         allowance g t,
         ap (judgement_of_reading g h r) may.reads
             ∙ ap (λ o. unwrap_or (option_or o (option_or by_rules (option_or by_live (option_or by_template by_room)))) accepts) (some-in_scope t may.in_scope)
-            ∙ ap (λ o. unwrap_or (option_or o (option_or by_live (option_or by_template by_room))) accepts) (no_denial g action.Register t.kind t.scopes may.ruled)
+            ∙ ap (λ o. unwrap_or (option_or o (option_or by_live (option_or by_template by_room))) accepts) (no_denial g action.Register t.kind g.asker t.scopes may.ruled)
             ∙ ap (λ o. unwrap_or (option_or o (option_or by_template by_room)) accepts) (none-live g h.flags.fresh q t may.follows)
             ∙ ap (λ o. unwrap_or (option_or o by_room) accepts) (none-template g t.kind attrs may.conforms)
             ∙ ap (λ o. unwrap_or o accepts) (none-room g q t may.room)
@@ -356,12 +366,12 @@ module _ (g : Grounds) (url : List ℕ) (scopes : List (List ℕ)) where
   kept-none (Some e) is none =
       let es = concerned_entries g url scopes in
       let stays = first-has (λ x. is_kept g.rules g.asker x ≡ true) None (filter (is_kept g.rules g.asker) es) e tt (filter_passes (is_kept g.rules g.asker) es) is in
-      absurd (some_or_none (denial_of g.rules (deed g.asker action.Withdraw e.kind) e.scopes) (sym (is_kept-denial g.rules g.asker e) ∙ stays)
-      (no-map denial (denial_of g.rules (deed g.asker action.Withdraw e.kind) e.scopes) none))
+      absurd (some_or_none (denial_of g.rules (deed g.asker action.Withdraw e.kind e.owner) e.scopes) (sym (is_kept-denial g.rules g.asker e) ∙ stays)
+      (no-map denial (denial_of g.rules (deed g.asker action.Withdraw e.kind e.owner) e.scopes) none))
 
   denying-kept : (kept : Option Entry) → IsDenying (denial_of_kept g kept)
   denying-kept None = tt
-  denying-kept (Some e) = denying-map (denial_of g.rules (deed g.asker action.Withdraw e.kind) e.scopes)
+  denying-kept (Some e) = denying-map (denial_of g.rules (deed g.asker action.Withdraw e.kind e.owner) e.scopes)
 
   entries-allowed : (first kept : Option Entry) (event : Event) (because : Because) → first_of (concerned_entries g url scopes) ≡ first → first_of (filter (is_kept g.rules g.asker) (concerned_entries g url scopes)) ≡ kept
       → judgement_of_entries g url scopes first kept ≡ Accepts event because → UrlIsReleased g url scopes event
@@ -374,7 +384,7 @@ module _ (g : Grounds) (url : List ℕ) (scopes : List (List ℕ)) where
       record {
         entry = f;
         concerned = first-has (Contains es) None es f tt (All-contains_itself es) first_is;
-        ruled = λ e has. ruled-in g action.Withdraw e.kind e.scopes (not-kept g.rules g.asker e (All-contains (λ x. is_kept g.rules g.asker x ≡ false) es e all has));
+        ruled = λ e has. ruled-in g action.Withdraw e.kind e.owner e.scopes (not-kept g.rules g.asker e (All-contains (λ x. is_kept g.rules g.asker x ≡ false) es e all has));
         is = sym (same_event (withdrawal_event g url scopes) event (release g f) because k.1);
       }
 
@@ -387,8 +397,8 @@ module _ (g : Grounds) (url : List ℕ) (scopes : List (List ℕ)) where
         | false ↦ λ is. cc
       ]
 
-  is_kept-ruled : (e : Entry) → IsRuledIn g action.Withdraw e.kind e.scopes → is_kept g.rules g.asker e ≡ false
-  is_kept-ruled e ruled = is_kept-denial g.rules g.asker e ∙ ap (λ (o : Option Because). is_some o) (ruled-out_of g action.Withdraw e.kind e.scopes ruled)
+  is_kept-ruled : (e : Entry) → IsRuledIn g action.Withdraw e.kind e.owner e.scopes → is_kept g.rules g.asker e ≡ false
+  is_kept-ruled e ruled = is_kept-denial g.rules g.asker e ∙ ap (λ (o : Option Because). is_some o) (ruled-out_of g action.Withdraw e.kind e.owner e.scopes ruled)
 
   first-accepts : (first : Option Entry) (event : Event) → first_of (concerned_entries g url scopes) ≡ first → UrlIsReleased g url scopes event → (because : Because) × (judgement_of_entries g url scopes first None ≡ Accepts event because)
   first-accepts None event is may = absurd (nothing-in may.entry (concerned_entries g url scopes) (first-none (concerned_entries g url scopes) is) may.concerned)
@@ -413,18 +423,18 @@ module _ (g : Grounds) (q : Pair) (tags : List Part) (scopes : List (List ℕ)) 
   tagged-allowed None event because found = λ is. cc
   tagged-allowed (Some e) event because found =
       let attrs = attributes_without e.attrs tags in
-      let by_rules = denial_in g action.Withdraw e.kind e.scopes in
+      let by_rules = denial_in g action.Withdraw e.kind e.owner e.scopes in
       let by_template = denial_of_template g e.kind attrs in
       let accepts : Judgement = Accepts (removal_event g q tags) (release g e) in
       elim (texts_eq e.scopes scopes) as (λ b. texts_eq e.scopes scopes ≡ b → cond b (unwrap_or (option_or by_rules by_template) accepts) (denial_by decider.Scope) ≡ Accepts event because → TagsAreReleased g q tags scopes event) [
         | true ↦ λ t is.
-            let r = step-none by_rules by_template accepts event because (denying-map (denial_of g.rules (deed g.asker action.Withdraw e.kind) e.scopes)) is in
+            let r = step-none by_rules by_template accepts event because (denying-map (denial_of g.rules (deed g.asker action.Withdraw e.kind e.owner) e.scopes)) is in
             let c = last-none by_template accepts event because (denying-test (is_some (template_fault g.site.templates e.kind attrs)) (by_step decider.Template (Some e.kind))) r.1 in
             record {
               entry = e;
               live = found;
               same = texts_same e.scopes scopes t;
-              ruled = undenied g action.Withdraw e.kind e.scopes r.0;
+              ruled = undenied g action.Withdraw e.kind e.owner e.scopes r.0;
               conforms = template-none g e.kind attrs c.0;
               is = sym (same_event (removal_event g q tags) event (release g e) because c.1);
             }
@@ -436,12 +446,12 @@ module _ (g : Grounds) (q : Pair) (tags : List Part) (scopes : List (List ℕ)) 
       let e = may.entry in
       let attrs = attributes_without e.attrs tags in
       let by_template = denial_of_template g e.kind attrs in
-      let by_rules = denial_in g action.Withdraw e.kind e.scopes in
+      let by_rules = denial_in g action.Withdraw e.kind e.owner e.scopes in
       let accepts : Judgement = Accepts (removal_event g q tags) (release g e) in (
         release g e,
         ap (judgement_of_tagged g q tags scopes) may.live
             ∙ ap (λ b. cond b (unwrap_or (option_or by_rules by_template) accepts) (denial_by decider.Scope)) (ap (λ ss. texts_eq ss scopes) may.same ∙ texts_itself scopes)
-            ∙ ap (λ o. unwrap_or (option_or o by_template) accepts) (no_denial g action.Withdraw e.kind e.scopes may.ruled)
+            ∙ ap (λ o. unwrap_or (option_or o by_template) accepts) (no_denial g action.Withdraw e.kind e.owner e.scopes may.ruled)
             ∙ ap (λ o. unwrap_or o accepts) (none-template g e.kind attrs may.conforms)
             ∙ ap (λ x. Accepts x (release g e)) (sym may.is),
       )

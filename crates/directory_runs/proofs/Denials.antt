@@ -124,12 +124,12 @@ module _ (rs : SiteRules) (d : Deed) where
         | false ↦ λ f h. subst (λ z. (deciding rs d z).allow ≡ false) (same_Some x s h) f
       ] refl
 
-module _ (g : Grounds) (function : ℕ) (kind : List ℕ) (scopes : List (List ℕ)) where
+module _ (g : Grounds) (function : ℕ) (kind : List ℕ) (registrant : ℕ) (scopes : List (List ℕ)) where
   abbrev asked : Deed
-  asked = deed g.asker (action_of function) kind
+  asked = deed g.asker (action_of function) kind registrant
 
   ruled_out : (s : List ℕ) → (deciding g.rules asked s).allow ≡ false → IsRuledOut g.rules g.asker function (by_rule g.rules asked s)
-  ruled_out s denied = record { kind = kind; scope = s; of_kind = refl; in_scope = refl; denied = denied; by = refl }
+  ruled_out s denied = record { kind = kind; registrant = registrant; scope = s; of_kind = refl; in_scope = refl; denied = denied; by = refl }
 
   just-found : (o : Option (List ℕ)) → find (is_denied g.rules asked) scopes ≡ o → AreJust g.rules g.asker function (option_map denial (option_map (by_rule g.rules asked) o))
   just-found None is = tt
@@ -137,14 +137,14 @@ module _ (g : Grounds) (function : ℕ) (kind : List ℕ) (scopes : List (List �
       let out = ruled_out s (found-denied g.rules asked scopes s is) in
       (refl, record { by_rule = λ index by. out; by_default = λ by. out })
 
-  just-in : AreJust g.rules g.asker function (denial_in g (action_of function) kind scopes)
+  just-in : AreJust g.rules g.asker function (denial_in g (action_of function) kind registrant scopes)
   just-in = just-found (find (is_denied g.rules asked) scopes) refl
 
 -- ---- a registration
 
 just-old : (g : Grounds) (o : Option Entry) → AreJust g.rules g.asker REGISTRATION (denial_of_old g o)
 just-old g None = tt
-just-old g (Some e) = just-in g REGISTRATION e.kind e.scopes
+just-old g (Some e) = just-in g REGISTRATION e.kind e.owner e.scopes
 
 module _ (g : Grounds) where
   abbrev JustRegistered : Judgement → Type 0
@@ -164,20 +164,20 @@ module _ (g : Grounds) where
 
   just-live : (fresh : Bool) (t : Particulars) (o : Option Entry) → AreRegistered (denial_of_live g fresh t o)
   just-live true t o = just-old g o
-  just-live false t o = just-update t o
+  just-live false t o = just-or g.rules g.asker REGISTRATION (denial_of_update t o) (denial_of_old g o) (just-update t o) (just-old g o)
 
   just-particulars : (h : Header) (r : Registration) (t : Particulars) → JustRegistered (judgement_of_particulars g h r t)
   just-particulars h r t =
       let live = fin.get g.live (pair_in h r) in
       let attrs = resulting_attributes h.flags.fresh t live in
-      let accepts : Judgement = Accepts (record { moment = g.now; act = act_of h r t }) (allowance g t) in
+      let accepts : Judgement = Accepts (record { moment = g.now; act = act_of g h r t }) (allowance g t) in
       let by_room = denial_of_room g (pair_in h r) t in
       let by_template = denial_of_template g t.kind attrs in
       let by_live = denial_of_live g h.flags.fresh t live in
       let by_rules = denial_of_new g t in
       just-else g.rules g.asker REGISTRATION (option_or (denial_of_scopes t) (option_or by_rules (option_or by_live (option_or by_template by_room)))) accepts
       (just-or g.rules g.asker REGISTRATION (denial_of_scopes t) (option_or by_rules (option_or by_live (option_or by_template by_room))) (just-test g.rules g.asker REGISTRATION (length t.scopes == 0) (by_step decider.Scope (Some t.kind)) tt)
-      (just-or g.rules g.asker REGISTRATION by_rules (option_or by_live (option_or by_template by_room)) (just-in g REGISTRATION t.kind t.scopes)
+      (just-or g.rules g.asker REGISTRATION by_rules (option_or by_live (option_or by_template by_room)) (just-in g REGISTRATION t.kind g.asker t.scopes)
       (just-or g.rules g.asker REGISTRATION by_live (option_or by_template by_room) (just-live h.flags.fresh t live)
       (just-or g.rules g.asker REGISTRATION by_template by_room (just-test g.rules g.asker REGISTRATION (is_some (template_fault g.site.templates t.kind attrs)) (by_step decider.Template (Some t.kind)) tt)
       (just-test g.rules g.asker REGISTRATION (is_none live && nat_le g.site.capacity (fin.len g.live)) (by_step decider.Full (Some t.kind)) tt)))))
@@ -219,7 +219,7 @@ module _ (g : Grounds) where
 
   just-kept : (o : Option Entry) → AreJust g.rules g.asker WITHDRAWAL (denial_of_kept g o)
   just-kept None = tt
-  just-kept (Some e) = just-in g WITHDRAWAL e.kind e.scopes
+  just-kept (Some e) = just-in g WITHDRAWAL e.kind e.owner e.scopes
 
   just-entries : (url : List ℕ) (scopes : List (List ℕ)) (first kept : Option Entry) → JustWithdrawn (judgement_of_entries g url scopes first kept)
   just-entries url scopes None kept = just-by decider.Scope tt
@@ -235,12 +235,12 @@ module _ (g : Grounds) where
   just-tagged q tags scopes None = tt
   just-tagged q tags scopes (Some e) =
       let attrs = attributes_without e.attrs tags in
-      let by_rules = denial_in g action.Withdraw e.kind e.scopes in
+      let by_rules = denial_in g action.Withdraw e.kind e.owner e.scopes in
       let by_template = denial_of_template g e.kind attrs in
       let accepts : Judgement = Accepts (removal_event g q tags) (release g e) in
       elim (texts_eq e.scopes scopes) as (λ b. JustWithdrawn (cond b (unwrap_or (option_or by_rules by_template) accepts) (denial_by decider.Scope))) [
         | true ↦ just-else g.rules g.asker WITHDRAWAL (option_or by_rules by_template) accepts
-            (just-or g.rules g.asker WITHDRAWAL by_rules by_template (just-in g WITHDRAWAL e.kind e.scopes) (just-test g.rules g.asker WITHDRAWAL (is_some (template_fault g.site.templates e.kind attrs)) (by_step decider.Template (Some e.kind)) tt)) tt
+            (just-or g.rules g.asker WITHDRAWAL by_rules by_template (just-in g WITHDRAWAL e.kind e.owner e.scopes) (just-test g.rules g.asker WITHDRAWAL (is_some (template_fault g.site.templates e.kind attrs)) (by_step decider.Template (Some e.kind)) tt)) tt
         | false ↦ just-by decider.Scope tt
       ]
 

@@ -1,6 +1,6 @@
 -- A reply has at most as many bytes as its call leaves room for.
-use Rattle.std.proofs.Common.{◌≡◌, ℕ, ◌+◌, ◌<◌, ◌≤◌, ◌^◌, Bool, true, false, cond, not, List, [], ◌∷◌, length, take, drop, Option, Some, None, Result, Ok, Err, refl, sym, subst, arith, inl, inr}
-use Rattle.std.specs.Prelude.{◌⊎◌, ◌==◌, ◌&&◌, ◌||◌, nat_le}
+use Rattle.std.proofs.Common.{◌≡◌, ℕ, ◌+◌, ◌<◌, ◌≤◌, ◌^◌, Bool, true, false, cond, not, List, [], length, drop, Option, Some, None, Result, Ok, Err, refl, sym, subst, arith, inl, inr}
+use Rattle.std.specs.Prelude.{◌==◌, ◌&&◌, ◌||◌, nat_le}
 use Rattle.std.specs.List.{list_all, list_any}
 use Rattle.std.specs.Option.{option_map_or}
 use Rattle.std.proofs.lemmas.Bool.{leb-true, and_parts}
@@ -22,7 +22,6 @@ use Rattle.directory_judge.specs.History.{Event, History}
 use Rattle.directory_judge.specs.Judgements.{Judgement, Accepts, Ignores, Waits, Denies, by_step, code_by, supports}
 use Rattle.directory_judge.specs.Sites.{Site}
 use Rattle.directory_judge.specs.declared.reason.Because.{Because}
-use Rattle.directory_judge.specs.declared.reason.Decider.{Decider}
 use Rattle.directory_judge.specs.declared.reason.Decider.TheVariants as decider
 use Rattle.directory_questions.specs.Answers.{Sense, Settled, Lists, Describes, Names, Changes, IsAnswer, IsAnswerTo, IsCutReply, advert_code, advert_of, advert_outcome, agents_outcome, is_agent_for, language_outcome, question_of, sense_of_message, sense_of_question, sense_of_reading, sense_under, sense_within}
 use Rattle.directory_questions.specs.Calls.{Opening, Call}

@@ -2,5 +2,6 @@ pub mod Allowing
 pub mod Denials
 pub mod Fitting
 pub mod Kept
+pub mod Owners
 pub mod Promises
 pub mod WholeReplies

@@ -24,22 +24,23 @@ use Rattle.directory_judge.specs.declared.particulars.Particulars.{Particulars}
 use Rattle.directory_questions.specs.Calls.{Standpoint}
 use Rattle.directory_questions.specs.Verdicts.{grounds}
 
--- the rules let the asker do it with the type, in each of the scopes
-abbrev pub IsRuledIn : Grounds → Action → List ℕ → List (List ℕ) → Type 0
-IsRuledIn g action kind scopes = (s : List ℕ) → Contains scopes s → IsTrue (deciding g.rules (deed g.asker action kind) s).allow
+-- the rules let the asker do it with what a registrant has of the type, in each of the scopes
+abbrev pub IsRuledIn : Grounds → Action → List ℕ → ℕ → List (List ℕ) → Type 0
+IsRuledIn g action kind registrant scopes = (s : List ℕ) → Contains scopes s → IsTrue (deciding g.rules (deed g.asker action kind registrant) s).allow
 
 -- ---- registrations and updates
 
--- a fresh registration takes the place of what is live of its pair only where the asker may register that, too
+-- what is live of a pair is replaced or updated only where the asker may register that, too
 abbrev pub MayReplace : Grounds → Pair → Type 0
-MayReplace g q = (e : Entry) → fin.get g.live q ≡ Some e → IsRuledIn g action.Register e.kind e.scopes
+MayReplace g q = (e : Entry) → fin.get g.live q ≡ Some e → IsRuledIn g action.Register e.kind e.owner e.scopes
 
--- an update is of what is live of its pair, with the same type and scopes
+-- an update is of what is live of its pair, with the same type and scopes, which the asker may register, too
 pub record MayUpdate (g : Grounds) (q : Pair) (named : Particulars) : Type 0 where
   pub entry : Entry
   pub live : fin.get g.live q ≡ Some entry
   pub kind : entry.kind ≡ named.kind
   pub scopes : entry.scopes ≡ named.scopes
+  pub ruled : IsRuledIn g action.Register entry.kind entry.owner entry.scopes
 
 abbrev pub MayFollow : Bool → Grounds → Pair → Particulars → Type 0
 MayFollow true g q named = MayReplace g q
@@ -55,11 +56,11 @@ pub record RegistrationIsAllowed (g : Grounds) (h : Header) (r : Registration) (
   pub named : Particulars
   pub reads : particulars g.site h r ≡ Ok named
   pub in_scope : 0 < length named.scopes
-  pub ruled : IsRuledIn g action.Register named.kind named.scopes
+  pub ruled : IsRuledIn g action.Register named.kind g.asker named.scopes
   pub follows : MayFollow h.flags.fresh g (pair_in h r) named
   pub conforms : ConformsTo g.site.templates named.kind (resulting_attributes h.flags.fresh named (fin.get g.live (pair_in h r)))
   pub room : HasRoom g (pair_in h r)
-  pub is : event ≡ record { moment = g.now; act = act_of h r named }
+  pub is : event ≡ record { moment = g.now; act = act_of g h r named }
 
 -- ---- withdrawals
 
@@ -67,7 +68,7 @@ pub record RegistrationIsAllowed (g : Grounds) (h : Header) (r : Registration) (
 pub record UrlIsReleased (g : Grounds) (url : List ℕ) (scopes : List (List ℕ)) (event : Event) : Type 0 where
   pub entry : Entry
   pub concerned : Contains (concerned_entries g url scopes) entry
-  pub ruled : (e : Entry) → Contains (concerned_entries g url scopes) e → IsRuledIn g action.Withdraw e.kind e.scopes
+  pub ruled : (e : Entry) → Contains (concerned_entries g url scopes) e → IsRuledIn g action.Withdraw e.kind e.owner e.scopes
   pub is : event ≡ withdrawal_event g url scopes
 
 -- tags are withdrawn: the entry is live, in just these scopes, the rules allow it, and what is left conforms to the template
@@ -75,7 +76,7 @@ pub record TagsAreReleased (g : Grounds) (q : Pair) (tags : List Part) (scopes :
   pub entry : Entry
   pub live : fin.get g.live q ≡ Some entry
   pub same : entry.scopes ≡ scopes
-  pub ruled : IsRuledIn g action.Withdraw entry.kind entry.scopes
+  pub ruled : IsRuledIn g action.Withdraw entry.kind entry.owner entry.scopes
   pub conforms : ConformsTo g.site.templates entry.kind (attributes_without entry.attrs tags)
   pub is : event ≡ removal_event g q tags
 

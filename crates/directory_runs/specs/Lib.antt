@@ -1,3 +1,4 @@
 pub mod Allowing
+pub mod Owners
 pub mod Promises
 pub mod Runs

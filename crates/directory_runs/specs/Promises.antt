@@ -44,11 +44,12 @@ HoldsExactly from (Changes head sent) reply = Unit {0}
 -- a rule that decided is the one that decides on what was asked, in the scope that is named, and denies it; by default no rule fits
 pub record IsRuledOut (rs : SiteRules) (asker function : ℕ) (because : Because) : Type 0 where
   pub kind : List ℕ
+  pub registrant : ℕ
   pub scope : List ℕ
   pub of_kind : because.kind ≡ Some kind
   pub in_scope : because.scope ≡ Some scope
-  pub denied : (deciding rs (deed asker (action_of function) kind) scope).allow ≡ false
-  pub by : because.decider ≡ decider_of (deciding rs (deed asker (action_of function) kind) scope)
+  pub denied : (deciding rs (deed asker (action_of function) kind registrant) scope).allow ≡ false
+  pub by : because.decider ≡ decider_of (deciding rs (deed asker (action_of function) kind registrant) scope)
 
 -- A denial has the code of who decided, in the reply, of which none goes out to what was sent to many, and in its line, which names who decided: a rule by its name.
 pub record IsDenial (rs : SiteRules) (asker : ℕ) (head : Heading) (r : Outcome) (code : ℕ) (because : Because) : Type 0 where

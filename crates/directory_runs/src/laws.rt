@@ -1,13 +1,21 @@
 //! What holds of every run. The functions do nothing: their contracts are the laws.
-ghost use Rattle.std.specs.Prelude.{◌≡◌, ◌↔◌, ◌<◌, ◌≤◌, ◌^◌, ◌∷◌, ◌++◌, ℕ, List, Option, Contains, length};
+ghost use Rattle.std.specs.Prelude.{◌≡◌, ◌↔◌, ◌<◌, ◌≤◌, ◌^◌, ◌∷◌, ◌++◌, ℕ, true, List, Option, Contains, length};
+ghost use Rattle.access_rules.specs.Deciding.{deciding, deed};
+ghost use Rattle.access_rules.specs.declared.rule.Action.{Action};
+ghost use Rattle.access_rules.specs.declared.rule.Action.TheVariants.{See};
 ghost use Rattle.registry_core.specs.declared.entry.Entry.{Entry as AnyEntry};
+ghost use Rattle.slp_messages.specs.declared.message.Message.{Message};
 ghost use Rattle.directory_judge.specs.History.{Event, History, clock};
+ghost use Rattle.directory_judge.specs.Meaning.{Live, rules};
 ghost use Rattle.directory_judge.specs.Sites.{IsSite};
 ghost use Rattle.directory_questions.specs.Answers.{IsAnswer, IsOpenTo};
-ghost use Rattle.directory_questions.specs.Calls.{Opening, Call};
+ghost use Rattle.directory_questions.specs.Calls.{Opening, Call, Standpoint};
+ghost use Rattle.directory_questions.specs.Items.{IsOpenNow};
 ghost use Rattle.directory_questions.specs.Outcomes.{Outcome};
 ghost use Rattle.directory_questions.specs.Verdicts.{IsLegal};
 ghost use Rattle.history_log.specs.Pasts.{IsPast};
+ghost use Rattle.directory_runs.specs.Allowing.{IsAllowed};
+ghost use Rattle.directory_runs.specs.Owners.{action_of_act, changes, IsForOwners, IsWithoutOwners};
 ghost use Rattle.directory_runs.specs.Promises.{IsKeptThroughout};
 ghost use Rattle.directory_runs.specs.Runs.{Learn, Reply, Run, IsRun, world};
 
@@ -62,4 +70,22 @@ pub fn replies_differ_by_what_is_open()
 pub fn replies_fit()
     ensures { (o : Opening) (h : History) (c : Call) (r : Outcome) (change : Option Event) → IsSite o.site.scopes o.site.capacity → c.own < 2 ^ 32 → 1400 ≤ c.limit
         → IsAnswer o h c r change → length r.reply ≤ c.limit }
+{}
+
+/// Where each rule about registering is about owners alone, what another registered is never replaced or updated; where each rule
+/// about withdrawing is, it is never withdrawn, nor a tag of it.
+pub fn what_another_registered_is_not_changed()
+    ensures { (from : Standpoint) (sent : Message) (event : Event) (e : AnyEntry) (scope : List ℕ) → IsAllowed from sent event → Live from.history from.moment e → Contains e.scopes scope
+        → changes event.act e ≡ true → IsForOwners from (action_of_act event.act) → from.asker ≡ e.owner }
+{}
+
+/// Where each rule about seeing is about owners alone, what another registered is never seen.
+pub fn what_another_registered_is_not_seen()
+    ensures { (from : Standpoint) (asked : List (List ℕ)) (e : AnyEntry) → IsForOwners from See → IsOpenNow from asked e → from.asker ≡ e.owner }
+{}
+
+/// With rule files of version 1 it makes no difference who registered: whatever is asked of the rules, they decide the same.
+pub fn the_first_version_asks_for_no_registrant()
+    ensures { (o : Opening) (h : History) (asker : ℕ) (action : Action) (kind : List ℕ) (one other : ℕ) (scope : List ℕ) → IsWithoutOwners o h
+        → deciding (rules o.rules h) (deed asker action kind one) scope ≡ deciding (rules o.rules h) (deed asker action kind other) scope }
 {}
