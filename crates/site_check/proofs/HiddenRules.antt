@@ -1,6 +1,6 @@
 -- A rule fits whatever a rule fits that it hides.
 use Rattle.std.proofs.Common.{◌≡◌, ◌≤◌, ℕ, ◌+◌, ◌-◌, ◌*◌, ◌^◌, ◌/◌, Bool, true, false, List, [], ◌∷◌, ◌++◌, length, drop, Option, Some, None, refl, sym, ap, ◌∙◌, append_assoc, eqb-true, arith}
-use Rattle.std.specs.Prelude.{◌&&◌, ◌||◌, ◌==◌, nat_eq, nat_le}
+use Rattle.std.specs.Prelude.{◌&&◌, ◌||◌, ◌==◌, not, nat_eq, nat_le}
 use Rattle.std.specs.List.{list_all, list_any, starts_with}
 use Rattle.std.proofs.Math.Nat.{div-div-eq-div-mul}
 use Rattle.std.proofs.lemmas.Bool.{eq-eqb, leb-true, le-leb, and_from}
@@ -12,7 +12,7 @@ use Rattle.slp_text.proofs.KeySets.{bytes_same}
 use Rattle.slp_text.specs.Ascii.{colon}
 use Rattle.service_url.specs.Types.{covers, is_abstract}
 use Rattle.service_url.proofs.Roots.{begins}
-use Rattle.access_rules.specs.Deciding.{Deed, action_eq, allows_kind, allows_scope, fits, holds}
+use Rattle.access_rules.specs.Deciding.{Deed, action_eq, is_own, allows_kind, allows_scope, fits, holds}
 use Rattle.access_rules.specs.declared.rule.Action.{Action}
 use Rattle.access_rules.specs.declared.rule.Action.TheVariants.{Register, Withdraw, See}
 use Rattle.access_rules.specs.declared.rule.Prefix.{Prefix}
@@ -124,15 +124,23 @@ scope_kept (Some w) (Some n) scope h k =
 
 -- ---- rules
 
+owner_kept : (wide narrow own : Bool) → (not wide || narrow) ≡ true → (not narrow || own) ≡ true → (not wide || own) ≡ true
+owner_kept false narrow own h k = refl
+owner_kept true true own h k = k
+owner_kept true false own h k = absurd (let e : true ≡ false = sym h in cc)
+
 pub fits_too : (wide narrow : Rule) → hides wide narrow ≡ true → (d : Deed) (scope : List ℕ) → fits d scope narrow ≡ true → fits d scope wide ≡ true
 fits_too wide narrow h d scope fit =
-    let three = first_of _ (allows_scope narrow.scopes scope) fit in
+    let four = first_of _ (not narrow.owner || is_own d) fit in
+    let three = first_of _ (allows_scope narrow.scopes scope) four in
     let two = first_of _ (allows_kind narrow.kind d.kind) three in
-    let hidden_three = first_of _ (hides_scopes wide.scopes narrow.scopes) h in
+    let hidden_four = first_of _ (not wide.owner || narrow.owner) h in
+    let hidden_three = first_of _ (hides_scopes wide.scopes narrow.scopes) hidden_four in
     let hidden_two = first_of _ (hides_kind wide.kind narrow.kind) hidden_three in
-    and_from _ _ (and_from _ _ (and_from _ _
+    and_from _ _ (and_from _ _ (and_from _ _ (and_from _ _
     (asker_kept wide.from narrow.from d.asker (second_of (action_eq wide.action narrow.action) _ hidden_two) (first_of _ (action_eq narrow.action d.action) two))
     (action_kept wide.action narrow.action d.action (first_of _ (list_all (λ (p : Prefix). list_any (is_inside p) wide.from) narrow.from) hidden_two)
     (second_of (list_any (λ (p : Prefix). holds p d.asker) narrow.from) _ two)))
     (kind_kept wide.kind narrow.kind d.kind (second_of _ (hides_kind wide.kind narrow.kind) hidden_three) (second_of _ (allows_kind narrow.kind d.kind) three)))
-    (scope_kept wide.scopes narrow.scopes scope (second_of _ (hides_scopes wide.scopes narrow.scopes) h) (second_of _ (allows_scope narrow.scopes scope) fit))
+    (scope_kept wide.scopes narrow.scopes scope (second_of _ (hides_scopes wide.scopes narrow.scopes) hidden_four) (second_of _ (allows_scope narrow.scopes scope) four)))
+    (owner_kept wide.owner narrow.owner (is_own d) (second_of _ (not wide.owner || narrow.owner) h) (second_of _ (not narrow.owner || is_own d) fit))

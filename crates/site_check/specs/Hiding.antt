@@ -1,5 +1,5 @@
 -- Which rules fit whatever others fit.
-use Rattle.std.specs.Prelude.{ℕ, Bool, true, false, ◌&&◌, nat_le, List, Option, Some, None}
+use Rattle.std.specs.Prelude.{ℕ, Bool, true, false, ◌&&◌, ◌||◌, not, nat_le, List, Option, Some, None}
 use Rattle.std.specs.List.{list_all, list_any}
 use Rattle.slp_text.specs.Words.{bytes_eq}
 use Rattle.service_url.specs.Types.{covers}
@@ -23,8 +23,9 @@ hides_scopes None narrow = true
 hides_scopes (Some wide) None = false
 hides_scopes (Some wide) (Some narrow) = list_all (λ s. list_any (λ k. bytes_eq k s) wide) narrow
 
--- a rule is about each asker, type and scope that another is about, and about the same action
+-- a rule is about each asker, type, scope and owner that another is about, and about the same action
 abbrev pub hides : Rule → Rule → Bool
 hides wide narrow =
     action_eq wide.action narrow.action && list_all (λ p. list_any (is_inside p) wide.from) narrow.from
     && hides_kind wide.kind narrow.kind && hides_scopes wide.scopes narrow.scopes
+    && (not wide.owner || narrow.owner)

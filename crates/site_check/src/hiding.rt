@@ -91,4 +91,5 @@ pub fn hides(wide: &Rule, narrow: &Rule) -> bool
         && is_from_all(wide, narrow)
         && is_of_all(wide, narrow)
         && is_in_all(wide, narrow)
+        && (!wide.owner || narrow.owner)
 }

@@ -2,7 +2,7 @@
 use crate::config_faults::explain_toml;
 use crate::fault::CheckFault;
 use crate::problem::{FileText, LONGEST_TEXT, Place, Problem, report};
-use access_rules::fields;
+use access_rules::{Version, fields};
 use slp_text::NoMemory;
 use std::alloc::Global;
 use std::io::{self, Write};
@@ -20,16 +20,26 @@ enum RuleKey {
     Type,
     Scopes,
     Verdict,
+    Owner,
 }
 
-const RULE_KEYS: [RuleKey; 6] = [
+const RULE_KEYS: [RuleKey; 7] = [
     RuleKey::Name,
     RuleKey::From,
     RuleKey::Action,
     RuleKey::Type,
     RuleKey::Scopes,
     RuleKey::Verdict,
+    RuleKey::Owner,
 ];
+
+// The keys that a rule may have: one about owners comes with version 2.
+fn keys_of(version: Option<Version>) -> &'static [RuleKey] {
+    match version {
+        Some(Version::One) => &RULE_KEYS[..6],
+        _ => &RULE_KEYS,
+    }
+}
 
 impl RuleKey {
     fn text(self) -> &'static str {
@@ -40,6 +50,7 @@ impl RuleKey {
             RuleKey::Type => "type",
             RuleKey::Scopes => "scopes",
             RuleKey::Verdict => "verdict",
+            RuleKey::Owner => "owner",
         }
     }
 
@@ -52,6 +63,7 @@ impl RuleKey {
             RuleKey::Type => "neither \"*\" nor a service type",
             RuleKey::Scopes => "neither [\"*\"] nor an array of one or more scopes",
             RuleKey::Verdict => "neither \"allow\" nor \"deny\"",
+            RuleKey::Owner => "neither true nor false",
         }
     }
 
@@ -64,6 +76,7 @@ impl RuleKey {
             RuleKey::Type => Ok(fields::kind(alloc, table)?.is_some()),
             RuleKey::Scopes => Ok(fields::scopes(alloc, table)?.is_some()),
             RuleKey::Verdict => Ok(fields::verdict(table).is_some()),
+            RuleKey::Owner => Ok(fields::owner(table).is_some()),
         }
     }
 
@@ -87,14 +100,19 @@ impl RuleKey {
     }
 }
 
-fn is_rule_key(key: &str) -> bool {
-    RULE_KEYS.iter().any(|known| known.text() == key)
+fn is_rule_key(version: Option<Version>, key: &str) -> bool {
+    keys_of(version).iter().any(|known| known.text() == key)
 }
 
-// Writes the keys of a table that no rule has.
-fn explain_unknown<W: Write>(place: Place<'_>, table: &Table, writer: &mut W) -> io::Result<()> {
+// Writes the keys of a table that no rule of this version has.
+fn explain_unknown<W: Write>(
+    version: Option<Version>,
+    place: Place<'_>,
+    table: &Table,
+    writer: &mut W,
+) -> io::Result<()> {
     for key in table.keys() {
-        if !is_rule_key(key.as_str()) {
+        if !is_rule_key(version, key.as_str()) {
             report(place, Problem::UnknownKey(key.as_str()), writer)?;
         }
     }
@@ -109,6 +127,7 @@ fn name_of(value: &Value) -> Option<&str> {
 // Writes what is wrong with a value as a rule.
 fn explain_rule<W: Write>(
     alloc: Global,
+    version: Option<Version>,
     place: Place<'_>,
     value: &Value,
     writer: &mut W,
@@ -117,10 +136,10 @@ fn explain_rule<W: Write>(
         report(place, Problem::NotTable, writer)?;
         return Ok(());
     };
-    for key in RULE_KEYS {
+    for key in keys_of(version) {
         key.explain(alloc, place, table, writer)?;
     }
-    explain_unknown(place, table, writer)?;
+    explain_unknown(version, place, table, writer)?;
     Ok(())
 }
 
@@ -143,6 +162,7 @@ fn explain_name<W: Write>(
 // Writes what is wrong with values as the rules of a file.
 fn explain_rules_in<W: Write>(
     alloc: Global,
+    version: Option<Version>,
     file: &str,
     values: &[Value],
     writer: &mut W,
@@ -154,7 +174,7 @@ fn explain_rules_in<W: Write>(
     for (i, value) in values.iter().enumerate() {
         let name = name_of(value);
         let place = Place::Rule(file, i + 1, name);
-        explain_rule(alloc, place, value, writer)?;
+        explain_rule(alloc, version, place, value, writer)?;
         explain_name(place, name, &values[..i], writer)?;
     }
     Ok(())
@@ -165,8 +185,8 @@ fn explain_file<W: Write>(file: &str, table: &Table, writer: &mut W) -> io::Resu
     let place = Place::File(file);
     match fields::value_at(table, "version") {
         None => report(place, Problem::Missing("version"), writer)?,
-        Some(version) if version.as_integer() != Some(1) => {
-            report(place, Problem::Value("version", "not 1"), writer)?;
+        Some(_) if fields::version(table).is_none() => {
+            report(place, Problem::Value("version", "neither 1 nor 2"), writer)?;
         }
         Some(_) => {}
     }
@@ -190,7 +210,7 @@ fn explain_table<W: Write>(
         return Ok(());
     };
     match fields::array_values(value) {
-        Some(values) => explain_rules_in(alloc, file, values, writer),
+        Some(values) => explain_rules_in(alloc, fields::version(table), file, values, writer),
         None => {
             report(
                 Place::File(file),
