@@ -2,6 +2,7 @@ ghost use Rattle.std.specs.Prelude.{◌≤◌, ◌<◌, length, IfOk};
 ghost use Rattle.std.specs.Arc.{arc_value};
 
 use crate::assertion::found;
+use access_rules::Addr;
 use attr_list::Attrs;
 use registry_core::Entry;
 use service_url::{ServiceType, Url};
@@ -16,6 +17,7 @@ pub struct Parts<'a> {
     pub kind: &'a str,
     pub scopes: &'a str,
     pub deadline: u64,
+    pub owner: Addr,
 }
 
 // One to sixteen scopes.
@@ -42,6 +44,7 @@ pub fn entry_of(alloc: Global, url: &str, parts: Parts<'_>) -> Result<Arc<Entry>
         scopes: scopes_of(alloc, parts.scopes)?,
         attrs: found(Attrs::parse(alloc, ""))?,
         deadline: parts.deadline,
+        owner: parts.owner,
     };
     Ok(Arc::new(alloc, entry)?)
 }

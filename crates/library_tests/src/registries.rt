@@ -6,6 +6,7 @@ mod walks;
 
 use crate::assertion::found;
 use crate::entries::{Parts, entry_of};
+use access_rules::Addr;
 use numbers::Numbers;
 use registry_core::{Entry, ListRegistry, Registry, RegistryFault};
 use service_url::ServiceType;
@@ -61,6 +62,9 @@ static KINDS: [&str; 7] = [
 ];
 
 static SCOPES: [&str; 4] = ["a", "b", "a,b", "b,c"];
+
+// How many register.
+const OWNERS: usize = 3;
 
 // How many seconds an entry lives at most.
 static LIVES: [usize; 4] = [50, 500, 5_000, 65_536];
@@ -135,6 +139,7 @@ impl Twins {
             kind: self.numbers.text(&KINDS[..6]),
             scopes: self.numbers.text(&SCOPES),
             deadline: self.now.saturating_add(self.numbers.below(life) as u64),
+            owner: Addr(self.numbers.below(OWNERS) as u32),
         }
     }
 

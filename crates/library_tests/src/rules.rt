@@ -25,7 +25,7 @@ fn print_file(alloc: Global, text: &str, out: &mut String) -> Result<(), RuleFau
     Ok(told?)
 }
 
-// A file of one rule, good but for the line of a key.
+// A file of one rule, good but for the line of a key. Only of `owner` it is one of version 2.
 fn print_value(alloc: Global, key: &str, line: &str, out: &mut String) -> Result<(), RuleFault> {
     let parts = [
         (key, line),
@@ -36,31 +36,37 @@ fn print_value(alloc: Global, key: &str, line: &str, out: &mut String) -> Result
         ("scopes", "scopes = ['*']"),
         ("verdict", "verdict = 'allow'"),
     ];
-    let text = "version = 1¶[[rule]]¶name¶from¶action¶type¶scopes¶verdict";
+    let text = if key == "owner" {
+        "version = 2¶[[rule]]¶name¶from¶action¶type¶scopes¶verdict¶owner"
+    } else {
+        "version = 1¶[[rule]]¶name¶from¶action¶type¶scopes¶verdict"
+    };
     let file = lines(alloc, text, &parts)?;
     print_file(alloc, file.as_str(), out)
 }
 
-// Who asks, the action and the text of the type.
-fn asked(text: &str) -> Option<(Addr, Action, &str)> {
+// Who asks, the action, the text of the type, and who registered: the asker, where ` of ` names nobody.
+fn asked(text: &str) -> Option<(Addr, Action, &str, Addr)> {
     let (asker, rest) = text.split_once(' ')?;
-    let (action, kind) = rest.split_once(' ')?;
+    let (action, rest) = rest.split_once(' ')?;
+    let (kind, registrant) = rest.split_once(" of ").unwrap_or((rest, asker));
     let action = match action {
         "register" => Action::Register,
         "withdraw" => Action::Withdraw,
         _ => Action::See,
     };
-    Some((Addr::parse(asker.as_bytes())?, action, kind))
+    let asker = Addr::parse(asker.as_bytes())?;
+    Some((asker, action, kind, Addr::parse(registrant.as_bytes())?))
 }
 
 fn print_verdict(
     rules: &Rules,
-    question: (Addr, Action, &ServiceType),
+    question: (Addr, Action, &ServiceType, Addr),
     scope: &Key,
     out: &mut String,
 ) -> Result<(), AllocError> {
-    let (asker, action, kind) = question;
-    let verdict = rules.decide(asker, action, kind, scope);
+    let (asker, action, kind, registrant) = question;
+    let verdict = rules.decide(asker, action, kind, scope, registrant);
     out.push_str(if verdict.allow {
         "allow by "
     } else {
@@ -79,12 +85,13 @@ fn print_decided(
     scope: &str,
     out: &mut String,
 ) -> Result<(), RuleFault> {
-    let Some((asker, action, kind)) = asked(text) else {
+    let Some((asker, action, kind, registrant)) = asked(text) else {
         return Err(RuleFault::Toml);
     };
     let kind = found(ServiceType::parse(alloc, kind))?;
     let scope = found(key(alloc, scope))?;
-    Ok(print_verdict(rules, (asker, action, &kind), &scope, out)?)
+    let question = (asker, action, &kind, registrant);
+    Ok(print_verdict(rules, question, &scope, out)?)
 }
 
 fn print_decision(

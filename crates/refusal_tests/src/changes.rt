@@ -4,7 +4,7 @@ ghost use Rattle.std.specs.Arc.{arc_value};
 
 use crate::hoard::{Hoard, are_refused};
 use crate::site::{CLOSED, directory, found, rules_of};
-use access_rules::Rules;
+use access_rules::{Addr, Rules};
 use attr_list::Attrs;
 use directory_judge::{Change, Placed, Withdrawn};
 use directory_state::Directory;
@@ -96,6 +96,7 @@ fn entry(alloc: Global, url: &str, kind: &str, deadline: u32) -> Result<Arc<Entr
         scopes: one_scope(alloc)?,
         attrs: found(Attrs::parse(alloc, ""))?,
         deadline: u64::from(deadline),
+        owner: Addr(0x0a00_0001),
     };
     Ok(Arc::new(alloc, entry)?)
 }

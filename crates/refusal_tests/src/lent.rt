@@ -94,7 +94,8 @@ fn rules_answer(alloc: Global, hoard: &mut Hoard) -> Result<bool, NoMemory> {
     let kind = found(ServiceType::parse(alloc, KIND))?;
     let scope = Key::of(alloc, "the first scope of the site")?;
     let is_taken = hoard.fill(alloc);
-    let verdict = rules.decide(Addr(0x0a00_0001), Action::See, &kind, &scope);
+    let asker = Addr(0x0a00_0001);
+    let verdict = rules.decide(asker, Action::See, &kind, &scope, Addr(0x0a00_0002));
     Ok(is_taken && verdict.allow && rules.len() == 3 && rules.name(2) == "all-see")
 }
 

@@ -69,6 +69,7 @@ fn is_same(entry: &Entry, other: &Entry) -> bool {
         && is_of_kind(entry, other)
         && entry.scopes == other.scopes
         && entry.deadline == other.deadline
+        && entry.owner == other.owner
 }
 
 /// Whether one entry was found by both, or none.

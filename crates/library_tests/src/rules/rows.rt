@@ -12,7 +12,7 @@ pub static LINES: [(&str, &str); 3] = [
 ];
 
 // Rule files by name.
-pub static FILES: [(&str, &str); 9] = [
+pub static FILES: [(&str, &str); 11] = [
     (
         "house",
         "
@@ -69,13 +69,21 @@ verdict = 'allow'
     ),
     ("none", "version = 1"),
     (
+        "owners",
+        "version = 2\nrule = [{ name = 'own', from = ['10.0.0.0/8'], action = 'register', type = '*', scopes = ['*'], verdict = 'allow', owner = true }, { name = 'not-own', from = ['10.0.0.0/8'], action = 'see', type = '*', scopes = ['*'], verdict = 'deny', owner = true }, { name = 'all', from = ['0.0.0.0/0'], action = 'see', type = '*', scopes = ['*'], verdict = 'allow', owner = false }]",
+    ),
+    (
+        "second-version",
+        "version = 2\nrule = [{ name = 'first', from = ['10.0.0.0/8'], action = 'register', type = '*', scopes = ['*'], verdict = 'allow' }]",
+    ),
+    (
         "many",
         "version = 1\n<<1023 [[rule]]\nname = 'r-%'\naction = 'see'\nfrom = ['0.0.0.0/0']\ntype = '*'\nscopes = ['*']\nverdict = 'allow'\n>>[[rule]]\nname = 'r-1024'\naction = 'register'\nfrom = ['0.0.0.0/0']\ntype = '*'\nscopes = ['*']\nverdict = 'allow'",
     ),
 ];
 
-/// Files, and lines of a key of a file's only rule, with the names of the rules; and who asks for what action on a type in a
-/// scope, and what the file of a name decides.
+/// Files, and lines of a key of a file's only rule, with the names of the rules; and who asks for what action on a type, of whom,
+/// in a scope, and what the file of a name decides.
 pub const TABLE: &str = "
 file¦version = 1¦¦
 file¦version = 1¶rule = []¦¦
@@ -84,6 +92,9 @@ file¦version = 1¶a¦¦ a
 file¦version = 1¶a¶b¦¦ a b
 file¦version = 1¶<<1024 [[rule]]¶name = 'r-%'¶action = 'see'¶from = ['0.0.0.0/0']¶type = '*'¶scopes = ['*']¶verdict = 'allow'¶>>¦¦<<1024  r-%>>
 file¦version = 1¶a¶b¶#<<1048359 x>>¦¦ a b
+file¦version = 2¦¦
+file¦version = 2¶a¶b¦¦ a b
+file¦version = 2¶a¶owner = true¶b¶owner = false¦¦ a b
 name¦name = 'abcdefghijklmnopqrstuvwxyz-01234'¦¦ abcdefghijklmnopqrstuvwxyz-01234
 name¦name = 'a-1'¦¦ a-1
 name¦name = '-'¦¦ -
@@ -100,6 +111,9 @@ scopes¦scopes = ['a\\28b']¦¦ a
 scopes¦scopes = [\"a\\\\28b\"]¦¦ a
 scopes¦scopes = ['a', 'B', 'a']¦¦ a
 verdict¦verdict = 'deny'¦¦ a
+owner¦owner = true¦¦ a
+owner¦owner = false¦¦ a
+owner¦¦¦ a
 decided¦house 10.0.0.1 register service:printer¦DEFAULT¦allow by printers
 decided¦house 10.255.255.255 register service:printer:lpr¦default¦allow by printers
 decided¦house 10.0.0.1 register service:printers¦default¦deny by no-others
@@ -136,27 +150,41 @@ decided¦one-scope 10.255.255.255 register service:printer:lpr¦default¦allow b
 decided¦one-scope 10.255.255.255 register service:printer:lpr¦other¦deny by no rule
 decided¦none 10.255.255.255 register service:printer:lpr¦Default¦deny by no rule
 decided¦many 0.0.0.7 register http¦default¦allow by r-1024
+decided¦owners 10.0.0.1 register http of 10.0.0.1¦default¦allow by own
+decided¦owners 10.0.0.1 register http of 10.0.0.2¦default¦deny by no rule
+decided¦owners 10.0.0.2 register http of 10.0.0.1¦default¦deny by no rule
+decided¦owners 11.0.0.1 register http of 11.0.0.1¦default¦deny by no rule
+decided¦owners 10.0.0.1 withdraw http of 10.0.0.1¦default¦deny by no rule
+decided¦owners 10.0.0.1 see http of 10.0.0.1¦default¦deny by not-own
+decided¦owners 10.0.0.1 see http of 11.0.0.1¦default¦allow by all
+decided¦owners 11.0.0.1 see http of 11.0.0.1¦default¦allow by all
+decided¦second-version 10.0.0.1 register http of 10.0.0.2¦default¦allow by first
+decided¦everyone 10.0.0.1 register http of 10.0.0.2¦default¦allow by first
 file¦version = ¦¦! Toml
 file¦version = 1¶version = 1¦¦! Toml
 file¦version = 1¶a¶name = 'c'¦¦! Toml
 file¦version = ¶#<<1048564 x>>¦¦! Toml
 file¦¦¦! Shape(0)
 file¦a¦¦! Shape(0)
-file¦version = 2¶a¦¦! Shape(0)
+file¦version = 3¶a¦¦! Shape(0)
 file¦version = 0¶a¦¦! Shape(0)
 file¦version = 9¶a¦¦! Shape(0)
 file¦version = -1¶a¦¦! Shape(0)
 file¦version = 1.0¶a¦¦! Shape(0)
 file¦version = '1'¶a¦¦! Shape(0)
+file¦version = 2.0¶a¦¦! Shape(0)
+file¦version = -2¶a¦¦! Shape(0)
 file¦version = true¶a¦¦! Shape(0)
 file¦version = 1¶owner = true¶a¦¦! Shape(0)
 file¦version = 1¶a¶[[hide]]¦¦! Shape(0)
+file¦version = 2¶owner = true¶a¦¦! Shape(0)
+file¦version = 2¶a¶[[hide]]¦¦! Shape(0)
 file¦version = 1¶rule = 5¦¦! Shape(0)
 file¦version = 1¶rule = 'a'¦¦! Shape(0)
 file¦version = 1¶rule = { name = 'a', from = ['0.0.0.0/0'], action = 'register', type = '*', scopes = ['*'], verdict = 'allow' }¦¦! Shape(0)
 file¦version = 1¶[rule]¦¦! Shape(0)
 file¦owner = true¶version = 1¶broken¦¦! Shape(0)
-file¦version = 2¶broken¦¦! Shape(0)
+file¦version = 3¶broken¦¦! Shape(0)
 file¦version = 1¶<<1025 [[rule]]¶name = 'r-%'¶action = 'see'¶from = ['0.0.0.0/0']¶type = '*'¶scopes = ['*']¶verdict = 'allow'¶>>¦¦! Shape(0)
 file¦version = 1¶broken¶<<1024 [[rule]]¶name = 'r-%'¶action = 'see'¶from = ['0.0.0.0/0']¶type = '*'¶scopes = ['*']¶verdict = 'allow'¶>>¦¦! Shape(0)
 file¦version = 1¶a¶b¶#<<1048360 x>>¦¦! Shape(0)
@@ -169,6 +197,10 @@ file¦version = 1¶broken¶<<1023 [[rule]]¶name = 'r-%'¶action = 'see'¶from =
 file¦version = 1¶rule = [{ name = 'a', from = ['0.0.0.0/0'], action = 'register', type = '*', scopes = ['*'], verdict = 'allow' }, 'x']¦¦! Shape(2)
 file¦version = 1¶a¶broken¦¦! Shape(2)
 file¦version = 1¶a¶broken¶a¦¦! Shape(2)
+file¦version = 1¶a¶b¶owner = true¦¦! Shape(2)
+file¦version = 1¶a¶b¶owner = false¦¦! Shape(2)
+file¦version = 2¶broken¦¦! Shape(1)
+file¦version = 2¶a¶b¶other = true¦¦! Shape(2)
 file¦version = 1¶<<1023 [[rule]]¶name = 'r-%'¶action = 'see'¶from = ['0.0.0.0/0']¶type = '*'¶scopes = ['*']¶verdict = 'allow'¶>>broken¦¦! Shape(1024)
 file¦version = 1¶a¶a¦¦! TwiceName
 file¦version = 1¶a¶b¶a¦¦! TwiceName
@@ -227,4 +259,9 @@ verdict¦verdict = ''¦¦! Shape(1)
 verdict¦verdict = true¦¦! Shape(1)
 verdict¦verdict = 1¦¦! Shape(1)
 verdict¦verdict = ['allow']¦¦! Shape(1)
+owner¦owner = 'true'¦¦! Shape(1)
+owner¦owner = 1¦¦! Shape(1)
+owner¦owner = [true]¦¦! Shape(1)
+owner¦owner = { is = true }¦¦! Shape(1)
+owner¦owners = true¦¦! Shape(1)
 ";
