@@ -1,7 +1,7 @@
 # make             lists all this, and starts nothing
 # make try         replays a small script with the program as it stands, unproved: a minute or two
 # make build       proves what the programs need, and leaves them in bin/: an hour the first time, on 4 processors
-# make demo        starts the server on an example site, and asks it with the client: as make build, and seconds
+# make demo        starts the server on an example site, and asks it with the client: as make build, and seconds; needs python3
 # make run         replays the script of make try, or script=FILE, with the proved program: half an hour the first time
 # make day         replays a day of a small site, which examples/day.md explains: as make run
 # make install     puts the programs of bin/, tools and pages below prefix=/usr/local: seconds, once make build is done
