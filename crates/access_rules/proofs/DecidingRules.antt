@@ -20,17 +20,17 @@ rule_of_verdict rules None = refl
 rule_of_verdict rules (Some i) = refl
 
 -- the place that decides is the first that fits
-place_first : (rules : SiteRules) (d : Deed) (scope : List ℕ) (i : ℕ) → (deciding rules d scope).rule ≡ Some i → position (fits d scope) rules ≡ Some i
-place_first rules d scope i h = sym (rule_of_verdict rules (position (fits d scope) rules)) ∙ h
+place_first : (rules : SiteRules) (d : Deed) (scope : List ℕ) (i : ℕ) → (deciding rules d scope).rule ≡ Some i → position (fits d scope) (rules_in rules) ≡ Some i
+place_first rules d scope i h = sym (rule_of_verdict rules (position (fits d scope) (rules_in rules))) ∙ h
 
 pub first_fits : (rules : SiteRules) (d : Deed) (scope : List ℕ) (place : ℕ) → (deciding rules d scope).rule ≡ Some place
     → (r : Rule) × (slice_get (rules_in rules) place ≡ Some r) × (fits d scope r ≡ true) × ((deciding rules d scope).allow ≡ r.allow)
     × ((other : ℕ) (s : Rule) → other < place → slice_get (rules_in rules) other ≡ Some s → fits d scope s ≡ false)
 first_fits rules d scope place h =
     let first = place_first rules d scope place h in
-    let found = position-Some (fits d scope) rules place no_rule first in
-    let there = slice_get-get_or rules place no_rule found.0 in (
-      get_or rules place no_rule,
+    let found = position-Some (fits d scope) (rules_in rules) place no_rule first in
+    let there = slice_get-get_or (rules_in rules) place no_rule found.0 in (
+      get_or (rules_in rules) place no_rule,
       there,
       found.1,
       ap (λ o. (verdict_at rules o).allow) first ∙ ap (λ (o : Option Rule). option_map_or (λ r. r.allow) o false) there,
@@ -38,42 +38,42 @@ first_fits rules d scope place h =
     )
 
 -- a rule that would be allowed is one that some rule allows
-unless_allowed : (rules : SiteRules) (d : Deed) (scope : List ℕ) (o : Option ℕ) → position (fits d scope) rules ≡ o
+unless_allowed : (rules : SiteRules) (d : Deed) (scope : List ℕ) (o : Option ℕ) → position (fits d scope) (rules_in rules) ≡ o
     → list_any (λ r. fits d scope r && r.allow) (rules_in rules) ≡ false → (verdict_at rules o).allow ≡ false
 unless_allowed rules d scope None is none = refl
 unless_allowed rules d scope (Some i) is none =
-    let found = position-Some (fits d scope) rules i no_rule is in
-    let there = slice_get-get_or rules i no_rule found.0 in
+    let found = position-Some (fits d scope) (rules_in rules) i no_rule is in
+    let there = slice_get-get_or (rules_in rules) i no_rule found.0 in
     let word = ap (λ (o : Option Rule). option_map_or (λ r. r.allow) o false) there in
-    elim (get_or rules i no_rule).allow as (λ b. (get_or rules i no_rule).allow ≡ b → (verdict_at rules (Some i)).allow ≡ false) [
+    elim (get_or (rules_in rules) i no_rule).allow as (λ b. (get_or (rules_in rules) i no_rule).allow ≡ b → (verdict_at rules (Some i)).allow ≡ false) [
       | true ↦ λ allowed.
-          let both : (fits d scope (get_or rules i no_rule) && (get_or rules i no_rule).allow) ≡ true = rw (found.1, allowed) refl in
-          let some = list_any_at (λ r. fits d scope r && r.allow) rules i no_rule found.0 both in
+          let both : (fits d scope (get_or (rules_in rules) i no_rule) && (get_or (rules_in rules) i no_rule).allow) ≡ true = rw (found.1, allowed) refl in
+          let some = list_any_at (λ r. fits d scope r && r.allow) (rules_in rules) i no_rule found.0 both in
           absurd (let e : true ≡ false = sym some ∙ none in cc)
       | false ↦ λ denied. word ∙ denied
     ] refl
 
 pub no_rule_allows : (rules : SiteRules) (d : Deed) (scope : List ℕ)
     → list_any (λ r. fits d scope r && r.allow) (rules_in rules) ≡ false → (deciding rules d scope).allow ≡ false
-no_rule_allows rules d scope none = unless_allowed rules d scope (position (fits d scope) rules) refl none
+no_rule_allows rules d scope none = unless_allowed rules d scope (position (fits d scope) (rules_in rules)) refl none
 
-no_rule_fits : (rules : SiteRules) (d : Deed) (scope : List ℕ) (o : Option ℕ) → position (fits d scope) rules ≡ o
+no_rule_fits : (rules : SiteRules) (d : Deed) (scope : List ℕ) (o : Option ℕ) → position (fits d scope) (rules_in rules) ≡ o
     → list_any (fits d scope) (rules_in rules) ≡ false → ◌≡◌ {A = Verdict} (verdict_at rules o) (record { allow = false; rule = None })
 no_rule_fits rules d scope None is none = refl
 no_rule_fits rules d scope (Some i) is none =
-    let found = position-Some (fits d scope) rules i no_rule is in
-    let some = list_any_at (fits d scope) rules i no_rule found.0 found.1 in
+    let found = position-Some (fits d scope) (rules_in rules) i no_rule is in
+    let some = list_any_at (fits d scope) (rules_in rules) i no_rule found.0 found.1 in
     absurd (let e : true ≡ false = sym some ∙ none in cc)
 
 pub default_decides : (rules : SiteRules) (d : Deed) (scope : List ℕ)
     → list_any (fits d scope) (rules_in rules) ≡ false → ◌≡◌ {A = Verdict} (deciding rules d scope) (record { allow = false; rule = None })
-default_decides rules d scope none = no_rule_fits rules d scope (position (fits d scope) rules) refl none
+default_decides rules d scope none = no_rule_fits rules d scope (position (fits d scope) (rules_in rules)) refl none
 
 pub covered_rule : (rules : SiteRules) (first later : ℕ) (wide narrow : Rule) → first < later → slice_get (rules_in rules) first ≡ Some wide → slice_get (rules_in rules) later ≡ Some narrow
     → ((d : Deed) (scope : List ℕ) → fits d scope narrow ≡ true → fits d scope wide ≡ true)
     → (d : Deed) (scope : List ℕ) → (deciding rules d scope).rule ≢ Some later
 covered_rule rules first later wide narrow before is_wide is_narrow covers d scope h =
-    let found = position-Some (fits d scope) rules later no_rule (place_first rules d scope later h) in
+    let found = position-Some (fits d scope) (rules_in rules) later no_rule (place_first rules d scope later h) in
     let narrow_fits = ap (fits d scope) (sym (get_or_from_slice_get (rules_in rules) later narrow no_rule is_narrow)) ∙ found.1 in
     let wide_not = ap (fits d scope) (sym (get_or_from_slice_get (rules_in rules) first wide no_rule is_wide)) ∙ found.2 first before in
     let e : true ≡ false = sym (covers d scope narrow_fits) ∙ wide_not in cc

@@ -1,4 +1,4 @@
--- Rules that are read one by one.
+-- Rules and hide tables that are read one by one.
 use Rattle.std.proofs.Common.{◌≡◌, ℕ, ◌+◌, ◌<◌, length, get_or, drop, map, List, [], ◌∷◌, ◌++◌, Option, Some, Result, Ok, Err, refl, ap, sym, ◌∙◌, append_assoc}
 use Rattle.std.proofs.lemmas.List.{drop_more}
 use Rattle.std.specs.Option.{option_map_or}
@@ -6,24 +6,22 @@ use Rattle.toml.specs.Data.{Data}
 use Rattle.toml.specs.View.{view}
 use Rattle.toml.specs.declared.value.Value.{Value}
 use Rattle.slp_text.specs.Reading.{read_map}
-use Rattle.access_rules.specs.Deciding.{SiteRules}
-use Rattle.access_rules.specs.RuleFiles.{rule_in, rules_from}
+use Rattle.access_rules.specs.RuleFiles.{each_from}
 use Rattle.access_rules.specs.declared.fault.RuleFault.{RuleFault}
 use Rattle.access_rules.specs.declared.fault.RuleFault.TheVariants.{Shape}
-use Rattle.access_rules.specs.declared.rule.Rule.{Rule}
-use Rattle.access_rules.specs.declared.version.Version.{Version}
 
-put_between : (rs : SiteRules) (r : Rule) (read : Result SiteRules RuleFault) → read_map (λ xs. rs ++ xs) (read_map (λ xs. r ∷ xs) read) ≡ read_map (λ xs. (rs ++ r ∷ []) ++ xs) read
-put_between rs r (Ok xs) = ap Ok (sym (append_assoc rs (r ∷ []) xs))
-put_between rs r (Err e) = refl
+module _ {A : Type 0} (f : Data → Option A) where
+  put_between : (xs : List A) (x : A) (read : Result (List A) RuleFault) → read_map (λ ys. xs ++ ys) (read_map (λ ys. x ∷ ys) read) ≡ read_map (λ ys. (xs ++ x ∷ []) ++ ys) read
+  put_between xs x (Ok ys) = ap Ok (sym (append_assoc xs (x ∷ []) ys))
+  put_between xs x (Err e) = refl
 
--- a rule more is read
-pub read_rule : (version : Version) (rs : SiteRules) (n : ℕ) (d : Data) (ds : List Data) (r : Rule) → rule_in version d ≡ Some r → read_map (λ xs. rs ++ xs) (rules_from version n (d ∷ ds)) ≡ read_map (λ xs. (rs ++ r ∷ []) ++ xs) (rules_from version (n + 1) ds)
-read_rule version rs n d ds r h =
-    ap (λ (o : Option Rule). read_map (λ xs. rs ++ xs) (option_map_or (λ q. read_map (λ xs. q ∷ xs) (rules_from version (n + 1) ds)) o (Err (Shape n)))) h ∙ put_between rs r (rules_from version (n + 1) ds)
+  -- one more is read
+  pub read_one : (xs : List A) (n : ℕ) (d : Data) (ds : List Data) (x : A) → f d ≡ Some x → read_map (λ ys. xs ++ ys) (each_from f n (d ∷ ds)) ≡ read_map (λ ys. (xs ++ x ∷ []) ++ ys) (each_from f (n + 1) ds)
+  read_one xs n d ds x h =
+      ap (λ (o : Option A). read_map (λ ys. xs ++ ys) (option_map_or (λ y. read_map (λ ys. y ∷ ys) (each_from f (n + 1) ds)) o (Err (Shape n)))) h ∙ put_between xs x (each_from f (n + 1) ds)
 
--- the value at an index is a rule
-pub read_step : (version : Version) (values : List Value) (i : ℕ) (other : Value) (rs : SiteRules) (r : Rule) → i < length values → rule_in version (view (get_or values i other)) ≡ Some r
-    → read_map (λ xs. rs ++ xs) (rules_from version (i + 1) (map view (drop i values))) ≡ read_map (λ xs. (rs ++ r ∷ []) ++ xs) (rules_from version (i + 1 + 1) (map view (drop (i + 1) values)))
-read_step version values i other rs r h is =
-    ap (λ vs. read_map (λ xs. rs ++ xs) (rules_from version (i + 1) (map view vs))) (drop_more values i other h) ∙ read_rule version rs (i + 1) (view (get_or values i other)) (map view (drop (i + 1) values)) r is
+  -- the value at an index is one, and has the number n
+  pub read_step : (n : ℕ) (values : List Value) (i : ℕ) (other : Value) (xs : List A) (x : A) → i < length values → f (view (get_or values i other)) ≡ Some x
+      → read_map (λ ys. xs ++ ys) (each_from f n (map view (drop i values))) ≡ read_map (λ ys. (xs ++ x ∷ []) ++ ys) (each_from f (n + 1) (map view (drop (i + 1) values)))
+  read_step n values i other xs x h is =
+      ap (λ vs. read_map (λ ys. xs ++ ys) (each_from f n (map view vs))) (drop_more values i other h) ∙ read_one xs n (view (get_or values i other)) (map view (drop (i + 1) values)) x is

@@ -5,6 +5,7 @@ use Rattle.access_rules.specs.declared.rule.Action.{Action}
 use Rattle.access_rules.specs.declared.rule.Action.TheVariants.{Register, Withdraw, See}
 use Rattle.access_rules.specs.declared.rule.Prefix.{Prefix}
 use Rattle.access_rules.specs.declared.rule.Rule.{Rule}
+use Rattle.access_rules.specs.declared.hide.Hide.{Hide}
 use Rattle.access_rules.specs.Deciding.{SiteRules}
 
 -- an action as two answers: whether it is a registration, and whether it is a withdrawal
@@ -37,5 +38,12 @@ rule_code = code_by (Text × (List Prefix × (Action × (Option Text × (Option 
     (λ t. record { name = t.0; from = t.1.0; action = t.1.1.0; kind = t.1.1.1.0; scopes = t.1.1.1.1.0; allow = t.1.1.1.1.1.0; owner = t.1.1.1.1.1.1 })
     (λ _. refl)
 
+abbrev pub hide_code : Coded Hide
+hide_code = code_by (Text × (List Prefix × (Option Text × (Option (List Text) × (List (List (Option ℕ)) × Bool)))))
+    (coded× (coded_list coded_ℕ) (coded× (coded_list prefix_code) (coded× (coded_option (coded_list coded_ℕ)) (coded× (coded_option (coded_list (coded_list coded_ℕ))) (coded× (coded_list (coded_list (coded_option coded_ℕ))) coded_bool)))))
+    (λ h. (h.name, (h.from, (h.kind, (h.scopes, (h.tags, h.spares_owner))))))
+    (λ t. record { name = t.0; from = t.1.0; kind = t.1.1.0; scopes = t.1.1.1.0; tags = t.1.1.1.1.0; spares_owner = t.1.1.1.1.1 })
+    (λ _. refl)
+
 abbrev pub rules_code : Coded SiteRules
-rules_code = coded_list rule_code
+rules_code = code_by (List Rule × List Hide) (coded× (coded_list rule_code) (coded_list hide_code)) (λ s. (s.rules, s.hides)) (λ t. record { rules = t.0; hides = t.1 }) (λ _. refl)

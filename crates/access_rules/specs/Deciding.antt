@@ -1,9 +1,11 @@
--- Which rule decides.
+-- Which rule decides, and which tags are hidden.
 use Rattle.std.specs.Prelude.{ℕ, Bool, true, false, ◌-◌, ◌/◌, ◌^◌, ◌==◌, ◌&&◌, ◌||◌, not, nat_le, List, [], length, position, slice_get, Option, Some, None}
 use Rattle.std.specs.List.{list_all, list_any}
 use Rattle.std.specs.Option.{option_map_or}
+use Rattle.slp_text.specs.Tags.{selects}
 use Rattle.slp_text.specs.Words.{bytes_eq}
 use Rattle.service_url.specs.Types.{covers}
+use Rattle.access_rules.specs.declared.hide.Hide.{Hide}
 use Rattle.access_rules.specs.declared.rule.Action.{Action}
 use Rattle.access_rules.specs.declared.rule.Action.TheVariants.{Register, Withdraw, See}
 use Rattle.access_rules.specs.declared.rule.Deed as code
@@ -60,21 +62,24 @@ fits d scope r =
     list_any (λ p. holds p d.asker) r.from && action_eq r.action d.action && allows_kind r.kind d.kind && allows_scope r.scopes scope
     && (not r.owner || is_own d)
 
--- what decides for a site: its rules, in their order
-abbrev pub SiteRules : Type 0
-SiteRules = List Rule
+-- what decides for a site: its rules, in their order, and what it hides
+pub record SiteRules : Type 0 where
+  pub rules : List Rule
+  pub hides : List Hide
 
--- those of a site
 abbrev pub rules_in : SiteRules → List Rule
-rules_in rules = rules
+rules_in s = s.rules
 
--- how many there are
+abbrev pub hides_in : SiteRules → List Hide
+hides_in s = s.hides
+
+-- how many rules there are
 abbrev pub number : SiteRules → ℕ
 number rules = length (rules_in rules)
 
 -- a site without any
 abbrev pub no_rules : SiteRules
-no_rules = []
+no_rules = record { rules = []; hides = [] }
 
 -- what the rule at an index says, if there is one; without a rule all is denied
 abbrev pub verdict_at : SiteRules → Option ℕ → Verdict
@@ -92,3 +97,14 @@ is_owners action r = not (action_eq r.action action) || r.owner
 -- no rule is about owners
 abbrev pub is_without_owners : SiteRules → Bool
 is_without_owners rules = list_all (λ r. not r.owner) (rules_in rules)
+
+-- ---- what is hidden
+
+-- A hide table fits what is asked in a scope, whatever is done; one that spares owners does not fit what the asker registered.
+abbrev pub is_hiding : Deed → List ℕ → Hide → Bool
+is_hiding d scope h =
+    list_any (λ p. holds p d.asker) h.from && allows_kind h.kind d.kind && allows_scope h.scopes scope && not (h.spares_owner && is_own d)
+
+-- a tag of what is asked about is hidden in a scope: some table that fits selects it
+abbrev pub is_hidden : SiteRules → Deed → List ℕ → List ℕ → Bool
+is_hidden rules d scope tag = list_any (λ h. is_hiding d scope h && selects h.tags tag) (hides_in rules)

@@ -8,6 +8,7 @@ use Rattle.toml.specs.Parse.{parse_document}
 use Rattle.slp_text.specs.Ascii.{comma, hyphen, is_digit, is_lower}
 use Rattle.slp_text.specs.Reading.{read_map, read_then}
 use Rattle.slp_text.specs.Scopes.{scopes_of}
+use Rattle.slp_text.specs.Tags.{Part, tags_of}
 use Rattle.slp_text.specs.Words.{bytes_eq}
 use Rattle.service_url.specs.Types.{type_of}
 use Rattle.access_rules.specs.Addresses.{prefix_of}
@@ -15,7 +16,8 @@ use Rattle.access_rules.specs.Deciding.{SiteRules}
 use Rattle.access_rules.specs.Tables.{if_where, is_some_list, natural, each_in, array_values, text_at, values_at, keys_of}
 use Rattle.access_rules.specs.declared.fault.RuleFault.{RuleFault}
 use Rattle.access_rules.specs.declared.version.Version.{Version}
-use Rattle.access_rules.specs.declared.version.Version.TheVariants.{One, Two}
+use Rattle.access_rules.specs.declared.hide.Hide.{Hide}
+use Rattle.access_rules.specs.declared.version.Version.TheVariants.{One, Two, Three}
 use Rattle.access_rules.specs.declared.fault.RuleFault.TheVariants.{Shape, TwiceName, NoMemory, Toml}
 use Rattle.access_rules.specs.declared.rule.Action.{Action}
 use Rattle.access_rules.specs.declared.rule.Action.TheVariants.{Register, Withdraw, See}
@@ -55,16 +57,25 @@ verdict_key = codes "verdict"
 abbrev pub owner_key : List ℕ
 owner_key = codes "owner"
 
+abbrev pub hide_key : List ℕ
+hide_key = codes "hide"
+
+abbrev pub tags_key : List ℕ
+tags_key = codes "tags"
+
+abbrev pub spare_owner_key : List ℕ
+spare_owner_key = codes "spare-owner"
+
 -- ---- versions
 
 abbrev pub version_numbered : ℕ → Option Version
-version_numbered n = if n == 1 then Some One else (if n == 2 then Some Two else None)
+version_numbered n = if n == 1 then Some One else (if n == 2 then Some Two else (if n == 3 then Some Three else None))
 
 -- the version that a table names
 abbrev pub version_in : Members → Option Version
 version_in table = option_and_then version_numbered (option_and_then natural (option_and_then as_integer (get_member version_key table)))
 
--- ---- what stands at each key of a rule
+-- ---- what stands at each key of a rule or of a hide table
 
 -- `*`, which stands for every type and for every scope
 abbrev pub every_word : List ℕ
@@ -150,6 +161,24 @@ verdict_in table = option_and_then verdict_named (text_at verdict_key table)
 abbrev pub owner_in : Members → Option Bool
 owner_in table = option_map_or as_bool (get_member owner_key table) (Some false)
 
+-- a list of tags with one part at least
+abbrev pub tags_named : List ℕ → Option (List Part)
+tags_named text = option_and_then (if_where is_some_list) (result_ok (tags_of text))
+
+abbrev pub tags_in : Members → Option (List Part)
+tags_in table = option_and_then tags_named (text_at tags_key table)
+
+-- whether owners are spared: they are not where nothing says so
+abbrev pub spare_owner_in : Members → Option Bool
+spare_owner_in table = option_map_or as_bool (get_member spare_owner_key table) (Some false)
+
+-- ---- values that are read one by one
+
+-- what values are, the first of which has this number; at fault is the first that is none
+abbrev pub each_from : {A : Type 0} → (Data → Option A) → ℕ → List Data → Result (List A) RuleFault
+each_from f n [] = Ok []
+each_from f n (d ∷ ds) = option_map_or (λ x. read_map (λ xs. x ∷ xs) (each_from f (n + 1) ds)) (f d) (Err (Shape n))
+
 -- ---- rules
 
 -- a key that a rule has in every version
@@ -161,6 +190,7 @@ is_common_key key =
 abbrev pub is_rule_key : Version → List ℕ → Bool
 is_rule_key One key = is_common_key key
 is_rule_key Two key = is_common_key key || bytes_eq key owner_key
+is_rule_key Three key = is_common_key key || bytes_eq key owner_key
 
 -- what it is about that is done, and whether it is allowed
 abbrev pub deed_in : Members → Option (Action × Bool)
@@ -194,41 +224,94 @@ rule_of_table version table = if list_all (is_rule_key version) (keys_of table) 
 abbrev pub rule_in : Version → Data → Option Rule
 rule_in version d = option_and_then (rule_of_table version) (as_table d)
 
--- the rules that values are, of which the first has this number; at fault is the first that is none
-abbrev pub rules_from : Version → ℕ → List Data → Result SiteRules RuleFault
-rules_from version n [] = Ok []
-rules_from version n (d ∷ ds) = option_map_or (λ r. read_map (λ rs. r ∷ rs) (rules_from version (n + 1) ds)) (rule_in version d) (Err (Shape n))
+-- the rules that values are, the first of which has this number
+abbrev pub rules_from : Version → ℕ → List Data → Result (List Rule) RuleFault
+rules_from version = each_from (rule_in version)
 
--- no two have one name
-abbrev pub are_named_once : SiteRules → Bool
-are_named_once [] = true
-are_named_once (r ∷ rs) = not (list_any (λ s. bytes_eq r.name s.name) rs) && are_named_once rs
+-- ---- hide tables
 
-abbrev pub named_once : SiteRules → Result SiteRules RuleFault
-named_once rs = if are_named_once rs then Ok rs else Err TwiceName
+-- a key that a hide table may have
+abbrev pub is_hide_key : List ℕ → Bool
+is_hide_key key =
+    list_any (bytes_eq key) (name_key ∷ from_key ∷ type_key ∷ scopes_key ∷ tags_key ∷ spare_owner_key ∷ [])
+
+-- which tags it hides, and whether owners are spared
+abbrev pub hidden_in : Members → Option (List Part × Bool)
+hidden_in table =
+    option_and_then (λ tags. option_and_then (λ spared. Some (tags, spared))
+    (spare_owner_in table))
+    (tags_in table)
+
+-- the hide table of what stands at the keys of a table
+abbrev pub hide_with : Members → Option Hide
+hide_with table =
+    option_and_then (λ hidden. option_and_then (λ matter. option_and_then (λ name. option_and_then (λ from.
+    Some (record { name = name; from = from; kind = matter.0; scopes = matter.1; tags = hidden.0; spares_owner = hidden.1 }))
+    (from_in table))
+    (name_in table))
+    (matter_in table))
+    (hidden_in table)
+
+-- the hide table that a table is: it has no other key
+abbrev pub hide_of_table : Members → Option Hide
+hide_of_table table = if list_all is_hide_key (keys_of table) then hide_with table else None
+
+abbrev pub hide_in : Data → Option Hide
+hide_in d = option_and_then hide_of_table (as_table d)
+
+-- the hide tables that values are, the first of which has this number
+abbrev pub hides_from : ℕ → List Data → Result (List Hide) RuleFault
+hides_from = each_from hide_in
 
 -- ---- the file
 
-abbrev pub is_file_key : List ℕ → Bool
-is_file_key key = list_any (bytes_eq key) (version_key ∷ rule_key ∷ [])
+abbrev pub is_plain_file_key : List ℕ → Bool
+is_plain_file_key key = list_any (bytes_eq key) (version_key ∷ rule_key ∷ [])
+
+-- a key that a file may have
+abbrev pub is_file_key : Version → List ℕ → Bool
+is_file_key One key = is_plain_file_key key
+is_file_key Two key = is_plain_file_key key
+is_file_key Three key = is_plain_file_key key || bytes_eq key hide_key
 
 -- the version of a file: it has no other key
 abbrev pub file_version : Members → Option Version
-file_version table = if list_all is_file_key (keys_of table) then version_in table else None
+file_version table = option_and_then (if_where (λ version. list_all (is_file_key version) (keys_of table))) (version_in table)
 
--- the values of its rules, none where the key is missing
-abbrev pub all_values_in : Members → Option (List Data)
-all_values_in table = option_map_or array_values (get_member rule_key table) (Some [])
+-- the values of the array at a key, none where the key is missing
+abbrev pub all_values_in : List ℕ → Members → Option (List Data)
+all_values_in key table = option_map_or array_values (get_member key table) (Some [])
 
--- at most 1,024 of them
-abbrev pub rule_values_in : Members → Option (List Data)
-rule_values_in table =
-    option_and_then (if_where (λ ds. nat_le (length ds) 1024)) (all_values_in table)
+-- the values of its rules, and of its hide tables: at most 1,024 together
+abbrev pub file_values_in : Members → Option (List Data × List Data)
+file_values_in table =
+    option_and_then (λ rules. option_and_then (λ hides. if_where (λ both. nat_le (length both.0 + length both.1) 1024) (rules, hides))
+    (all_values_in hide_key table))
+    (all_values_in rule_key table)
 
--- What a table says: first the file itself is asked for, then rule after rule, last that no two have one name.
+-- no two hide tables have one name
+abbrev pub are_hides_named_once : List Hide → Bool
+are_hides_named_once [] = true
+are_hides_named_once (h ∷ hs) = not (list_any (λ g. bytes_eq h.name g.name) hs) && are_hides_named_once hs
+
+-- no two have one name of these hide tables and of rules
+abbrev pub are_named_once : List Hide → List Rule → Bool
+are_named_once hides [] = are_hides_named_once hides
+are_named_once hides (r ∷ rs) =
+    not (list_any (λ s. bytes_eq r.name s.name) rs || list_any (λ h. bytes_eq r.name h.name) hides) && are_named_once hides rs
+
+abbrev pub named_once : List Rule → List Hide → Result SiteRules RuleFault
+named_once rules hides = if are_named_once hides rules then Ok (record { rules = rules; hides = hides }) else Err TwiceName
+
+-- the rules and the hide tables that values are: rule after rule, then table after table, last that no two have one name
+abbrev pub rules_of_values : Version → List Data × List Data → Result SiteRules RuleFault
+rules_of_values version values =
+    read_then (λ rules. read_then (named_once rules) (hides_from (length values.0 + 1) values.1)) (rules_from version 1 values.0)
+
+-- What a table says: first the file itself is asked for.
 unfoldable pub rules_in_table : Members → Result SiteRules RuleFault
 rules_in_table table =
-    option_map_or (λ version. option_map_or (λ ds. read_then named_once (rules_from version 1 ds)) (rule_values_in table) (Err (Shape 0))) (file_version table) (Err (Shape 0))
+    option_map_or (λ version. option_map_or (rules_of_values version) (file_values_in table) (Err (Shape 0))) (file_version table) (Err (Shape 0))
 
 abbrev pub rules_in_document : Option Members → Result SiteRules RuleFault
 rules_in_document None = Err Toml

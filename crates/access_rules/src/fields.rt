@@ -1,4 +1,4 @@
-//! What stands at the keys of a rule and of a rule file, each by itself. It is public for who has to say which key is at fault.
+//! What stands at the keys of a rule, of a hide table and of a rule file, each by itself. It is public for who has to say which key is at fault.
 ghost use Rattle.std.specs.Prelude.{◌≡◌, IfOk, map, string_bytes};
 ghost use Rattle.std.specs.BTreeMap.{keys};
 ghost use Rattle.std.specs.List.{list_all};
@@ -6,14 +6,14 @@ ghost use Rattle.std.specs.Option.{option_copied, option_map};
 ghost use Rattle.toml.specs.Data.{get_member};
 ghost use Rattle.toml.specs.View.{table_view, view};
 ghost use Rattle.access_rules.specs.RuleFiles as spec;
-ghost use Rattle.access_rules.specs.RuleFiles.{action_in, action_named, comma_ended, from_in, is_every_scope, is_scope_name, kind_in, kind_named, listed_scopes, name_in, owner_in, prefix_in, scope_name_in, scopes_in, scopes_listed, verdict_in, verdict_named, version_in, version_numbered};
+ghost use Rattle.access_rules.specs.RuleFiles.{action_in, action_named, comma_ended, from_in, is_every_scope, is_scope_name, kind_in, kind_named, listed_scopes, name_in, owner_in, prefix_in, scope_name_in, scopes_in, scopes_listed, spare_owner_in, tags_in, tags_named, verdict_in, verdict_named, version_in, version_numbered};
 ghost use Rattle.access_rules.specs.Tables as tables;
 ghost use Rattle.access_rules.specs.Tables.{each_in, keys_of};
 
 use crate::rule::{Action, Prefix};
 use crate::version::Version;
 use service_url::{ServiceType, UrlFault};
-use slp_text::{NoMemory, Row, ScopeList, Text, TextFault};
+use slp_text::{NoMemory, Row, ScopeList, TagList, Text, TextFault};
 use std::alloc::Global;
 use toml::{Table, Value};
 
@@ -76,7 +76,7 @@ fn is_rule_name(text: &[u8]) -> bool
     !text.is_empty() && text.len() <= LONGEST_NAME && are_name_bytes(text)
 }
 
-/// The name of a rule: 1 to 32 small letters, digits and `-`.
+/// The name of a rule or a hide table: 1 to 32 small letters, digits and `-`.
 pub fn name(alloc: Global, table: &Table) -> Result<Option<Text>, NoMemory>
     ensures { IfOk result (λ n. n ≡ name_in (table_view table.now)) }
 {
@@ -107,7 +107,7 @@ fn prefixes(alloc: Global, values: &[Value]) -> Result<Option<Row<Prefix>>, NoMe
     Ok(Some(Row::wrap(prefixes)))
 }
 
-/// Whom a rule is about: at least one prefix.
+/// Whom it is about: at least one prefix.
 pub fn from(alloc: Global, table: &Table) -> Result<Option<Row<Prefix>>, NoMemory>
     ensures { IfOk result (λ o. o ≡ from_in (table_view table.now)) }
 {
@@ -162,6 +162,35 @@ pub fn owner(table: &Table) -> Option<bool>
     }
 }
 
+fn tags_of(alloc: Global, text: &str) -> Result<Option<TagList>, NoMemory>
+    ensures { IfOk result (λ o. o ≡ tags_named text.now) }
+{
+    match TagList::read(alloc, text)? {
+        Some(tags) if !tags.is_empty() => Ok(Some(tags)),
+        _ => Ok(None),
+    }
+}
+
+/// The tags that are hidden: at least one part.
+pub fn tags(alloc: Global, table: &Table) -> Result<Option<TagList>, NoMemory>
+    ensures { IfOk result (λ o. o ≡ tags_in (table_view table.now)) }
+{
+    match text_at(table, "tags") {
+        Some(text) => tags_of(alloc, text),
+        None => Ok(None),
+    }
+}
+
+/// Whether owners are spared, which they are not where nothing says so.
+pub fn spare_owner(table: &Table) -> Option<bool>
+    ensures { result ≡ spare_owner_in (table_view table.now) }
+{
+    match value_at(table, "spare-owner") {
+        Some(value) => value.as_bool(),
+        None => Some(false),
+    }
+}
+
 fn kind_of(alloc: Global, text: &str) -> Result<Option<Option<ServiceType>>, NoMemory>
     ensures { IfOk result (λ o. o ≡ kind_named text.now) }
 {
@@ -175,7 +204,7 @@ fn kind_of(alloc: Global, text: &str) -> Result<Option<Option<ServiceType>>, NoM
     }
 }
 
-/// The type that a rule is about: `Some(None)` is every type.
+/// The type that it is about: `Some(None)` is every type.
 pub fn kind(alloc: Global, table: &Table) -> Result<Option<Option<ServiceType>>, NoMemory>
     ensures { IfOk result (λ o. o ≡ kind_in (table_view table.now)) }
 {
@@ -258,7 +287,7 @@ fn scopes_of(alloc: Global, values: &[Value]) -> Result<Option<Option<ScopeList>
     }
 }
 
-/// The scopes that a rule is about: `Some(None)` is every scope.
+/// The scopes that it is about: `Some(None)` is every scope.
 pub fn scopes(alloc: Global, table: &Table) -> Result<Option<Option<ScopeList>>, NoMemory>
     ensures { IfOk result (λ o. o ≡ scopes_in (table_view table.now)) }
 {
@@ -275,6 +304,7 @@ pub fn version(table: &Table) -> Option<Version>
     match value_at(table, "version")?.as_integer()? {
         1 => Some(Version::One),
         2 => Some(Version::Two),
+        3 => Some(Version::Three),
         _ => None,
     }
 }
@@ -293,14 +323,32 @@ fn is_rule_key(version: Version, key: &str) -> bool
 {
     match version {
         Version::One => is_common_key(key),
-        Version::Two => is_common_key(key) || key == "owner",
+        Version::Two | Version::Three => is_common_key(key) || key == "owner",
     }
 }
 
-fn is_file_key(key: &str) -> bool
-    ensures { result ≡ spec.is_file_key key.now }
+fn is_hide_key(key: &str) -> bool
+    ensures { result ≡ spec.is_hide_key key.now }
+{
+    matches!(
+        key,
+        "name" | "from" | "type" | "scopes" | "tags" | "spare-owner"
+    )
+}
+
+fn is_plain_file_key(key: &str) -> bool
+    ensures { result ≡ spec.is_plain_file_key key.now }
 {
     matches!(key, "version" | "rule")
+}
+
+fn is_file_key(version: Version, key: &str) -> bool
+    ensures { result ≡ spec.is_file_key version key.now }
+{
+    match version {
+        Version::One | Version::Two => is_plain_file_key(key),
+        Version::Three => is_plain_file_key(key) || key == "hide",
+    }
 }
 
 fn are_rule_keys(version: Version, table: &Table) -> bool
@@ -317,16 +365,30 @@ pub fn has_rule_keys(version: Version, table: &Table) -> bool
     are_rule_keys(version, table)
 }
 
-fn are_file_keys(table: &Table) -> bool
-    ensures { result ≡ list_all (λ key. spec.is_file_key (string_bytes key)) (keys table.now) }
+fn are_hide_keys(table: &Table) -> bool
+    ensures { result ≡ list_all (λ key. spec.is_hide_key (string_bytes key)) (keys table.now) }
 {
-    table.keys().all(|key| is_file_key(key.as_str()))
+    table.keys().all(|key| is_hide_key(key.as_str()))
 }
 
-/// Whether a table has no key but those of a rule file.
+/// Whether a table has no key but those of a hide table.
 #[tactic(auto, using(crate::proofs::KeysOfTables::test_keys))]
-pub fn has_file_keys(table: &Table) -> bool
-    ensures { result ≡ list_all spec.is_file_key (keys_of (table_view table.now)) }
+pub fn has_hide_keys(table: &Table) -> bool
+    ensures { result ≡ list_all spec.is_hide_key (keys_of (table_view table.now)) }
 {
-    are_file_keys(table)
+    are_hide_keys(table)
+}
+
+fn are_file_keys(version: Version, table: &Table) -> bool
+    ensures { result ≡ list_all (λ key. spec.is_file_key version (string_bytes key)) (keys table.now) }
+{
+    table.keys().all(|key| is_file_key(version, key.as_str()))
+}
+
+/// Whether a table has no key but those of a rule file of this version.
+#[tactic(auto, using(crate::proofs::KeysOfTables::test_keys))]
+pub fn has_file_keys(version: Version, table: &Table) -> bool
+    ensures { result ≡ list_all (spec.is_file_key version) (keys_of (table_view table.now)) }
+{
+    are_file_keys(version, table)
 }

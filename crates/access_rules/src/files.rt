@@ -1,27 +1,28 @@
 //! Rule files, which are TOML.
-ghost use Rattle.std.specs.Prelude.{◌≡◌, ◌≤◌, IfOk, IfSome, map, length};
+ghost use Rattle.std.specs.Prelude.{◌≡◌, ◌≤◌, ◌+◌, ◌++◌, IfOk, IfSome, map, length};
 ghost use Rattle.std.specs.List.{list_any};
 ghost use Rattle.std.specs.Option.{option_map};
 ghost use Rattle.toml.specs.View.{table_view, view};
 ghost use Rattle.slp_text.specs.Reading.{read_map};
 ghost use Rattle.slp_text.specs.Words.{bytes_eq};
 ghost use Rattle.access_rules.specs.RuleFiles as spec;
-ghost use Rattle.access_rules.specs.RuleFiles.{all_values_in, deed_in, matter_in, rule_in, rule_of_table, rule_with, rule_values_in, rules_from, rules_in_table, rules_in_text, IsReading};
+ghost use Rattle.access_rules.specs.RuleFiles.{all_values_in, deed_in, file_values_in, hidden_in, hide_in, hide_with, hides_from, matter_in, rule_in, rule_with, rules_from, rules_in_table, rules_in_text, rules_of_values, IsReading};
 
 use crate::fault::RuleFault;
 use crate::fields;
+use crate::hide::Hide;
 use crate::rule::{Action, Rule};
 use crate::rules::Rules;
 use crate::version::Version;
 use service_url::ServiceType;
-use slp_text::{NoMemory, ScopeList};
+use slp_text::{NoMemory, ScopeList, TagList};
 use std::alloc::Global;
 use toml::{Table, Value};
 
 /// The bytes of the longest rule file.
 const LONGEST_RULES: usize = 1_048_576;
 
-/// The most rules.
+/// The most rules and hide tables together.
 const MOST_RULES: usize = 1_024;
 
 // What is done, and whether it is allowed.
@@ -33,7 +34,7 @@ fn deed(table: &Table) -> Option<(Action, bool)>
     Some((action, allow))
 }
 
-// The types and the scopes that a rule is about.
+// The types and the scopes that a rule or a hide table is about.
 fn matter(
     alloc: Global,
     table: &Table,
@@ -90,7 +91,7 @@ fn rule(alloc: Global, version: Version, value: &Value) -> Result<Option<Rule>, 
 }
 
 // The rules that values are, of which the first is rule 1.
-#[tactic(auto, using(crate::proofs::ReadRules::read_rule))]
+#[tactic(auto, using(crate::proofs::ReadRules::read_one))]
 fn rules(alloc: Global, version: Version, values: &[Value]) -> Result<Vec<Rule>, RuleFault>
     requires { length values.now ≤ 1024 }
     ensures { IsReading (read_map (λ v. v.items) result) (rules_from version 1 (map view values.now)) }
@@ -105,59 +106,158 @@ fn rules(alloc: Global, version: Version, values: &[Value]) -> Result<Vec<Rule>,
     Ok(rules)
 }
 
+// The tags that are hidden, and whether owners are spared.
+fn hidden(alloc: Global, table: &Table) -> Result<Option<(TagList, bool)>, NoMemory>
+    ensures { IfOk result (λ o. o ≡ hidden_in (table_view table.now)) }
+{
+    let Some(tags) = fields::tags(alloc, table)? else {
+        return Ok(None);
+    };
+    match fields::spare_owner(table) {
+        Some(spared) => Ok(Some((tags, spared))),
+        None => Ok(None),
+    }
+}
+
+// The hide table of what stands at the keys of a table.
+fn hide_of(alloc: Global, table: &Table) -> Result<Option<Hide>, NoMemory>
+    ensures { IfOk result (λ o. o ≡ hide_with (table_view table.now)) }
+{
+    let Some((tags, spares_owner)) = hidden(alloc, table)? else {
+        return Ok(None);
+    };
+    let Some((kind, scopes)) = matter(alloc, table)? else {
+        return Ok(None);
+    };
+    let Some(name) = fields::name(alloc, table)? else {
+        return Ok(None);
+    };
+    match fields::from(alloc, table)? {
+        Some(from) => Ok(Some(Hide {
+            name,
+            from,
+            kind,
+            scopes,
+            tags,
+            spares_owner,
+        })),
+        None => Ok(None),
+    }
+}
+
+// The hide table that a value is.
+fn hide(alloc: Global, value: &Value) -> Result<Option<Hide>, NoMemory>
+    ensures { IfOk result (λ o. o ≡ hide_in (view value.now)) }
+{
+    match value.as_table() {
+        Some(table) if fields::has_hide_keys(table) => hide_of(alloc, table),
+        _ => Ok(None),
+    }
+}
+
+// The hide tables that values are, of which the first comes after so many rules.
+#[tactic(auto, using(crate::proofs::ReadRules::read_one))]
+fn hides(alloc: Global, rules: usize, values: &[Value]) -> Result<Vec<Hide>, RuleFault>
+    requires { rules + length values.now ≤ 1024 }
+    ensures { IsReading (read_map (λ v. v.items) result) (hides_from (rules + 1) (map view values.now)) }
+{
+    let mut hides = Vec::new(alloc);
+    for (i, value) in values.iter().enumerate() {
+        match hide(alloc, value)? {
+            Some(hide) => hides.push(hide)?,
+            None => return Err(RuleFault::Shape(rules + i + 1)),
+        }
+    }
+    Ok(hides)
+}
+
+// Whether a rule has a name.
 fn has(rules: &[Rule], name: &str) -> bool
     ensures { result ≡ list_any (λ r. bytes_eq name.now r.name) rules.now }
 {
     rules.iter().any(|r| name == r.name.as_str())
 }
 
-fn are_named_once(rules: &[Rule]) -> bool
-    ensures { result ≡ spec.are_named_once rules.now }
+// Whether a hide table has a name.
+fn has_hide(hides: &[Hide], name: &str) -> bool
+    ensures { result ≡ list_any (λ h. bytes_eq name.now h.name) hides.now }
 {
-    for i in 0..rules.len() {
-        if has(&rules[i + 1..], rules[i].name.as_str()) {
+    hides.iter().any(|h| name == h.name.as_str())
+}
+
+fn are_hides_named_once(hides: &[Hide]) -> bool
+    ensures { result ≡ spec.are_hides_named_once hides.now }
+{
+    for i in 0..hides.len() {
+        if has_hide(&hides[i + 1..], hides[i].name.as_str()) {
             return false;
         }
     }
     true
 }
 
+// Whether no two rules or hide tables have one name.
+fn are_named_once(rules: &[Rule], hides: &[Hide]) -> bool
+    ensures { result ≡ spec.are_named_once hides.now rules.now }
+{
+    for i in 0..rules.len() {
+        let name = rules[i].name.as_str();
+        if has(&rules[i + 1..], name) || has_hide(hides, name) {
+            return false;
+        }
+    }
+    are_hides_named_once(hides)
+}
+
 // The version of a rule file, if a table has no key besides those of one.
 fn file_version(table: &Table) -> Option<Version>
     ensures { result ≡ spec.file_version (table_view table.now) }
 {
-    if !fields::has_file_keys(table) {
-        return None;
+    match fields::version(table) {
+        Some(version) if fields::has_file_keys(version, table) => Some(version),
+        _ => None,
     }
-    fields::version(table)
 }
 
-// The values of the rules, none where there is no key.
-fn all_values(table: &Table) -> Option<&[Value]>
-    ensures { option_map (λ vs. map view vs.now) result ≡ all_values_in (table_view table.now) }
+// The values of the array at a key, none where there is no key.
+fn all_values<'a>(table: &'a Table, key: &str) -> Option<&'a [Value]>
+    ensures { option_map (λ vs. map view vs.now) result ≡ all_values_in key.now (table_view table.now) }
 {
-    match fields::value_at(table, "rule") {
+    match fields::value_at(table, key) {
         Some(value) => fields::array_values(value),
         None => Some(&[]),
     }
 }
 
-// At most 1,024 of them.
-fn rule_values(table: &Table) -> Option<&[Value]>
-    ensures value { option_map (λ vs. map view vs.now) result ≡ rule_values_in (table_view table.now) }
-    ensures few { IfSome result (λ vs. length vs.now ≤ 1024) }
+// The values of the rules and those of the hide tables: at most 1,024 together.
+fn file_values(table: &Table) -> Option<(&[Value], &[Value])>
+    ensures value { option_map (λ p. (map view p.0.now, map view p.1.now)) result ≡ file_values_in (table_view table.now) }
+    ensures few { IfSome result (λ p. length p.0.now + length p.1.now ≤ 1024) }
 {
-    match all_values(table) {
-        Some(values) if values.len() <= MOST_RULES => Some(values),
-        _ => None,
+    let rules = all_values(table, "rule")?;
+    let hides = all_values(table, "hide")?;
+    if rules.len() > MOST_RULES || hides.len() > MOST_RULES - rules.len() {
+        return None;
     }
+    Some((rules, hides))
+}
+
+// These rules and hide tables, if no two have one name.
+fn named_once(rules: Vec<Rule>, hides: Vec<Hide>) -> Result<Rules, RuleFault>
+    ensures { IsReading result (spec.named_once rules.items hides.items) }
+{
+    if !are_named_once(&rules, &hides) {
+        return Err(RuleFault::TwiceName);
+    }
+    Ok(Rules::new(rules, hides))
 }
 
 impl Rules {
-    /// The rules that a table is: `version = 1` or `2`, and an array `rule` of tables, each of which has
-    /// `name`, `from`, `action`, `type`, `scopes` and `verdict`, and in version 2 `owner` if it is wanted.
-    /// First the file is asked for, then rule after rule (`Shape`), last that no two rules have one name
-    /// (`TwiceName`).
+    /// The rules that a table is: `version = 1`, `2` or `3`, and an array `rule` of tables, each of which has
+    /// `name`, `from`, `action`, `type`, `scopes` and `verdict`, and from version 2 on `owner` if it is wanted.
+    /// In version 3 there may be an array `hide` of tables, each of which has `name`, `from`, `type`, `scopes` and
+    /// `tags`, and `spare-owner` if it is wanted. First the file is asked for, then rule after rule and table after table
+    /// (`Shape`), last that no two have one name (`TwiceName`).
     #[tactic(auto, unfolding(crate::specs::RuleFiles::rules_in_table))]
     pub fn from_table(alloc: Global, table: &Table) -> Result<Rules, RuleFault>
         ensures { IsReading result (rules_in_table (table_view table.now)) }
@@ -165,14 +265,12 @@ impl Rules {
         let Some(version) = file_version(table) else {
             return Err(RuleFault::Shape(0));
         };
-        let Some(values) = rule_values(table) else {
+        let Some((rule_values, hide_values)) = file_values(table) else {
             return Err(RuleFault::Shape(0));
         };
-        let rules = rules(alloc, version, values)?;
-        if !are_named_once(&rules) {
-            return Err(RuleFault::TwiceName);
-        }
-        Ok(Rules::new(rules))
+        let rules = rules(alloc, version, rule_values)?;
+        let hides = hides(alloc, rule_values.len(), hide_values)?;
+        named_once(rules, hides)
     }
 
     /// The rules that a text of TOML is. One of more than 1,048,576 bytes is refused first, then one that

@@ -1,11 +1,12 @@
 //! Who may register, withdraw or see which type in which scope: rules, of which the first that fits
-//! decides.
+//! decides. And which tags are hidden from whom.
 #![tactic(auto)]
 
 mod address;
 mod fault;
 pub mod fields;
 mod files;
+mod hide;
 pub mod laws;
 mod rule;
 mod rules;
@@ -13,6 +14,7 @@ mod version;
 
 pub use address::{Addr, number};
 pub use fault::RuleFault;
+pub use hide::Hide;
 pub use rule::{Action, Deed, Prefix, Rule};
 pub use rules::{Rules, Verdict};
 pub use version::Version;

@@ -98,40 +98,43 @@ fn is_same(a: Action, b: Action) -> bool
     }
 }
 
+// Whether an asker is among these.
+pub fn is_from(prefixes: &Row<Prefix>, asker: Addr) -> bool
+    ensures { result ≡ list_any (λ p. spec.holds p asker) prefixes.now }
+{
+    prefixes.as_slice().iter().any(|p| p.holds(asker))
+}
+
+// Whether a type is covered by one that is named. `None` is every type.
+pub fn is_of_kind(named: &Option<ServiceType>, kind: &ServiceType) -> bool
+    ensures { result ≡ allows_kind named.now kind.now }
+{
+    match named {
+        None => true,
+        Some(named) => named.covers(kind),
+    }
+}
+
+// Whether a scope is among those that are named. `None` is every scope.
+pub fn is_in_scope(named: &Option<ScopeList>, scope: &Key) -> bool
+    ensures { result ≡ allows_scope named.now scope.now }
+{
+    match named {
+        None => true,
+        Some(named) => named.has(scope),
+    }
+}
+
 impl Rule {
-    fn is_from(&self, asker: Addr) -> bool
-        ensures { result ≡ list_any (λ p. spec.holds p asker) self.now.from }
-    {
-        self.from.as_slice().iter().any(|p| p.holds(asker))
-    }
-
-    fn is_of_kind(&self, kind: &ServiceType) -> bool
-        ensures { result ≡ allows_kind self.now.kind kind.now }
-    {
-        match &self.kind {
-            None => true,
-            Some(named) => named.covers(kind),
-        }
-    }
-
-    fn is_in_scope(&self, scope: &Key) -> bool
-        ensures { result ≡ allows_scope self.now.scopes scope.now }
-    {
-        match &self.scopes {
-            None => true,
-            Some(named) => named.has(scope),
-        }
-    }
-
     /// Whether the rule is about a deed in a scope.
     #[inline(always)]
     pub(crate) fn fits(&self, deed: &Deed<'_>, scope: &Key) -> bool
         ensures { result ≡ spec.fits (deed_in deed.now) scope.now self.now }
     {
         is_same(self.action, deed.action)
-            && self.is_from(deed.asker)
-            && self.is_of_kind(deed.kind)
-            && self.is_in_scope(scope)
+            && is_from(&self.from, deed.asker)
+            && is_of_kind(&self.kind, deed.kind)
+            && is_in_scope(&self.scopes, scope)
             && (!self.owner || deed.asker.0 == deed.registrant.0)
     }
 }

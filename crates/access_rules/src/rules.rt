@@ -1,8 +1,10 @@
-ghost use Rattle.std.specs.Prelude.{◌≡◌, ◌<◌, position, slice_get, Some, IfSome};
+ghost use Rattle.std.specs.Prelude.{◌≡◌, ◌<◌, length, position, slice_get, Some, IfSome};
 ghost use Rattle.std.specs.Option.{option_map};
-ghost use Rattle.access_rules.specs.Deciding.{deciding, deed, deed_in, fits, number, rules_in};
+ghost use Rattle.access_rules.specs.Deciding.{deciding, deed, deed_in, fits, hides_in, is_hidden, number, rules_in};
+ghost use Rattle.access_rules.specs.declared.rule.Action.TheVariants.{See};
 
 use crate::address::Addr;
+use crate::hide::Hide;
 use crate::rule::{Action, Deed, Rule};
 use service_url::ServiceType;
 use slp_text::Key;
@@ -15,10 +17,11 @@ pub struct Verdict {
     pub rule: Option<usize>,
 }
 
-/// Rules in their order, which contracts see as a list.
+/// Rules in their order, and what is hidden beside them.
 #[derive(Drop)]
 pub struct Rules {
     rules: Vec<Rule>,
+    hides: Vec<Hide>,
 }
 
 impl Model for Rules {
@@ -29,7 +32,7 @@ impl Model for Rules {
 
     ghost coded = { rules_code };
 
-    ghost view = { λ a. a.rules.items };
+    ghost view = { λ a. record { rules = a.rules.items; hides = a.hides.items } };
 }
 
 // The place of the first rule that fits.
@@ -50,11 +53,11 @@ fn first_fitting(rules: &[Rule], deed: &Deed<'_>, scope: &Key) -> Option<usize>
 }
 
 impl Rules {
-    /// These rules, of which the first that fits decides.
-    pub fn new(rules: Vec<Rule>) -> Rules
-        ensures { result ≡ rules.items }
+    /// These rules, of which the first that fits decides, and these hide tables.
+    pub fn new(rules: Vec<Rule>, hides: Vec<Hide>) -> Rules
+        ensures { result ≡ record { rules = rules.items; hides = hides.items } }
     {
-        Rules { rules }
+        Rules { rules, hides }
     }
 
     /// The rules, in their order. Takes no memory.
@@ -64,11 +67,25 @@ impl Rules {
         &self.rules
     }
 
+    /// The hide tables, in their order. Takes no memory.
+    pub fn hide_tables(&self) -> &[Hide]
+        ensures { result.now ≡ hides_in self.now }
+    {
+        &self.hides
+    }
+
     /// How many rules there are. Takes no memory.
     pub fn len(&self) -> usize
         ensures { result ≡ number self.now }
     {
         self.rules.len()
+    }
+
+    /// How many hide tables there are. Takes no memory.
+    pub fn hides(&self) -> usize
+        ensures { result ≡ length (hides_in self.now) }
+    {
+        self.hides.len()
     }
 
     /// The name of the rule at a place. Takes no memory.
@@ -118,6 +135,38 @@ impl Rules {
                 registrant,
             },
             scope,
+        )
+    }
+
+    /// Whether some hide table that fits what is asked in a scope selects a tag: no rule is asked. Takes no memory.
+    pub fn hides_tag(&self, deed: &Deed<'_>, scope: &Key, tag: &Key) -> bool
+        ensures { result ≡ is_hidden self.now (deed_in deed.now) scope.now tag.now }
+    {
+        self.hides
+            .iter()
+            .any(|hide| hide.fits(deed, scope) && hide.tags.selects(tag))
+    }
+
+    /// The same, where what is asked comes in parts.
+    pub fn hidden(
+        &self,
+        asker: Addr,
+        kind: &ServiceType,
+        scope: &Key,
+        registrant: Addr,
+        tag: &Key,
+    ) -> bool
+        ensures { result ≡ is_hidden self.now (deed asker See kind.now registrant) scope.now tag.now }
+    {
+        self.hides_tag(
+            &Deed {
+                asker,
+                action: Action::See,
+                kind,
+                registrant,
+            },
+            scope,
+            tag,
         )
     }
 }

@@ -1,4 +1,4 @@
-//! Versions of rule files: each says which keys a rule may have.
+//! Versions of rule files: each says which keys a rule and the file may have.
 
 /// The version of a rule file.
 #[derive(Clone, Copy, Debug, PartialEq, Eq)]
@@ -6,4 +6,6 @@ pub enum Version {
     One,
     /// A rule may be about owners (`owner`).
     Two,
+    /// The file may have tables that hide attributes (`hide`).
+    Three,
 }

@@ -1,0 +1,18 @@
+use Rattle.std.proofs.Common.{arith, ◌≡◌, ◌∙◌, ◌+◌, ◌++◌, ◌∷◌, [], sym, ap, get_or, drop, map, Some}
+use Rattle.slp_text.specs.Reading.{read_map}
+use Rattle.toml.specs.View.{view}
+use Rattle.access_rules.specs.RuleFiles.{hide_in, hides_from}
+use Rattle.access_rules.proofs.ReadRules.{read_step}
+use Rattle.access_rules.proofs.files.hides.Goals as goal
+
+-- the hide table that was read stands after those so far
+pub loop-i-preserved : goal.loop-i-preserved
+loop-i-preserved c =
+    let is : hide_in (view (get_or c.args.values.now c.loop-i.i c.index-values-i.result)) ≡ Some c.in-Some.hide =
+    ap (λ v. hide_in (view v)) (sym c.index-values-i.is) ∙ (sym c.in_ok-hide.ensures ∙ c.in-Some.is) in
+    let step = read_step hide_in (c.args.rules + c.loop-i.i + 1) c.args.values.now c.loop-i.i c.index-values-i.result c.loop-i.hides.items c.in-Some.hide (omega arith) is in
+    let pushed : c.push.new.self.items ≡ c.loop-i.hides.items ++ c.in-Some.hide ∷ [] = c.in_ok-push-in-Some.ensures.items in
+    let number : c.args.rules + (c.loop-i.i + 1) + 1 ≡ c.args.rules + c.loop-i.i + 1 + 1 = omega arith in
+    let next = ap (λ n. read_map (λ hs. c.push.new.self.items ++ hs) (hides_from n (map view (drop (c.loop-i.i + 1) c.args.values.now)))) number in
+    let here = ap (λ xs. read_map (λ hs. xs ++ hs) (hides_from (c.args.rules + c.loop-i.i + 1 + 1) (map view (drop (c.loop-i.i + 1) c.args.values.now)))) pushed in
+    next ∙ here ∙ sym step ∙ c.loop-i.invariant
