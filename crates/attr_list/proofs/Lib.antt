@@ -5,6 +5,7 @@ pub mod Gathered
 pub mod GatheredMaps
 pub mod InnerCharacters
 pub mod JoinedMaps
+pub mod KeptAttributes
 pub mod ListedTexts
 pub mod Meaning
 pub mod Merged

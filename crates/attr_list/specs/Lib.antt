@@ -7,5 +7,6 @@ pub mod Merging
 pub mod Pieces
 pub mod Reading
 pub mod Stored
+pub mod Tests
 pub mod Texts
 pub mod Writing

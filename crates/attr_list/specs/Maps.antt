@@ -1,5 +1,5 @@
 -- What is made of attributes: updated, without some tags, some of them, and joined.
-use Rattle.std.specs.Prelude.{ℕ, not, List, [], ◌∷◌, ◌++◌, map, flat_map}
+use Rattle.std.specs.Prelude.{ℕ, Bool, not, List, [], ◌∷◌, ◌++◌, map, flat_map}
 use Rattle.std.specs.FinMap as fin
 use Rattle.slp_text.specs.Tags.{Part, selects}
 use Rattle.attr_list.specs.Elements.{Element}
@@ -20,6 +20,10 @@ attributes_without a tags = fin.retain_keys a (λ tag. not (selects tags tag))
 
 abbrev pub selected_attributes : Attributes → List Part → Attributes
 selected_attributes a tags = fin.retain_keys a (selects tags)
+
+-- the tags that a test accepts
+abbrev pub kept_attributes : Attributes → (List ℕ → Bool) → Attributes
+kept_attributes a p = fin.retain_keys a p
 
 -- attributes as elements of a list, in key order
 abbrev pub elements_in : Attributes → List Element

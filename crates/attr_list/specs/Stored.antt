@@ -1,5 +1,5 @@
 -- What a list of attributes keeps.
-use Rattle.std.specs.Prelude.{ℕ, Bool, List, map, filter, flat_map, not, if◌then◌else◌, T}
+use Rattle.std.specs.Prelude.{ℕ, Bool, List, map, filter, flat_map, T}
 use Rattle.slp_text.specs.Tags.{Part, selects}
 use Rattle.std.specs.FinMap as fin
 use Rattle.std.specs.FinMap.{is_sorted}
@@ -27,12 +27,9 @@ pub record AreStored (list : List Attribute) : Type 0 where
   pub sorted : T (is_sorted bytes_cmp (pairs_in list))
   pub each : AllByRecursion (λ a. IsAttribute a.tag a.held) list
 
--- whether a list of tags does with a tag what is wanted
-abbrev pub is_picked : List Part → Bool → List ℕ → Bool
-is_picked tags selected tag = if selected then selects tags tag else not (selects tags tag)
-
-abbrev pub picked_attributes : List Part → Bool → List Attribute → List Attribute
-picked_attributes tags selected list = filter (λ a. is_picked tags selected a.tag) list
+-- the attributes whose tags a test accepts
+abbrev pub kept_stored : (List ℕ → Bool) → List Attribute → List Attribute
+kept_stored p list = filter (λ a. p a.tag) list
 
 -- an attribute as an element of a list
 abbrev pub element_stored : Attribute → Element

@@ -1,11 +1,12 @@
-ghost use Rattle.std.specs.Prelude.{◌≡◌, ◌++◌, map, IfOk, OnErr};
+ghost use Rattle.std.specs.Prelude.{◌≡◌, ◌++◌, ℕ, Bool, List, map, IfOk, OnErr};
 ghost use Rattle.std.specs.List.{AllByRecursion};
 ghost use Rattle.std.specs.FinMap as fin;
 ghost use Rattle.slp_text.specs.Tags.{selects};
 ghost use Rattle.attr_values.specs.declared.fault.AttrFault.TheVariants as fault;
-ghost use Rattle.attr_list.specs.Maps.{attributes_without, elements_in, joined_attributes, selected_attributes, union_of, updated_attributes};
+ghost use Rattle.attr_list.specs.Maps.{attributes_without, elements_in, joined_attributes, kept_attributes, selected_attributes, union_of, updated_attributes};
 ghost use Rattle.attr_list.specs.Pieces.{element_in, IsElement};
-ghost use Rattle.attr_list.specs.Stored.{element_stored, picked_attributes, selected_elements};
+ghost use Rattle.attr_list.specs.Stored.{element_stored, kept_stored, selected_elements, AreStored};
+ghost use Rattle.attr_list.specs.Tests.{AcceptsAs};
 
 use crate::attrs::{Attribute, Attrs};
 use crate::elements::Element;
@@ -13,21 +14,22 @@ use crate::gathering::join;
 use crate::held::copies;
 use crate::merging::merge;
 use attr_values::AttrFault;
-use slp_text::{NoMemory, TagList};
+use slp_text::{Key, NoMemory, TagList};
 use std::alloc::Global;
 
-// Those attributes that a list of tags selects, or those that it does not.
-fn pick(
+// Those attributes whose tags a test accepts.
+fn pick<F: Fn(&Key) -> bool>(
     alloc: Global,
     entries: &[Attribute],
-    tags: &TagList,
-    selected: bool,
+    accepts: &F,
 ) -> Result<Vec<Attribute>, NoMemory>
-    ensures { IfOk result (λ v. v.items ≡ picked_attributes tags.now selected entries.now) }
+    requires { F.IsAlwaysCallable accepts.now }
+    ensures value { (p : List ℕ → Bool) → AcceptsAs F.Fn accepts.now p → IfOk result (λ v. v.items ≡ kept_stored p entries.now) }
+    ensures stored { IfOk result (λ v. AreStored entries.now → AreStored v.items) }
 {
     let mut picked = Vec::new(alloc);
     for entry in entries {
-        if tags.selects(&entry.tag) == selected {
+        if accepts(&entry.tag) {
             picked.push(entry.copy(alloc)?)?;
         }
     }
@@ -111,12 +113,22 @@ impl Attrs {
         Ok(attributes)
     }
 
+    /// The attributes whose tags a test accepts. Want of memory is the only fault.
+    pub fn kept<F: Fn(&Key) -> bool>(&self, alloc: Global, accepts: &F) -> Result<Attrs, AttrFault>
+        requires { F.IsAlwaysCallable accepts.now }
+        ensures value { (p : List ℕ → Bool) → AcceptsAs F.Fn accepts.now p → IfOk result (λ a. a ≡ kept_attributes self.now p) }
+        ensures memory { OnErr result (result ≡ Err fault.NoMemory) }
+    {
+        let entries = pick(alloc, self.entries(), accepts)?;
+        Ok(Attrs::of(entries))
+    }
+
     /// The attributes whose tags a list of tags does not select. Want of memory is the only fault.
     pub fn without(&self, alloc: Global, tags: &TagList) -> Result<Attrs, AttrFault>
         ensures value { IfOk result (λ a. a ≡ attributes_without self.now tags.now) }
         ensures memory { OnErr result (result ≡ Err fault.NoMemory) }
     {
-        let entries = pick(alloc, self.entries(), tags, false)?;
+        let entries = pick(alloc, self.entries(), &|tag: &Key| !tags.selects(tag))?;
         Ok(Attrs::of(entries))
     }
 
@@ -125,7 +137,7 @@ impl Attrs {
         ensures value { IfOk result (λ a. a ≡ selected_attributes self.now tags.now) }
         ensures memory { OnErr result (result ≡ Err fault.NoMemory) }
     {
-        let entries = pick(alloc, self.entries(), tags, true)?;
+        let entries = pick(alloc, self.entries(), &|tag: &Key| tags.selects(tag))?;
         Ok(Attrs::of(entries))
     }
 }

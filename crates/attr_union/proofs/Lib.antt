@@ -1,3 +1,3 @@
+pub mod KeptPieces
 pub mod LentUnions
 pub mod LentValues
-pub mod SelectedPieces

@@ -4,7 +4,9 @@
 mod distinct;
 mod gathering;
 mod lent;
+mod pieces;
 mod union;
 mod writing;
 
+pub use pieces::Gathering;
 pub use union::AttrUnion;

@@ -1,12 +1,15 @@
-ghost use Rattle.std.specs.Prelude.{◌≡◌};
+ghost use Rattle.std.specs.Prelude.{◌≡◌, ℕ, Bool, List};
+ghost use Rattle.attr_list.specs.Maps.{kept_attributes};
+ghost use Rattle.attr_list.specs.Tests.{AcceptsAs};
 ghost use Rattle.search_filter.specs.Filters as spec;
 ghost use Rattle.search_filter.specs.Outcomes.{IsReading};
 ghost use Rattle.search_filter.specs.Reading.{filter_in};
 
 use crate::fault::FilterFault;
 use crate::parsing::read_whole;
-use crate::tree::{Tree, holds};
+use crate::tree::{Tree, holds_where};
 use attr_list::Attrs;
+use slp_text::Key;
 use std::alloc::Global;
 use std::marker::Model;
 
@@ -49,6 +52,15 @@ impl Filter {
     pub fn holds(&self, attributes: &Attrs) -> bool
         ensures { result ≡ spec.holds self.now attributes.now }
     {
-        holds(&self.tree, attributes, true)
+        holds_where(&self.tree, attributes, true, &|_: &Key| true)
+    }
+
+    /// Whether the filter holds on those attributes alone whose tags a test accepts; the others count as absent. The test is asked of
+    /// a tag that an item names and that is there. It takes no memory, where the test takes none, and recurses as `holds` does.
+    pub fn holds_where<F: Fn(&Key) -> bool>(&self, attributes: &Attrs, accepts: &F) -> bool
+        requires { F.IsAlwaysCallable accepts.now }
+        ensures { (p : List ℕ → Bool) → AcceptsAs F.Fn accepts.now p → result ≡ spec.holds self.now (kept_attributes attributes.now p) }
+    {
+        holds_where(&self.tree, attributes, true, accepts)
     }
 }

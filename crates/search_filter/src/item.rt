@@ -1,6 +1,9 @@
-ghost use Rattle.std.specs.Prelude.{◌≡◌, not, if◌then◌else◌};
+ghost use Rattle.std.specs.Prelude.{◌≡◌, ℕ, Bool, List, not, if◌then◌else◌};
+ghost use Rattle.std.specs.FinMap as fin;
 ghost use Rattle.std.specs.List.{list_any};
 ghost use Rattle.std.specs.Option.{option_copied};
+ghost use Rattle.attr_list.specs.Maps.{kept_attributes};
+ghost use Rattle.attr_list.specs.Tests.{AcceptsAs};
 ghost use Rattle.search_filter.specs.Conditions as spec;
 ghost use Rattle.search_filter.specs.Conditions.{is_met, is_missed, item_holds, negated_item_holds};
 
@@ -76,10 +79,32 @@ impl Condition {
 }
 
 impl Item {
-    // Whether the item holds on attributes, or its negation. It takes no memory.
-    pub fn holds(&self, attributes: &Attrs, positive: bool) -> bool
-        ensures { result ≡ (if positive then item_holds self.now attributes.now else negated_item_holds self.now attributes.now) }
+    // What the tag of the item holds, if it is there and a test accepts it. The test is asked only where the tag is there.
+    fn accepted<'a, F: Fn(&Key) -> bool>(
+        &self,
+        attributes: &'a Attrs,
+        accepts: &F,
+    ) -> Option<&'a Held>
+        requires { F.IsAlwaysCallable accepts.now }
+        ensures { (p : List ℕ → Bool) → AcceptsAs F.Fn accepts.now p → option_copied result ≡ fin.get (kept_attributes attributes.now p) self.now.tag }
     {
-        self.condition.holds(attributes.get(&self.tag), positive)
+        match attributes.get(&self.tag) {
+            Some(held) if accepts(&self.tag) => Some(held),
+            _ => None,
+        }
+    }
+
+    // Whether the item holds on the attributes whose tags a test accepts, or its negation. It takes no memory.
+    pub fn holds<F: Fn(&Key) -> bool>(
+        &self,
+        attributes: &Attrs,
+        positive: bool,
+        accepts: &F,
+    ) -> bool
+        requires { F.IsAlwaysCallable accepts.now }
+        ensures { (p : List ℕ → Bool) → AcceptsAs F.Fn accepts.now p → result ≡ (if positive then item_holds self.now (kept_attributes attributes.now p) else negated_item_holds self.now (kept_attributes attributes.now p)) }
+    {
+        self.condition
+            .holds(self.accepted(attributes, accepts), positive)
     }
 }

@@ -1,8 +1,11 @@
-ghost use Rattle.std.specs.Prelude.{◌≡◌, if◌then◌else◌};
+ghost use Rattle.std.specs.Prelude.{◌≡◌, ℕ, Bool, List, if◌then◌else◌};
+ghost use Rattle.attr_list.specs.Maps.{kept_attributes};
+ghost use Rattle.attr_list.specs.Tests.{AcceptsAs};
 ghost use Rattle.search_filter.specs.Trees.{filter_of, filters_in, holds_as, each_holds_as};
 
 use crate::item::Item;
 use attr_list::Attrs;
+use slp_text::Key;
 
 // A filter as it was written.
 #[derive(Drop)]
@@ -13,27 +16,40 @@ pub enum Tree {
     Item(Item),
 }
 
-// Whether a filter holds on attributes, or its negation. The sign goes down the tree, in which negations
-// stay where they were written. It takes no memory, and one level of recursion for each of the filter.
-#[cycle(holds)]
-pub fn holds(tree: &Tree, attributes: &Attrs, positive: bool) -> bool
-    ensures { result ≡ holds_as positive attributes.now (filter_of tree.now) }
+// Whether a filter holds on the attributes whose tags a test accepts, or its negation. The sign goes down the tree, in
+// which negations stay where they were written. It takes no memory, and one level of recursion for each of the filter.
+#[cycle(holds_where)]
+pub fn holds_where<F: Fn(&Key) -> bool>(
+    tree: &Tree,
+    attributes: &Attrs,
+    positive: bool,
+    accepts: &F,
+) -> bool
+    requires { F.IsAlwaysCallable accepts.now }
+    ensures { (p : List ℕ → Bool) → AcceptsAs F.Fn accepts.now p → result ≡ holds_as positive (kept_attributes attributes.now p) (filter_of tree.now) }
 {
     match tree {
-        Tree::All(filters) => each_holds(filters, attributes, positive, positive),
-        Tree::Any(filters) => each_holds(filters, attributes, positive, !positive),
-        Tree::Not(filter) => holds(filter, attributes, !positive),
-        Tree::Item(item) => item.holds(attributes, positive),
+        Tree::All(filters) => each_holds_where(filters, attributes, positive, positive, accepts),
+        Tree::Any(filters) => each_holds_where(filters, attributes, positive, !positive, accepts),
+        Tree::Not(filter) => holds_where(filter, attributes, !positive, accepts),
+        Tree::Item(item) => item.holds(attributes, positive, accepts),
     }
 }
 
 // Whether all filters hold, or some, of them or of their negations.
-#[cycle(holds)]
-fn each_holds(filters: &Vec<Tree>, attributes: &Attrs, positive: bool, all: bool) -> bool
-    ensures { result ≡ each_holds_as positive all attributes.now (filters_in filters.now.items) }
+#[cycle(holds_where)]
+fn each_holds_where<F: Fn(&Key) -> bool>(
+    filters: &Vec<Tree>,
+    attributes: &Attrs,
+    positive: bool,
+    all: bool,
+    accepts: &F,
+) -> bool
+    requires { F.IsAlwaysCallable accepts.now }
+    ensures { (p : List ℕ → Bool) → AcceptsAs F.Fn accepts.now p → result ≡ each_holds_as positive all (kept_attributes attributes.now p) (filters_in filters.now.items) }
 {
     for filter in filters {
-        if holds(filter, attributes, positive) != all {
+        if holds_where(filter, attributes, positive, accepts) != all {
             return !all;
         }
     }
