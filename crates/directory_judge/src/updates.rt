@@ -17,6 +17,8 @@ use std::alloc::Global;
 use std::sync::Arc;
 
 // The entry that stands, with the attributes and the deadline that an update of it names.
+// A function of its own in the machine's code as well, so that the loop over the attributes keeps its registers.
+#[inline(never)]
 fn updated(alloc: Global, old: &Entry, named: Entry) -> Result<Arc<Entry>, NoMemory>
     requires pair { pair_of named ≡ pair_of old.now }
     requires kind { named.kind ≡ old.now.kind }
