@@ -16,6 +16,7 @@ use Rattle.directory_judge.specs.History.{now}
 use Rattle.directory_judge.specs.Meaning.{Live, rules}
 use Rattle.directory_judge.specs.Sites.{Site}
 use Rattle.directory_questions.specs.Calls.{Standpoint}
+use Rattle.directory_questions.specs.Sights.{asked_scopes, seen_entry}
 use Rattle.directory_questions.specs.declared.query.AttrQuery.{AttrQuery}
 use Rattle.directory_questions.specs.declared.query.Authority.{Authority}
 use Rattle.directory_questions.specs.declared.query.Authority.TheVariants as authority
@@ -32,10 +33,12 @@ pub record Open (rs : SiteRules) (site : Site) (asker : ℕ) (asked : List (List
   pub supported : Contains site.scopes scope
   pub allowed : IsTrue (deciding rs (deed asker See e.kind e.owner) scope).allow
 
--- the entry is live, and open to the asker in the scopes that are asked for
+-- what is seen of an entry that is live, and open to the asker in the scopes that are asked for: the entry with what is shown of it there
 pub record IsOpenNow (from : Standpoint) (asked : List (List ℕ)) (e : Entry) : Type 0 where
-  pub live : Live from.history from.moment e
-  pub open_to : Open (rules from.opening.rules from.history) from.opening.site from.asker asked e
+  pub entry : Entry
+  pub live : Live from.history from.moment entry
+  pub open_to : Open (rules from.opening.rules from.history) from.opening.site from.asker asked entry
+  pub seen : e ≡ seen_entry (rules from.opening.rules from.history) from.asker (asked_scopes from.opening.site asked) entry
 
 -- the entry is one of those that are open, and is of what is asked about
 pub record Matches (IsOpen : Entry → Type 0) (is_about : Entry → Bool) (e : Entry) : Type 0 where

@@ -5,5 +5,6 @@ pub mod Items
 pub mod Outcomes
 pub mod Questions
 pub mod Requests
+pub mod Sights
 pub mod Readings
 pub mod Verdicts

@@ -1,6 +1,6 @@
 ghost use Rattle.std.specs.Prelude.{◌≡◌};
 ghost use Rattle.std.specs.Option.{option_copied};
-ghost use Rattle.directory_questions.specs.Items.{is_under, is_wanted, kind_asked};
+ghost use Rattle.directory_questions.specs.Items.{is_under, kind_asked};
 ghost use Rattle.directory_questions.specs.declared.query.QueryFault.TheVariants as fault;
 
 use registry_core::Entry;
@@ -17,19 +17,6 @@ pub struct ServiceQuery {
     pub scopes: ScopeList,
     pub language: Key,
     pub filter: Option<Filter>,
-}
-
-impl ServiceQuery {
-    /// Whether an entry that is open and matches is asked for: all are, where there is no filter; else those
-    /// in the language on whose attributes the filter holds. Takes no memory.
-    pub fn wants(&self, entry: &Entry) -> bool
-        ensures { result ≡ is_wanted self.now entry.now }
-    {
-        match &self.filter {
-            Some(filter) => entry.language == self.language && filter.holds(&entry.attrs),
-            None => true,
-        }
-    }
 }
 
 /// What an attribute request is about: a type and what it covers, or one URL.

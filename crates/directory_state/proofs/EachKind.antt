@@ -1,17 +1,21 @@
 -- Some entries, one of each type among them.
-use Rattle.std.proofs.Common.{◌≡◌, ℕ, ◌++◌, true, false, cond, List, [], ◌∷◌, refl, sym, ap, subst, ◌∙◌, arith, inl, inr}
-use Rattle.std.specs.Prelude.{Bool, filter, is_none, IsTrue, Contains}
+use Rattle.std.proofs.Common.{◌≡◌, ℕ, suc, ◌-◌, ◌++◌, true, false, cond, List, [], ◌∷◌, drop, drop-cons, length, map, take, Some, refl, sym, ap, ap₂, subst, ◌∙◌, arith, inl, inr}
+use Rattle.std.specs.Prelude.{Bool, filter, is_none, slice_get, IsTrue, Contains}
 use Rattle.std.specs.List.{AllByRecursion}
 use Rattle.std.specs.Option.{option_map_or}
 use Rattle.std.proofs.lemmas.List.Elements.{filter-append, Contains-append_left, Contains-append_right, Contains-append_cases}
+use Rattle.std.specs.declared.cmp.Ordering.TheVariants.{Less}
+use Rattle.std.proofs.lemmas.Cmp.{nat_list_cmp_total}
+use Rattle.std.proofs.lemmas.List.{drop_all, map-append, take-append-drop}
+use Rattle.std.proofs.lemmas.Option.{get_or_from_slice_get, slice_get_within}
 use Rattle.slp_text.proofs.KeySets.{member_cases}
-use Rattle.slp_text.specs.Words.{bytes_eq}
+use Rattle.slp_text.specs.Words.{bytes_cmp, bytes_eq, IsAscending}
 use Rattle.service_url.specs.Types.{authority_of}
 use Rattle.registry_core.specs.declared.entry.Entry.{Entry}
 use Rattle.directory_questions.specs.declared.query.Authority.{Authority}
 use Rattle.directory_questions.specs.declared.query.Authority.TheVariants as authority
 use Rattle.directory_questions.specs.Items.{is_under, AreTypes}
-use Rattle.directory_state.specs.Searches.{HasEachKind}
+use Rattle.directory_state.specs.Searches.{AreByKind, HasEachKind}
 
 -- all of them are some of them
 pub each-itself : (es : List Entry) → HasEachKind es es
@@ -59,9 +63,46 @@ under-kind authority.Unnamed e f same h = subst (λ k. IsTrue (is_none (authorit
 under-kind (authority.Named name) e f same h = subst (λ k. IsTrue (option_map_or (λ own. bytes_eq own name) (authority_of k) false)) (sym same) h
 
 -- types of which there is one each among some entries are the types of all
-pub types-of_each : (P Q : Entry → Type 0) (types : List (List ℕ)) → ((e : Entry) → P e → Q e) → ((e : Entry) → Q e → (f : Entry) × P f × (f.kind ≡ e.kind)) → AreTypes P types → AreTypes Q types
+pub types-of_each : (P Q : Entry → Type 0) (types : List (List ℕ)) → ((e : Entry) → P e → (f : Entry) × Q f × (f.kind ≡ e.kind)) → ((e : Entry) → Q e → (f : Entry) × P f × (f.kind ≡ e.kind)) → AreTypes P types → AreTypes Q types
 types-of_each P Q types to back a = record {
   ordered = a.ordered;
-  each = λ t has. let k = a.each t has in (k.0, to k.0 k.1, k.2);
+  each = λ t has. let k = a.each t has in let q = to k.0 k.1 in (q.0, q.1, q.2 ∙ k.2);
   all = λ e holds. let k = back e holds in subst (Contains types) k.2 (a.all k.0 k.1);
 }
+
+-- ---- in the key order of their types
+
+below-last : (y : List ℕ) (ys : List (List ℕ)) (last k : List ℕ) → bytes_cmp last k ≡ Less → AllByRecursion (λ j. bytes_cmp y j ≡ Less) (ys ++ last ∷ []) → AllByRecursion (λ j. bytes_cmp y j ≡ Less) ((ys ++ last ∷ []) ++ k ∷ [])
+below-last y [] last k less h = (h.0, (nat_list_cmp_total.trans y last k h.0 less, tt))
+below-last y (z ∷ ys) last k less h = (h.0, below-last y ys last k less h.1)
+
+after-last : (ys : List (List ℕ)) (last k : List ℕ) → bytes_cmp last k ≡ Less → IsAscending (ys ++ last ∷ []) → IsAscending ((ys ++ last ∷ []) ++ k ∷ [])
+after-last [] last k less a = ((less, tt), (tt, tt))
+after-last (y ∷ ys) last k less a = (below-last y ys last k less a.0, after-last ys last k less a.1)
+
+-- an entry is pushed whose type comes after that of the last
+pub push-last : (es : List Entry) (last e : Entry) → slice_get es (length es - 1) ≡ Some last → bytes_cmp last.kind e.kind ≡ Less → AreByKind es → AreByKind (es ++ e ∷ [])
+push-last es last e is less a =
+    let n = length es - 1 in
+    let within = slice_get_within es n last is in
+    let kinds : List Entry → List (List ℕ) = map (λ x. x.kind) in
+    let past : drop (suc n) es ≡ [] = drop_all (suc n) es (omega (arith, within)) in
+    let split : es ≡ take n es ++ last ∷ [] =
+    sym (take-append-drop n es) ∙ ap (λ t. take n es ++ t) (drop-cons es n last within ∙ ap₂ (λ x xs. x ∷ xs) (get_or_from_slice_get es n last last is) past) in
+    let keys : kinds es ≡ kinds (take n es) ++ last.kind ∷ [] = ap kinds split ∙ map-append (λ x. x.kind) (take n es) (last ∷ []) in
+    subst IsAscending (ap (λ ks. ks ++ e.kind ∷ []) (sym keys) ∙ sym (map-append (λ x. x.kind) es (e ∷ []))) (after-last (kinds (take n es)) last.kind e.kind less (subst IsAscending keys a))
+
+below-filter : (k : List ℕ) (p : Entry → Bool) (es : List Entry) → AllByRecursion (λ j. bytes_cmp k j ≡ Less) (map (λ e. e.kind) es) → AllByRecursion (λ j. bytes_cmp k j ≡ Less) (map (λ e. e.kind) (filter p es))
+below-filter k p [] h = tt
+below-filter k p (e ∷ es) h = elim (p e) as (λ b. AllByRecursion (λ j. bytes_cmp k j ≡ Less) (map (λ e. e.kind) (cond b (e ∷ filter p es) (filter p es)))) [
+  | true ↦ (h.0, below-filter k p es h.1)
+  | false ↦ below-filter k p es h.1
+]
+
+-- some of them stand so, too
+pub by_kind-filter : (p : Entry → Bool) (es : List Entry) → AreByKind es → AreByKind (filter p es)
+by_kind-filter p [] a = tt
+by_kind-filter p (e ∷ es) a = elim (p e) as (λ b. AreByKind (cond b (e ∷ filter p es) (filter p es))) [
+  | true ↦ (below-filter e.kind p es a.0, by_kind-filter p es a.1)
+  | false ↦ by_kind-filter p es a.1
+]

@@ -22,4 +22,5 @@ pub mod SameAnswers
 pub mod SearchAnswers
 pub mod SeenUrls
 pub mod Shortlists
+pub mod ShownEntries
 pub mod States

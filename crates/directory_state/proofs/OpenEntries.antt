@@ -1,5 +1,5 @@
 -- What is open in the state of a history, of a type or of a URL.
-use Rattle.std.proofs.Common.{◌≡◌, ℕ, max, Bool, true, false, cond, not, List, [], ◌∷◌, Some, refl, sym, ap, ap₂, subst, ◌∙◌, arith, inl, inr}
+use Rattle.std.proofs.Common.{◌≡◌, ℕ, max, Bool, true, false, cond, not, List, [], ◌∷◌, map, Some, refl, sym, ap, ap₂, subst, ◌∙◌, arith, inl, inr}
 use Rattle.std.specs.Prelude.{◌&&◌, ◌||◌, ◌↔◌, filter, find, Contains, IsTrue}
 use Rattle.std.specs.List.{list_any, All}
 use Rattle.std.specs.FinMap as fin
@@ -9,7 +9,7 @@ use Rattle.std.proofs.lemmas.Map.Text.{is_eq-slice_cmp}
 use Rattle.std.proofs.lemmas.Option.{none-some, same_Some}
 use Rattle.slp_text.proofs.KeySets.{bytes_same, member_cases}
 use borrow.Author.Tests.{ltb-true, lt-ltb}
-use Rattle.access_rules.specs.Deciding.{deciding, deed}
+use Rattle.access_rules.specs.Deciding.{SiteRules, deciding, deed}
 use Rattle.access_rules.specs.declared.rule.Action.TheVariants.{See}
 use Rattle.registry_core.specs.declared.entry.Entry.{Entry}
 use Rattle.registry_core.specs.Entries.{Entries, pair_of, is_of, outlives, has_scope, IsDistinct, IsListing}
@@ -17,13 +17,16 @@ use Rattle.registry_core.proofs.Lists.{pair_eq-true, pair_eq-same}
 use Rattle.slp_text.specs.Words.{bytes_eq}
 use Rattle.directory_questions.specs.Calls.{Opening, standpoint}
 use Rattle.directory_questions.specs.Items.{IsOpenNow, Matches}
+use Rattle.directory_questions.specs.Sights.{asked_scopes, seen_entry}
 use Rattle.directory_judge.specs.History.{History, now}
 use Rattle.directory_judge.specs.Judgements.{supports}
 use Rattle.directory_judge.specs.Meaning.{rules}
 use Rattle.directory_judge.specs.Sites.{Site}
-use Rattle.directory_state.specs.AskedScopes.{asked_scopes}
+use Rattle.attr_list.specs.Lists.{Attributes}
 use Rattle.directory_state.specs.Folds.{Fold}
-use Rattle.directory_state.specs.Searches.{is_allowed, is_open, HasOneOfEachPair, IsIn}
+use Rattle.directory_state.specs.Searches.{is_allowed, is_open, is_seen, seen_of, HasOneOfEachPair, IsIn}
+use Rattle.directory_state.specs.Viewers.{IsViewerOf}
+use Rattle.directory_state.specs.declared.viewer.Viewer.{Viewer}
 use Rattle.directory_state.specs.State.{State}
 use Rattle.directory_state.proofs.Folds.{if_kept-some, some-if_kept}
 use Rattle.directory_state.proofs.Joins.{is_same-itself}
@@ -51,7 +54,7 @@ module _ {A : Type 0} (p : A → Bool) where
         | false ↦ λ _ rest. let k = list_any-some xs rest in (k.0, there x k.0 xs k.1, k.2)
       ] refl h
 
-  some-list_any : (xs : List A) (x : A) → Contains xs x → p x ≡ true → list_any p xs ≡ true
+  pub some-list_any : (xs : List A) (x : A) → Contains xs x → p x ≡ true → list_any p xs ≡ true
   some-list_any [] x has is = absurd (omega (arith, has.1))
   some-list_any (y ∷ ys) x has is = elim (member_cases y x ys has) [
     | inl same ↦ or-first (p y) (list_any p ys) (ap p same ∙ is)
@@ -159,47 +162,94 @@ module _ (p : Entry → Bool) (live : Entries) (es : List Entry) (l : IsListing 
       let held : (x : Entry) → Contains (filter seen es) x → fin.get live (pair_of x) ≡ Some x = λ x in'. (listed-held x (from-filter seen es x in')).0 in
       same_Some e f (sym (held e has) ∙ ap (fin.get live) same ∙ held f other)
 
+-- ---- what is mapped
+
+none_within : {A : Type 0} (x : A) → Contains [] x → ⊥
+none_within x has = omega (arith, has.1)
+
+pub mapped-has : {A B : Type 0} (f : A → B) (xs : List A) (x : A) → Contains xs x → Contains (map f xs) (f x)
+mapped-has f [] x has = absurd (none_within x has)
+mapped-has f (y ∷ ys) x has = elim (member_cases y x ys has) [
+  | inl same ↦ subst (λ z. Contains (map f (y ∷ ys)) (f z)) same (here (f y) (map f ys))
+  | inr rest ↦ there (f y) (f x) (map f ys) (mapped-has f ys x rest)
+]
+
+pub mapped-from : {A B : Type 0} (f : A → B) (xs : List A) (t : B) → Contains (map f xs) t → (x : A) × Contains xs x × (f x ≡ t)
+mapped-from f [] t has = absurd (none_within t has)
+mapped-from f (y ∷ ys) t has = elim (member_cases (f y) t (map f ys) has) [
+  | inl same ↦ (y, here y ys, same)
+  | inr rest ↦ let k = mapped-from f ys t rest in (k.0, there y k.0 ys k.1, k.2)
+]
+
 -- ---- what is seen of a listing is what is open of it
 
-module _ (o : Opening) (h : History) (s : State) (m asker n : ℕ) (scopes : List (List ℕ)) (seen p : Entry → Bool) (es : List Entry)
-    (fold : Fold o h s) (is : n ≡ max m s.clock) (sees : (e : Entry) → seen e ≡ is_open s.rules n asker (asked_scopes s.site scopes) e) (l : IsListing p s.entries es) where
-  at : n ≡ now h m
-  at = is ∙ ap (max m) fold.clocks
+-- the test looks at no attributes
+abbrev pub KeepsTest : (Entry → Bool) → Type 0
+KeepsTest p = (e : Entry) (a : Attributes) → p (record e { attrs = a }) ≡ p e
 
-  sees_there : (e : Entry) → seen e ≡ is_open (rules o.rules h) n asker (asked_scopes o.site scopes) e
-  sees_there e = sees e ∙ ap₂ (λ rs site. is_open rs n asker (asked_scopes site scopes) e) fold.ruled fold.placed
+module _ (o : Opening) (h : History) (s : State) (m asker : ℕ) (scopes : List (List ℕ)) (v : Viewer) (p : Entry → Bool) (es : List Entry)
+    (fold : Fold o h s) (by : IsViewerOf s m asker scopes v) (keeps : KeepsTest p) (l : IsListing p s.entries es) where
+  abbrev ruled : SiteRules
+  ruled = rules o.rules h
 
-  from-seen : (e : Entry) → Contains (filter seen es) e → Matches (IsOpenNow (standpoint o h m asker) scopes) p e
-  from-seen e has =
-      let listed = listed-held p s.entries es l e (from-filter seen es e has) in
-      let two = and_parts (outlives n e) (is_allowed (rules o.rules h) asker (asked_scopes o.site scopes) e) (sym (sees_there e) ∙ passes-filter seen es e has) in
-      let some = list_any-some (λ t. has_scope t e && (deciding (rules o.rules h) (deed asker See e.kind e.owner) t).allow) (asked_scopes o.site scopes) two.1 in
+  abbrev asked : List (List ℕ)
+  asked = asked_scopes o.site scopes
+
+  -- what depends on the viewer alone is the same of the history
+  there_is : {A : Type 0} (f : SiteRules → ℕ → ℕ → List (List ℕ) → A) → f v.rules.now v.moment v.asker v.asked ≡ f ruled (now h m) asker asked
+  there_is f =
+      ap (λ rs. f rs v.moment v.asker v.asked) (by.rules ∙ fold.ruled)
+      ∙ ap (λ n. f ruled n v.asker v.asked) (by.acts ∙ ap (max m) fold.clocks)
+      ∙ ap (λ a. f ruled (now h m) a v.asked) by.asks
+      ∙ ap (f ruled (now h m) asker) (by.asked ∙ ap (λ site. asked_scopes site scopes) fold.placed)
+
+  sees_there : (e : Entry) → is_seen v e ≡ is_open ruled (now h m) asker asked e
+  sees_there e = there_is (λ rs n a ss. is_open rs n a ss e)
+
+  shows_there : (e : Entry) → seen_of v e ≡ seen_entry ruled asker asked e
+  shows_there e = there_is (λ rs n a ss. seen_entry rs a ss e)
+
+  pub from-seen : (x e : Entry) → Contains (filter (is_seen v) es) x → seen_of v x ≡ e → Matches (IsOpenNow (standpoint o h m asker) scopes) p e
+  from-seen x e has same =
+      let listed = listed-held p s.entries es l x (from-filter (is_seen v) es x has) in
+      let two = and_parts (outlives (now h m) x) (is_allowed ruled asker asked x) (sym (sees_there x) ∙ passes-filter (is_seen v) es x has) in
+      let some = list_any-some (λ t. has_scope t x && (deciding ruled (deed asker See x.kind x.owner) t).allow) asked two.1 in
       let scope = some.0 in
-      let three = and_parts (has_scope scope e) (deciding (rules o.rules h) (deed asker See e.kind e.owner) scope).allow some.2 in
-      let lives = ((fold.entries (pair_of e) e).0 listed.0).1 in
+      let three = and_parts (has_scope scope x) (deciding ruled (deed asker See x.kind x.owner) scope).allow some.2 in
+      let lives = ((fold.entries (pair_of x) x).0 listed.0).1 in
       record {
         opened = record {
-          live = record { stands = lives.stands; lasts = omega (arith, at, ltb-true n e.deadline two.0) };
+          entry = x;
+          live = record { stands = lives.stands; lasts = ltb-true (now h m) x.deadline two.0 };
           open_to = record {
             scope = scope;
-            stored = list_any-contains e.scopes scope three.0;
+            stored = list_any-contains x.scopes scope three.0;
             requested = list_any-contains scopes scope (passes-filter (is_asked o.site scopes) o.site.scopes scope some.1);
             supported = from-filter (is_asked o.site scopes) o.site.scopes scope some.1;
             allowed = three.1;
           };
+          seen = sym same ∙ shows_there x;
         };
-        about = listed.1;
+        about = ap p (sym same) ∙ keeps x (seen_of v x).attrs ∙ listed.1;
       }
 
-  to-seen : (e : Entry) → Matches (IsOpenNow (standpoint o h m asker) scopes) p e → Contains (filter seen es) e
+  pub to-seen : (e : Entry) → Matches (IsOpenNow (standpoint o h m asker) scopes) p e → (x : Entry) × Contains (filter (is_seen v) es) x × (seen_of v x ≡ e)
   to-seen e a =
+      let x = a.opened.entry in
       let open_to = a.opened.open_to in
-      let got = (fold.entries (pair_of e) e).1 (refl, record { stands = a.opened.live.stands; lasts = omega (arith, a.opened.live.lasts) }) in
-      let asked = Contains-filter (is_asked o.site scopes) o.site.scopes open_to.scope open_to.supported (contains-list_any scopes open_to.scope open_to.requested) in
-      let allowed = some-list_any (λ t. has_scope t e && (deciding (rules o.rules h) (deed asker See e.kind e.owner) t).allow) (asked_scopes o.site scopes) open_to.scope asked
-      (ap₂ ◌&&◌ (contains-list_any e.scopes open_to.scope open_to.stored) open_to.allowed) in
-      Contains-filter seen es e (held-listed p s.entries es l e got a.about)
-      (sees_there e ∙ ap₂ ◌&&◌ (lt-ltb n e.deadline (omega (arith, at, a.opened.live.lasts))) allowed)
+      let got = (fold.entries (pair_of x) x).1 (refl, record { stands = a.opened.live.stands; lasts = omega (arith, a.opened.live.lasts) }) in
+      let in_asked = Contains-filter (is_asked o.site scopes) o.site.scopes open_to.scope open_to.supported (contains-list_any scopes open_to.scope open_to.requested) in
+      let allowed = some-list_any (λ t. has_scope t x && (deciding ruled (deed asker See x.kind x.owner) t).allow) asked open_to.scope in_asked
+      (ap₂ ◌&&◌ (contains-list_any x.scopes open_to.scope open_to.stored) open_to.allowed) in
+      let about : p x ≡ true = sym (keeps x (seen_entry ruled asker asked x).attrs) ∙ ap p (sym a.opened.seen) ∙ a.about in (
+        x,
+        Contains-filter (is_seen v) es x (held-listed p s.entries es l x got about)
+            (sees_there x ∙ ap₂ ◌&&◌ (lt-ltb (now h m) x.deadline a.opened.live.lasts) allowed),
+        shows_there x ∙ sym a.opened.seen,
+      )
 
-  pub seen-open : (e : Entry) → IsIn (filter seen es) e ↔ Matches (IsOpenNow (standpoint o h m asker) scopes) p e
-  seen-open e = (from-seen e, to-seen e)
+  pub seen-open : (e : Entry) → IsIn (map (seen_of v) (filter (is_seen v) es)) e ↔ Matches (IsOpenNow (standpoint o h m asker) scopes) p e
+  seen-open e = (
+    (λ has. let k = mapped-from (seen_of v) (filter (is_seen v) es) e has in from-seen k.0 e k.1 k.2),
+    (λ a. let k = to-seen e a in subst (Contains (map (seen_of v) (filter (is_seen v) es))) k.2 (mapped-has (seen_of v) (filter (is_seen v) es) k.0 k.1)),
+  )

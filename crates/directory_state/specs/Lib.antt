@@ -7,3 +7,4 @@ pub mod Fronts
 pub mod Reloads
 pub mod Searches
 pub mod State
+pub mod Viewers

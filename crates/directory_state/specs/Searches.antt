@@ -1,11 +1,14 @@
 -- How what answers a question is found: each entry that is seen joins a list of URLs with their latest deadlines, which is cut to its room.
-use Rattle.std.specs.Prelude.{◌≡◌, ℕ, ◌+◌, ◌-◌, ◌<◌, ◌≤◌, Bool, true, ◌&&◌, nat_le, min, if◌then◌else◌, List, [], ◌∷◌, length, map, filter, Contains, Option, Some, None, IfSome, IsTrue}
-use Rattle.access_rules.specs.Deciding.{SiteRules, deciding, deed}
-use Rattle.access_rules.specs.declared.rule.Action.TheVariants.{See}
-use Rattle.registry_core.specs.Entries.{has_scope, outlives, pair_of}
+use Rattle.std.specs.Prelude.{◌≡◌, ℕ, ◌+◌, ◌-◌, ◌<◌, ◌≤◌, Bool, true, ◌&&◌, nat_le, min, if◌then◌else◌, List, [], ◌∷◌, drop, get_or, length, map, filter, Contains, vec_items, Option, Some, None, IfSome, IsTrue}
+use Rattle.access_rules.specs.Deciding.{SiteRules}
+use Rattle.attr_list.specs.Elements.{Element}
+use Rattle.attr_list.specs.Maps.{elements_in, kept_attributes}
+use Rattle.slp_text.specs.Tags.{Part, selects}
+use Rattle.registry_core.specs.Entries.{Entries, outlives, pair_of, IsListing}
 use Rattle.registry_core.specs.declared.entry.Entry.{Entry}
 use Rattle.slp_messages.specs.declared.message.UrlEntry.{UrlEntry}
 use Rattle.directory_questions.specs.Items.{is_wanted}
+use Rattle.directory_questions.specs.Sights.{is_left_in, is_open_in, seen_entry}
 use Rattle.directory_questions.specs.declared.query.ServiceQuery.{ServiceQuery}
 use Rattle.directory_state.specs.Deadlines.{UrlDeadline, with_deadline, total_cost, urls_of}
 use Rattle.std.specs.List.{AllByRecursion, list_any}
@@ -16,6 +19,7 @@ use Rattle.directory_state.specs.declared.search.Shortlist.{Shortlist}
 use Rattle.directory_state.specs.declared.search.Room.{Room}
 use Rattle.directory_state.specs.declared.search.Search.{Search}
 use Rattle.directory_state.specs.declared.search.Spoken.{Spoken}
+use Rattle.directory_state.specs.declared.viewer.SeenEntries.{SeenEntries}
 use Rattle.directory_state.specs.declared.viewer.Viewer.{Viewer}
 use Rattle.directory_state.specs.declared.search.Spoken.TheVariants.{Nothing, Others, Asked}
 
@@ -26,11 +30,7 @@ abbrev pub deadlines_with : List Entry → List UrlDeadline → List UrlDeadline
 deadlines_with [] ps = ps
 deadlines_with (e ∷ es) ps = deadlines_with es (with_deadline e.url e.deadline ps)
 
--- the entry stands in a scope, in which the asker may see what its owner registered of its type
-abbrev pub is_open_in : SiteRules → ℕ → Entry → List ℕ → Bool
-is_open_in rules asker e s = has_scope s e && (deciding rules (deed asker See e.kind e.owner) s).allow
-
--- it is so of one of the scopes
+-- the entry is open in one of the scopes
 abbrev pub is_allowed : SiteRules → ℕ → List (List ℕ) → Entry → Bool
 is_allowed rules asker scopes e = list_any (is_open_in rules asker e) scopes
 
@@ -41,13 +41,30 @@ is_open rules now asker scopes e = outlives now e && is_allowed rules asker scop
 abbrev pub is_seen : Viewer → Entry → Bool
 is_seen v = is_open v.rules.now v.moment v.asker v.asked
 
--- the scopes in which it is open, of those that are asked for
-abbrev pub open_scopes : Viewer → Entry → List (List ℕ)
-open_scopes v e = filter (is_open_in v.rules.now v.asker e) v.asked
+-- the scopes in which it is open, of those that are asked for from a place on
+abbrev pub open_scopes : Viewer → Entry → ℕ → List (List ℕ)
+open_scopes v e from = filter (is_open_in v.rules.now v.asker e) (drop from v.asked)
 
--- it is seen, and asked for
+-- it is open in a scope, and a tag of it is left there
+abbrev pub shows_in : Viewer → Entry → List ℕ → List ℕ → Bool
+shows_in v e tag s = is_open_in v.rules.now v.asker e s && is_left_in v.rules.now v.asker e tag s
+
+-- it is open in the scope at this place of those that are asked for, and in none before it
+pub record IsFirst (v : Viewer) (e : Entry) (place : ℕ) : Type 0 where
+  pub within : place < length v.asked
+  pub first : open_scopes v e 0 ≡ get_or v.asked place [] ∷ open_scopes v e (place + 1)
+
+-- the entry with what is shown of it
+abbrev pub seen_of : Viewer → Entry → Entry
+seen_of v = seen_entry v.rules.now v.asker v.asked
+
+-- the elements of what is shown of its attributes, and is selected
+abbrev pub shown_elements : Viewer → List Part → Entry → List Element
+shown_elements v tags e = elements_in (kept_attributes (seen_of v e).attrs (selects tags))
+
+-- it is seen, and asked for by what is shown of it
 abbrev pub is_found : Search → Entry → Bool
-is_found s e = is_seen s.viewer e && is_wanted s.query.now e
+is_found s e = is_seen s.viewer e && is_wanted s.query.now (seen_of s.viewer e)
 
 -- what was seen: nothing, or something, in the language that is asked for or in others alone
 abbrev pub spoken_of : ServiceQuery → List Entry → Spoken
@@ -119,6 +136,20 @@ IsIn es e = Contains es e
 abbrev pub IsInAnd : List Entry → (Entry → Bool) → Entry → Type 0
 IsInAnd es p e = Contains es e × IsTrue (p e)
 
+-- each of them is seen
+abbrev pub AreSeenBy : Viewer → List Entry → Type 0
+AreSeenBy v es = (e : Entry) → Contains es e → IsTrue (is_seen v e)
+
+-- they are those of a map that pass a test and are seen
+pub record AreFoundIn (p : Entry → Bool) (v : Viewer) (held : Entries) (es : List Entry) : Type 0 where
+  pub all : List Entry
+  pub listing : IsListing p held all
+  pub found : es ≡ filter (is_seen v) all
+
+-- what is seen of entries that are found
+abbrev pub entries_seen : SeenEntries → List Entry
+entries_seen f = map (seen_of f.viewer) (entries_lent (vec_items f.entries))
+
 -- no two of them are of one pair
 abbrev pub HasOneOfEachPair : List Entry → Type 0
 HasOneOfEachPair es = (e f : Entry) → Contains es e → Contains es f → pair_of e ≡ pair_of f → e ≡ f
@@ -128,6 +159,10 @@ pub record IsArranged (text : Entry → List ℕ) (es arranged : List Entry) : T
   pub ordered : IsAscending (map text arranged)
   pub within : (e : Entry) → Contains arranged e → Contains es e
   pub covers : (e : Entry) → Contains es e → Contains (map text arranged) (text e)
+
+-- they stand in the key order of their types, one of each
+abbrev pub AreByKind : List Entry → Type 0
+AreByKind es = IsAscending (map (λ e. e.kind) es)
 
 -- some of these entries, one of each type among them
 pub record HasEachKind (es some : List Entry) : Type 0 where

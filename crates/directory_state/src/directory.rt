@@ -9,9 +9,9 @@ ghost use Rattle.directory_judge.specs.Contents.{content, Reloads, Sweeps};
 ghost use Rattle.directory_questions.specs.Calls.{Opening, standpoint};
 ghost use Rattle.registry_core.specs.declared.entry.Entry as spec;
 ghost use Rattle.directory_questions.specs.Items.{AreAttributesOf, AreServices, AreTypesOf, IsAskedAbout, IsElsewhere, IsForeign, IsOpenNow};
-ghost use Rattle.directory_state.specs.AskedScopes.{asked_scopes};
+ghost use Rattle.directory_state.specs.Viewers.{IsViewerOf};
 ghost use Rattle.directory_state.specs.Deadlines.{UrlDeadline};
-ghost use Rattle.directory_state.specs.Searches.{is_open, is_seen, item_at, cut_in, entries_lent, HasOneOfEachPair, IsIn, IsSmall, IsKept};
+ghost use Rattle.directory_state.specs.Searches.{item_at, cut_in, entries_lent, entries_seen, AreSeenBy, HasOneOfEachPair, IsIn, IsSmall, IsKept};
 ghost use Rattle.directory_state.specs.Fronts.{IsFront, items_in, size_in};
 ghost use Rattle.directory_state.specs.Folds.{Fold, StandsFor};
 ghost use Rattle.directory_state.specs.State.{State, opening_state, state_changed, state_made, swept};
@@ -21,11 +21,11 @@ ghost use Rattle.directory_state.specs.Folds.{IsJudgedAs};
 use crate::arranging::{lend, name_types};
 use crate::asked::Asked;
 use crate::search::{FoundItems, Room, Search, Shortlist};
-use crate::viewer::Viewer;
+use crate::viewer::{SeenEntries, Viewer};
 use access_rules::{Addr, Rules};
 use attr_union::AttrUnion;
 use directory_judge::{Change, Decision, Grounds, Site};
-use directory_questions::{AttrQuery, QueryFault, ServiceQuery, Target, TypeQuery};
+use directory_questions::{AttrQuery, QueryFault, ServiceQuery, TypeQuery};
 use registry_core::{Entry, Registry};
 use slp_messages::{ChangeView, UrlEntry};
 use slp_text::{NoMemory, ScopeList};
@@ -201,7 +201,7 @@ impl<R: Registry> Directory<R> {
     fn viewer(&self, moment: u32, asker: Addr, scopes: &ScopeList) -> Option<Viewer<'_>>
         ensures none { IfNone result (list_any (supports self.now.site) scopes.now ≡ false) }
         ensures some { IfSome result (λ _. IsTrue (list_any (supports self.now.site) scopes.now)) }
-        ensures sees { IfSome result (λ v. (e : spec.Entry) → is_seen v e ≡ is_open self.now.rules (max moment self.now.clock) asker (asked_scopes self.now.site scopes.now) e) }
+        ensures viewer { IfSome result (λ v. IsViewerOf self.now moment asker scopes.now v) }
     {
         let asked = Asked::of(&self.site, scopes);
         if asked.is_empty() {
@@ -271,20 +271,19 @@ impl<R: Registry> Directory<R> {
         moment: u32,
         asker: Addr,
         query: &AttrQuery,
-    ) -> Result<Vec<&Entry>, QueryFault>
+    ) -> Result<SeenEntries<'_>, QueryFault>
         ensures scope { IsErrOf result QueryFault.Scope ↔ (list_any (supports self.now.site) query.now.scopes ≡ false) }
         ensures spoken { IsErrOf result QueryFault.Language → ⊥ }
-        ensures once { IfOk result (λ v. HasOneOfEachPair (entries_lent v.items)) }
+        ensures once { IfOk result (λ f. HasOneOfEachPair (entries_lent f.entries.items)) }
+        ensures seen { IfOk result (λ f. AreSeenBy f.viewer (entries_lent f.entries.items)) }
         ensures found { (o : Opening) (h : History) → Fold o h self.now
-            → IfOk result (λ v. (e : spec.Entry) → IsIn (entries_lent v.items) e ↔ IsAskedAbout (IsOpenNow (standpoint o h moment asker) query.now.scopes) query.now e) }
+            → IfOk result (λ f. (e : spec.Entry) → IsIn (entries_seen f) e ↔ IsAskedAbout (IsOpenNow (standpoint o h moment asker) query.now.scopes) query.now e) }
     {
         let Some(viewer) = self.viewer(moment, asker, &query.scopes) else {
             return Err(QueryFault::Scope);
         };
-        match &query.target {
-            Target::Kind(kind) => Ok(viewer.gather(alloc, &self.registry, kind)?),
-            Target::Place(url) => Ok(viewer.gather_url(alloc, &self.registry, url)?),
-        }
+        let entries = viewer.gather_about(alloc, &self.registry, &query.target)?;
+        Ok(SeenEntries { viewer, entries })
     }
 
     /// What the tags of a question select of the attributes of the live entries that are open to the asker,

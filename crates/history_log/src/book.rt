@@ -59,10 +59,11 @@ pub trait Naming {
 impl Naming for Brand {
     ghost use Rattle.std.specs.Prelude.{[]};
     ghost use Rattle.std.specs.FinMap as fin;
+    ghost use Rattle.access_rules.specs.Deciding.{no_rules};
 
     ghost book = { record { number = 0; log_name = 0; cells_name = 0 } };
 
-    ghost opening = { record { rules = []; site = record { scopes = []; capacity = 0; templates = fin.empty; boot = 0 } } };
+    ghost opening = { record { rules = no_rules; site = record { scopes = []; capacity = 0; templates = fin.empty; boot = 0 } } };
 }
 
 /// The first phase of an opening: a book with an empty history, which has no name yet.

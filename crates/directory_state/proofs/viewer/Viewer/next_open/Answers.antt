@@ -1,12 +1,12 @@
 use Rattle.std.proofs.Common.{◌≡◌, ℕ, ◌+◌, ◌∷◌, [], Bool, List, Some, cond, drop, filter, sym, ap, ◌∙◌}
 use Rattle.std.specs.Prelude.{slice_get}
 use Rattle.std.proofs.lemmas.Option.{get_or_from_slice_get}
-use Rattle.directory_state.specs.Searches.{is_open_in}
+use Rattle.directory_questions.specs.Sights.{is_open_in}
 use Rattle.directory_state.proofs.SeenUrls.{drop_here}
 use Rattle.directory_state.proofs.viewer.Viewer.next_open.Goals as goal
 
-pub returns-then-is_open_in : goal.returns-then-is_open_in
-returns-then-is_open_in c =
+pub returns-then-is_open_in-clause-next : goal.returns-then-is_open_in-clause-next
+returns-then-is_open_in-clause-next c =
     let scopes : List (List ℕ) = c.args.self.now.asked in
     let p : List ℕ → Bool = is_open_in c.args.self.now.rules.now c.args.self.now.asker c.args.entry.now in
     let s : List ℕ = c.at.result.now in

@@ -1,5 +1,5 @@
 use Rattle.std.proofs.Common.{◌≡◌, drop, filter}
-use Rattle.directory_state.specs.Searches.{is_open_in}
+use Rattle.directory_questions.specs.Sights.{is_open_in}
 use Rattle.directory_state.proofs.viewer.Viewer.next_open.Given as goal
 
 -- in none so far

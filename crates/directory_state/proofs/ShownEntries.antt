@@ -1,0 +1,170 @@
+-- Entries, and what is shown of them.
+use Rattle.std.proofs.Common.{◌≡◌, ◌<◌, ◌+◌, ℕ, Bool, true, false, cond, not, List, [], ◌∷◌, ◌++◌, length, get_or, map, None, refl, sym, ap, subst, ◌∙◌}
+use Rattle.std.specs.Prelude.{◌&&◌, ◌||◌, filter, flat_map, Contains, IsTrue}
+use Rattle.std.proofs.lemmas.Bool.{and_parts}
+use Rattle.std.proofs.lemmas.List.{nil_from_length}
+use Rattle.std.proofs.lemmas.Option.{slice_get-get_or}
+use Rattle.std.specs.FinMap as fin
+use Rattle.std.specs.List.{list_any}
+use Rattle.attr_list.specs.Lists.{Attributes, attributes_of}
+use Rattle.attr_list.specs.Maps.{elements_in, joined_attributes, kept_attributes, selected_attributes}
+use Rattle.attr_list.proofs.Combined.{same_attributes}
+use Rattle.attr_list.proofs.KeptAttributes.{get-kept, joined-kept, kept-all, kept-twice}
+use Rattle.slp_text.specs.Tags.{Part, selects}
+use Rattle.slp_text.specs.Words.{bytes_eq, IsAscending}
+use Rattle.access_rules.specs.Deciding.{deed, hides_in, is_hiding}
+use Rattle.access_rules.specs.declared.rule.Action.TheVariants.{See}
+use Rattle.registry_core.specs.Entries.{outlives}
+use Rattle.registry_core.specs.declared.entry.Entry.{Entry}
+use Rattle.directory_questions.specs.Items.{AreInOrder, AreJoined, IsElsewhere}
+use Rattle.directory_questions.specs.Sights.{is_left_in, is_open_in, is_shown}
+use Rattle.directory_questions.specs.declared.query.AttrQuery.{AttrQuery}
+use Rattle.directory_state.specs.Deadlines.{UrlDeadline, with_deadline}
+use Rattle.directory_state.specs.Searches.{deadlines_with, is_allowed, is_seen, open_scopes, seen_of, shown_elements, shows_in, IsFirst, IsIn, IsInAnd}
+use Rattle.directory_state.specs.declared.viewer.Viewer.{Viewer}
+use Rattle.directory_state.proofs.OpenEntries.{any-none, mapped-from, mapped-has, passes-filter}
+use Rattle.directory_state.proofs.SeenUrls.{drop_here, here, no_other}
+
+-- ---- scope by scope
+
+module _ (v : Viewer) (e : Entry) where
+  abbrev opens : List ℕ → Bool
+  opens = is_open_in v.rules.now v.asker e
+
+  abbrev stays : List ℕ → List ℕ → Bool
+  stays tag = is_left_in v.rules.now v.asker e tag
+
+  -- the scope at a place comes first of those from it on, if it is open
+  pub from-here : (place : ℕ) → place < length v.asked → open_scopes v e place ≡ cond (opens (get_or v.asked place [])) (get_or v.asked place [] ∷ open_scopes v e (place + 1)) (open_scopes v e (place + 1))
+  from-here place within = ap (filter opens) (drop_here v.asked place (get_or v.asked place []) (slice_get-get_or v.asked place [] within))
+
+  pub first-opens : (place : ℕ) → IsFirst v e place → opens (get_or v.asked place []) ≡ true
+  first-opens place first = passes-filter opens v.asked (get_or v.asked place []) (subst (λ ss. Contains ss (get_or v.asked place [])) (sym first.first) (here (get_or v.asked place []) (open_scopes v e (place + 1))))
+
+  -- nothing is open before the first
+  pub first-open : (place : ℕ) → IsFirst v e place → open_scopes v e place ≡ open_scopes v e 0
+  first-open place first =
+      from-here place first.within
+      ∙ ap (λ b. cond b (get_or v.asked place [] ∷ open_scopes v e (place + 1)) (open_scopes v e (place + 1))) (first-opens place first)
+      ∙ sym first.first
+
+  any-cond : (tag s : List ℕ) (ss : List (List ℕ)) → list_any (stays tag) (cond (opens s) (s ∷ ss) ss) ≡ ((opens s && stays tag s) || list_any (stays tag) ss)
+  any-cond tag s ss = elim (opens s) as (λ b. list_any (stays tag) (cond b (s ∷ ss) ss) ≡ ((b && stays tag s) || list_any (stays tag) ss)) [ true ↦ refl | false ↦ refl ]
+
+  turn : (tag : List ℕ) (place : ℕ) (b : Bool) → place < length v.asked → shows_in v e tag (get_or v.asked place []) ≡ b → list_any (stays tag) (open_scopes v e place) ≡ (b || list_any (stays tag) (open_scopes v e (place + 1)))
+  turn tag place b within is =
+      ap (list_any (stays tag)) (from-here place within) ∙ any-cond tag (get_or v.asked place []) (open_scopes v e (place + 1))
+      ∙ ap (λ t. t || list_any (stays tag) (open_scopes v e (place + 1))) is
+
+  -- the tag is left in the scope at a place, or it is not
+  pub left-here : (tag : List ℕ) (place : ℕ) → place < length v.asked → shows_in v e tag (get_or v.asked place []) ≡ true → list_any (stays tag) (open_scopes v e place) ≡ true
+  left-here tag place within is = turn tag place true within is
+
+  pub none-left : (tag : List ℕ) (place : ℕ) → place < length v.asked → shows_in v e tag (get_or v.asked place []) ≡ false → list_any (stays tag) (open_scopes v e place) ≡ list_any (stays tag) (open_scopes v e (place + 1))
+  none-left tag place within is = turn tag place false within is
+
+-- ---- where nothing is hidden
+
+pub no-tables : (v : Viewer) (n : ℕ) → n ≡ length (hides_in v.rules.now) → n ≡ 0 → hides_in v.rules.now ≡ []
+no-tables v n is none = nil_from_length (hides_in v.rules.now) (sym is ∙ none)
+
+pub kept-same : (a : Attributes) (p q : List ℕ → Bool) → ((tag : List ℕ) → p tag ≡ q tag) → kept_attributes a p ≡ kept_attributes a q
+kept-same a p q same = same_attributes _ _ (λ tag. get-kept a p tag ∙ ap (λ b. cond b (fin.get a tag) None) (same tag) ∙ sym (get-kept a q tag))
+
+module _ (v : Viewer) (e : Entry) (none : hides_in v.rules.now ≡ []) where
+  -- what is open somewhere is shown whole, where there are no hide tables
+  stays-there : (tag s : List ℕ) → is_left_in v.rules.now v.asker e tag s ≡ true
+  stays-there tag s = ap (λ hs. not (list_any (λ h. is_hiding (deed v.asker See e.kind e.owner) s h && selects h.tags tag) hs)) none
+
+  shown-all : (s : List ℕ) (rest : List (List ℕ)) → open_scopes v e 0 ≡ s ∷ rest → (tag : List ℕ) → is_shown v.rules.now v.asker v.asked e tag ≡ true
+  shown-all s rest opened tag = ap (list_any (is_left_in v.rules.now v.asker e tag)) opened ∙ ap (λ b. b || list_any (is_left_in v.rules.now v.asker e tag) rest) (stays-there tag s)
+
+  whole : (s : List ℕ) (rest : List (List ℕ)) → open_scopes v e 0 ≡ s ∷ rest → (seen_of v e).attrs ≡ e.attrs
+  whole s rest opened = kept-same e.attrs (is_shown v.rules.now v.asker v.asked e) (λ tag. true) (shown-all s rest opened) ∙ kept-all e.attrs
+
+  pub first-whole : (place : ℕ) → IsFirst v e place → (seen_of v e).attrs ≡ e.attrs
+  first-whole place first = whole (get_or v.asked place []) (open_scopes v e (place + 1)) first.first
+
+  pub seen-whole : IsTrue (is_seen v e) → (seen_of v e).attrs ≡ e.attrs
+  seen-whole seen =
+      elim (open_scopes v e 0) as (λ ss. open_scopes v e 0 ≡ ss → (seen_of v e).attrs ≡ e.attrs) [
+        | [] ↦ λ is. absurd (no_other (is_allowed v.rules.now v.asker v.asked e) (and_parts (outlives v.moment e) (is_allowed v.rules.now v.asker v.asked e) seen).1 (any-none (is_open_in v.rules.now v.asker e) v.asked is))
+        | s ∷ rest ↦ λ is. whole s rest is
+      ] refl
+
+-- ---- what is selected of it
+
+and-turned : (a b : Bool) → (a && b) ≡ (b && a)
+and-turned true true = refl
+and-turned true false = refl
+and-turned false true = refl
+and-turned false false = refl
+
+pub shown-selected : (v : Viewer) (e : Entry) (tags : List Part) → kept_attributes e.attrs (λ tag. selects tags tag && is_shown v.rules.now v.asker v.asked e tag) ≡ kept_attributes (seen_of v e).attrs (selects tags)
+shown-selected v e tags =
+    let shown : List ℕ → Bool = is_shown v.rules.now v.asker v.asked e in
+    kept-same e.attrs (λ tag. selects tags tag && shown tag) (λ tag. shown tag && selects tags tag) (λ tag. and-turned (selects tags tag) (shown tag)) ∙ sym (kept-twice e.attrs shown (selects tags))
+
+-- ---- of many entries
+
+module _ (v : Viewer) where
+  abbrev show : Entry → Entry
+  show = seen_of v
+
+  pub deadlines-shown : (es : List Entry) (ps : List UrlDeadline) → deadlines_with (map show es) ps ≡ deadlines_with es ps
+  deadlines-shown [] ps = refl
+  deadlines-shown (e ∷ es) ps = deadlines-shown es (with_deadline e.url e.deadline ps)
+
+  urls-shown : (es : List Entry) → map (λ (e : Entry). e.url) (map show es) ≡ map (λ e. e.url) es
+  urls-shown [] = refl
+  urls-shown (e ∷ es) = ap (λ us. e.url ∷ us) (urls-shown es)
+
+  attrs-shown : (es : List Entry) → map (λ (e : Entry). e.attrs) (map show es) ≡ map (λ e. (show e).attrs) es
+  attrs-shown [] = refl
+  attrs-shown (e ∷ es) = ap (λ all. (show e).attrs ∷ all) (attrs-shown es)
+
+  elements-shown : (tags : List Part) (es : List Entry) → flat_map (shown_elements v tags) es ≡ flat_map (λ a. elements_in (kept_attributes a (selects tags))) (map (λ e. (show e).attrs) es)
+  elements-shown tags [] = refl
+  elements-shown tags (e ∷ es) = ap (λ xs. shown_elements v tags e ++ xs) (elements-shown tags es)
+
+  -- what is gathered of them is what is joined
+  pub joined-shown : (tags : List Part) (es : List Entry) → attributes_of (flat_map (shown_elements v tags) es) ≡ selected_attributes (joined_attributes (map (λ e. (show e).attrs) es)) tags
+  joined-shown tags es = ap attributes_of (elements-shown tags es) ∙ joined-kept (map (λ e. (show e).attrs) es) tags
+
+  module _ (language : List ℕ) where
+    abbrev in_it : Entry → Bool
+    in_it e = bytes_eq e.language language
+
+    shown-in_order : (es arranged : List Entry) → AreInOrder (IsInAnd es in_it) arranged → AreInOrder (IsInAnd (map show es) in_it) (map show arranged)
+    shown-in_order es arranged order = record {
+      ordered = subst IsAscending (sym (urls-shown arranged)) order.ordered;
+      each = λ e has.
+          let k = mapped-from show arranged e has in
+          let holds = order.each k.0 k.1 in
+          subst (IsInAnd (map show es) in_it) k.2 (mapped-has show es k.0 holds.0, holds.1);
+      all = λ e holds.
+          let k = mapped-from show es e holds.0 in
+          let spoken : IsTrue (in_it k.0) = subst (λ (x : Entry). IsTrue (in_it x)) (sym k.2) holds.1 in
+          subst (Contains (map show arranged)) k.2 (mapped-has show arranged k.0 (order.all k.0 (k.1, spoken)));
+    }
+
+    -- what is shown of them is joined in the order of their URLs
+    pub shown-joined : (es arranged : List Entry) (q : AttrQuery) (a : Attributes) → AreInOrder (IsInAnd es in_it) arranged
+        → a ≡ selected_attributes (joined_attributes (map (λ e. (show e).attrs) arranged)) q.tags → AreJoined (IsInAnd (map show es) in_it) q a
+    shown-joined es arranged q a order is = record {
+      from = map show arranged;
+      in_order = shown-in_order es arranged order;
+      joined = is ∙ ap (λ all. selected_attributes (joined_attributes all) q.tags) (sym (attrs-shown arranged));
+    }
+
+    pub elsewhere-shown : (es : List Entry) → IsElsewhere (IsIn es) language → IsElsewhere (IsIn (map show es)) language
+    elsewhere-shown es f = record {
+      other = show f.other;
+      matched = mapped-has show es f.other f.matched;
+      none = λ e has. let k = mapped-from show es e has in subst (λ (x : Entry). in_it x ≡ false) k.2 (f.none k.0 k.1);
+    }
+
+    pub shown-elsewhere : (es : List Entry) → IsElsewhere (IsIn (map show es)) language → IsElsewhere (IsIn es) language
+    shown-elsewhere es f =
+        let k = mapped-from show es f.other f.matched in
+        record { other = k.0; matched = k.1; none = λ e has. f.none (show e) (mapped-has show es e has) }
