@@ -110,7 +110,9 @@ not-changed from sent event e scope may live has it owners =
     own-change (grounds from may.live) e scope ((may.are_live (pair_of e) e).1 (refl, live)) has sent event may.allowed it owners
 
 pub not-seen : (from : Standpoint) (asked : List (List ℕ)) (e : Entry) → IsForOwners from action.See → IsOpenNow from asked e → from.asker ≡ e.owner
-not-seen from asked e owners opened = own (rules from.opening.rules from.history) from.asker action.See e.kind e.owner opened.open_to.scope owners opened.open_to.allowed
+not-seen from asked e owners opened =
+    let x = opened.entry in
+    own (rules from.opening.rules from.history) from.asker action.See x.kind x.owner opened.open_to.scope owners opened.open_to.allowed ∙ sym (ap (λ (y : Entry). y.owner) opened.seen)
 
 -- ---- without owners
 

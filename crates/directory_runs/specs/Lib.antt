@@ -1,4 +1,5 @@
 pub mod Allowing
+pub mod Hiding
 pub mod Owners
 pub mod Promises
 pub mod Runs

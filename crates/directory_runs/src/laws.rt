@@ -1,6 +1,8 @@
 //! What holds of every run. The functions do nothing: their contracts are the laws.
-ghost use Rattle.std.specs.Prelude.{◌≡◌, ◌↔◌, ◌<◌, ◌≤◌, ◌^◌, ◌∷◌, ◌++◌, ℕ, true, List, Option, Contains, length};
-ghost use Rattle.access_rules.specs.Deciding.{deciding, deed};
+ghost use Rattle.std.specs.Prelude.{◌≡◌, ◌≢◌, ◌↔◌, ◌<◌, ◌≤◌, ◌^◌, ◌∷◌, ◌++◌, ℕ, true, List, None, Option, Contains, length};
+ghost use Rattle.std.specs.FinMap as fin;
+ghost use Rattle.attr_list.specs.Lists.{Attributes};
+ghost use Rattle.access_rules.specs.Deciding.{SiteRules, deciding, deed};
 ghost use Rattle.access_rules.specs.declared.rule.Action.{Action};
 ghost use Rattle.access_rules.specs.declared.rule.Action.TheVariants.{See};
 ghost use Rattle.registry_core.specs.declared.entry.Entry.{Entry as AnyEntry};
@@ -10,11 +12,14 @@ ghost use Rattle.directory_judge.specs.Meaning.{Live, rules};
 ghost use Rattle.directory_judge.specs.Sites.{IsSite};
 ghost use Rattle.directory_questions.specs.Answers.{IsAnswer, IsOpenTo};
 ghost use Rattle.directory_questions.specs.Calls.{Opening, Call, Standpoint};
-ghost use Rattle.directory_questions.specs.Items.{IsOpenNow};
+ghost use Rattle.directory_questions.specs.Items.{AreAttributesOf, IsDescribed, IsOpenNow};
+ghost use Rattle.directory_questions.specs.Sights.{seen_entry};
+ghost use Rattle.directory_questions.specs.declared.query.AttrQuery.{AttrQuery};
 ghost use Rattle.directory_questions.specs.Outcomes.{Outcome};
 ghost use Rattle.directory_questions.specs.Verdicts.{IsLegal};
 ghost use Rattle.history_log.specs.Pasts.{IsPast};
 ghost use Rattle.directory_runs.specs.Allowing.{IsAllowed};
+ghost use Rattle.directory_runs.specs.Hiding.{without_tag, IsKeptBack};
 ghost use Rattle.directory_runs.specs.Owners.{action_of_act, changes, IsForOwners, IsWithoutOwners};
 ghost use Rattle.directory_runs.specs.Promises.{IsKeptThroughout};
 ghost use Rattle.directory_runs.specs.Runs.{Learn, Reply, Run, IsRun, world};
@@ -82,6 +87,18 @@ pub fn what_another_registered_is_not_changed()
 /// Where each rule about seeing is about owners alone, what another registered is never seen.
 pub fn what_another_registered_is_not_seen()
     ensures { (from : Standpoint) (asked : List (List ℕ)) (e : AnyEntry) → IsForOwners from See → IsOpenNow from asked e → from.asker ≡ e.owner }
+{}
+
+/// A tag that a hide table hides from every address, of every type and in every scope, is in no entry that is seen and that
+/// another registered, so it is in no reply about what others registered, and decides no filter of theirs: such an entry is seen as it
+/// would be without the tag. The table may spare owners.
+pub fn what_is_kept_from_others_is_not_seen()
+    ensures seen { (from : Standpoint) (asked : List (List ℕ)) (e : AnyEntry) (tag : List ℕ) → IsKeptBack (rules from.opening.rules from.history) tag → IsOpenNow from asked e → from.asker ≢ e.owner
+        → fin.get e.attrs tag ≡ None }
+    ensures told { (from : Standpoint) (q : AttrQuery) (a : Attributes) (tag : List ℕ) → IsKeptBack (rules from.opening.rules from.history) tag
+        → ((e : AnyEntry) → IsDescribed (IsOpenNow from q.scopes) q e → from.asker ≢ e.owner) → AreAttributesOf from q a → fin.get a tag ≡ None }
+    ensures alike { (rs : SiteRules) (tag : List ℕ) → IsKeptBack rs tag → (asker : ℕ) (e : AnyEntry) → asker ≢ e.owner → (scopes : List (List ℕ))
+        → seen_entry rs asker scopes (without_tag tag e) ≡ seen_entry rs asker scopes e }
 {}
 
 /// With rule files of version 1 it makes no difference who registered: whatever is asked of the rules, they decide the same.
