@@ -1,7 +1,7 @@
 -- Which history an agent and a session stand for, and what a datagram does to it.
 use Rattle.std.specs.Prelude.{◌≡◌, ℕ, ◌-◌, Bool, true, false, IsTrue, List, ◌++◌, length, Option, MatchOption, Result, Ok, Err}
 use Rattle.replay_program.specs.OpeningRules.{opening_rules}
-use Rattle.access_rules.specs.Deciding.{SiteRules}
+use Rattle.access_rules.specs.Deciding.{SiteRules, number}
 use Rattle.access_rules.specs.declared.fault.RuleFault.{RuleFault}
 use Rattle.slp_headers.specs.Headers.{heading_of}
 use Rattle.directory_judge.specs.History.{Event}
@@ -85,5 +85,5 @@ AddsTo w (Err e) told a = (told ≡ Err e) × IsAgent w a
 
 -- what came of a rule file, and the agent after it: that of the reload, or the one that it was
 abbrev pub ReloadsTo : World → Result SiteRules RuleFault → Result ℕ RuleFault → Agent → Type 0
-ReloadsTo w (Ok rs) told a = (told ≡ Ok (length rs)) × IsAgent (reloaded_world rs w) a
+ReloadsTo w (Ok rs) told a = (told ≡ Ok (number rs)) × IsAgent (reloaded_world rs w) a
 ReloadsTo w (Err e) told a = (told ≡ Err e) × IsAgent w a

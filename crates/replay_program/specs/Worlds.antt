@@ -4,7 +4,7 @@ use Rattle.std.specs.List.{flat_map}
 use Rattle.std.specs.Option.{option_map_or}
 use Rattle.hex.specs.Hex.{encode_lower}
 use Rattle.slp_headers.specs.Headers.{heading_of}
-use Rattle.access_rules.specs.Deciding.{SiteRules}
+use Rattle.access_rules.specs.Deciding.{SiteRules, no_rules, number}
 use Rattle.access_rules.specs.RuleFiles.{rules_in_text}
 use Rattle.access_rules.specs.declared.fault.RuleFault.{RuleFault}
 use Rattle.directory_judge.specs.History.{History, Event, Act, Sweep, Reload, now}
@@ -94,7 +94,7 @@ outcome_text rs asker bytes r = answer_text r.reply (line_of rs asker (heading_o
 
 -- the same for one that found no memory
 abbrev pub no_memory_text : ℕ → List ℕ → List ℕ
-no_memory_text asker bytes = outcome_text [] asker bytes (refusal_outcome (heading_of bytes))
+no_memory_text asker bytes = outcome_text no_rules asker bytes (refusal_outcome (heading_of bytes))
 
 -- what a message may be answered with, in at most so many bytes, and what it leaves
 abbrev pub Answers : ℕ → World → List ℕ → List ℕ → World → Type 0
@@ -188,7 +188,7 @@ Adds false w (Err e) out v = (out ≡ template_fault_text e) × (v ≡ w)
 
 -- What a rule file may write, and what it leaves: its rules decide from now on, unless it is refused. Either way it is too late for another site.
 abbrev pub Reloads : World → Result SiteRules RuleFault → List ℕ → World → Type 0
-Reloads w (Ok rs) out v = (out ≡ ruled_text (length rs)) × (v ≡ reloaded_world rs w)
+Reloads w (Ok rs) out v = (out ≡ ruled_text (number rs)) × (v ≡ reloaded_world rs w)
 Reloads w (Err e) out v = (out ≡ rule_fault_text e) × (v ≡ late_world w)
 
 -- what a command may write, and what it leaves

@@ -6,12 +6,28 @@ use thiserror::Error;
 /// The bytes of the longest configuration, rule file or template.
 pub(crate) const LONGEST_TEXT: usize = 1_048_576;
 
-/// Where something is wrong: in a file, at one of its lines, or at a rule of it, by its number from 1 and its name.
+/// A rule or a hide table of a file, by its number from 1. The hide tables come after the rules.
+#[derive(Clone, Copy, Debug)]
+pub(crate) enum Numbered {
+    Rule(usize),
+    Hide(usize),
+}
+
+impl fmt::Display for Numbered {
+    fn fmt<W: fmt::Write>(&self, f: &mut fmt::Formatter<W>) -> fmt::Result {
+        match *self {
+            Numbered::Rule(number) => write!(f, "rule {number}"),
+            Numbered::Hide(number) => write!(f, "hide table {number}"),
+        }
+    }
+}
+
+/// Where something is wrong: in a file, at one of its lines, or at a rule or a hide table of it, which may have a name.
 #[derive(Clone, Copy)]
 pub(crate) enum Place<'a> {
     File(&'a str),
     Line(&'a str, usize),
-    Rule(&'a str, usize, Option<&'a str>),
+    Numbered(&'a str, Numbered, Option<&'a str>),
 }
 
 impl fmt::Display for Place<'_> {
@@ -19,8 +35,8 @@ impl fmt::Display for Place<'_> {
         match *self {
             Place::File(file) => write!(f, "{file}"),
             Place::Line(file, line) => write!(f, "{file}:{line}"),
-            Place::Rule(file, number, None) => write!(f, "{file}: rule {number}"),
-            Place::Rule(file, number, Some(name)) => write!(f, "{file}: rule {number} ({name})"),
+            Place::Numbered(file, numbered, None) => write!(f, "{file}: {numbered}"),
+            Place::Numbered(file, numbered, Some(name)) => write!(f, "{file}: {numbered} ({name})"),
         }
     }
 }
@@ -41,6 +57,8 @@ pub(crate) enum Problem<'a> {
     NotToml(&'a str),
     #[error("unknown key {0}")]
     UnknownKey(&'a str),
+    #[error("hide tables need version 3")]
+    EarlyHides,
     #[error("{0} is missing")]
     Missing(&'a str),
     /// A key, and what its value is not.
@@ -48,10 +66,12 @@ pub(crate) enum Problem<'a> {
     Value(&'a str, &'a str),
     #[error("more than 1024 rules")]
     TooManyRules,
+    #[error("more than 1024 rules and hide tables")]
+    TooManyTogether,
     #[error("not a table")]
     NotTable,
-    #[error("rule {0} has this name, too")]
-    SameName(usize),
+    #[error("{0} has this name, too")]
+    SameName(Numbered),
     #[error("{0}")]
     Template(&'a str),
     #[error("an earlier template is of its type, too")]

@@ -1,17 +1,17 @@
-//! Which rules of a rule file are at fault, and which of their keys.
+//! Which rules and hide tables of a rule file are at fault, and which of their keys.
 use crate::config_faults::explain_toml;
 use crate::fault::CheckFault;
-use crate::problem::{FileText, LONGEST_TEXT, Place, Problem, report};
+use crate::problem::{FileText, LONGEST_TEXT, Numbered, Place, Problem, report};
 use access_rules::{Version, fields};
 use slp_text::NoMemory;
 use std::alloc::Global;
 use std::io::{self, Write};
 use toml::{Table, Value};
 
-/// The most rules of a file.
+/// The most rules and hide tables of a file.
 const MOST_RULES: usize = 1_024;
 
-/// A key of a rule.
+/// A key of a rule or of a hide table.
 #[derive(Clone, Copy)]
 enum RuleKey {
     Name,
@@ -21,6 +21,8 @@ enum RuleKey {
     Scopes,
     Verdict,
     Owner,
+    Tags,
+    SpareOwner,
 }
 
 const RULE_KEYS: [RuleKey; 7] = [
@@ -31,6 +33,15 @@ const RULE_KEYS: [RuleKey; 7] = [
     RuleKey::Scopes,
     RuleKey::Verdict,
     RuleKey::Owner,
+];
+
+const HIDE_KEYS: [RuleKey; 6] = [
+    RuleKey::Name,
+    RuleKey::From,
+    RuleKey::Type,
+    RuleKey::Scopes,
+    RuleKey::Tags,
+    RuleKey::SpareOwner,
 ];
 
 // The keys that a rule may have: one about owners comes with version 2.
@@ -51,6 +62,8 @@ impl RuleKey {
             RuleKey::Scopes => "scopes",
             RuleKey::Verdict => "verdict",
             RuleKey::Owner => "owner",
+            RuleKey::Tags => "tags",
+            RuleKey::SpareOwner => "spare-owner",
         }
     }
 
@@ -63,7 +76,8 @@ impl RuleKey {
             RuleKey::Type => "neither \"*\" nor a service type",
             RuleKey::Scopes => "neither [\"*\"] nor an array of one or more scopes",
             RuleKey::Verdict => "neither \"allow\" nor \"deny\"",
-            RuleKey::Owner => "neither true nor false",
+            RuleKey::Owner | RuleKey::SpareOwner => "neither true nor false",
+            RuleKey::Tags => "not a tag list with one tag at least",
         }
     }
 
@@ -77,6 +91,8 @@ impl RuleKey {
             RuleKey::Scopes => Ok(fields::scopes(alloc, table)?.is_some()),
             RuleKey::Verdict => Ok(fields::verdict(table).is_some()),
             RuleKey::Owner => Ok(fields::owner(table).is_some()),
+            RuleKey::Tags => Ok(fields::tags(alloc, table)?.is_some()),
+            RuleKey::SpareOwner => Ok(fields::spare_owner(table).is_some()),
         }
     }
 
@@ -100,34 +116,34 @@ impl RuleKey {
     }
 }
 
-fn is_rule_key(version: Option<Version>, key: &str) -> bool {
-    keys_of(version).iter().any(|known| known.text() == key)
+fn is_one_of(keys: &[RuleKey], key: &str) -> bool {
+    keys.iter().any(|known| known.text() == key)
 }
 
-// Writes the keys of a table that no rule of this version has.
+// Writes the keys of a table that are none of these.
 fn explain_unknown<W: Write>(
-    version: Option<Version>,
+    keys: &[RuleKey],
     place: Place<'_>,
     table: &Table,
     writer: &mut W,
 ) -> io::Result<()> {
     for key in table.keys() {
-        if !is_rule_key(version, key.as_str()) {
+        if !is_one_of(keys, key.as_str()) {
             report(place, Problem::UnknownKey(key.as_str()), writer)?;
         }
     }
     Ok(())
 }
 
-// The name that a value gives a rule, if it is a text.
+// The name that a value gives a rule or a hide table, if it is a text.
 fn name_of(value: &Value) -> Option<&str> {
     fields::value_at(value.as_table()?, "name")?.as_str()
 }
 
-// Writes what is wrong with a value as a rule.
-fn explain_rule<W: Write>(
+// Writes what is wrong with a value as a table of these keys.
+fn explain_keys<W: Write>(
     alloc: Global,
-    version: Option<Version>,
+    keys: &[RuleKey],
     place: Place<'_>,
     value: &Value,
     writer: &mut W,
@@ -136,25 +152,40 @@ fn explain_rule<W: Write>(
         report(place, Problem::NotTable, writer)?;
         return Ok(());
     };
-    for key in keys_of(version) {
+    for key in keys {
         key.explain(alloc, place, table, writer)?;
     }
-    explain_unknown(version, place, table, writer)?;
+    explain_unknown(keys, place, table, writer)?;
     Ok(())
 }
 
-// Writes which earlier rule has the name of one, if there is one.
+// The place of the first value with a name.
+fn place_of(name: &str, values: &[Value]) -> Option<usize> {
+    values.iter().position(|value| name_of(value) == Some(name))
+}
+
+// Which of some rules has a name, or of the hide tables after them.
+fn named(name: &str, rules: &[Value], hides: &[Value]) -> Option<Numbered> {
+    if let Some(place) = place_of(name, rules) {
+        return Some(Numbered::Rule(place.saturating_add(1)));
+    }
+    let place = place_of(name, hides)?.saturating_add(rules.len());
+    Some(Numbered::Hide(place.saturating_add(1)))
+}
+
+// Writes which earlier rule or hide table has the name of one, if there is one.
 fn explain_name<W: Write>(
     place: Place<'_>,
     name: Option<&str>,
-    earlier: &[Value],
+    rules: &[Value],
+    hides: &[Value],
     writer: &mut W,
 ) -> io::Result<()> {
-    if name.is_none() {
+    let Some(name) = name else {
         return Ok(());
-    }
-    match earlier.iter().position(|other| name_of(other) == name) {
-        Some(other) => report(place, Problem::SameName(other.saturating_add(1)), writer),
+    };
+    match named(name, rules, hides) {
+        Some(other) => report(place, Problem::SameName(other), writer),
         None => Ok(()),
     }
 }
@@ -164,38 +195,83 @@ fn explain_rules_in<W: Write>(
     alloc: Global,
     version: Option<Version>,
     file: &str,
-    values: &[Value],
+    rules: &[Value],
     writer: &mut W,
 ) -> Result<(), CheckFault> {
-    if values.len() > MOST_RULES {
-        report(Place::File(file), Problem::TooManyRules, writer)?;
-        return Ok(());
-    }
-    for (i, value) in values.iter().enumerate() {
+    for (i, value) in rules.iter().enumerate() {
         let name = name_of(value);
-        let place = Place::Rule(file, i + 1, name);
-        explain_rule(alloc, version, place, value, writer)?;
-        explain_name(place, name, &values[..i], writer)?;
+        let place = Place::Numbered(file, Numbered::Rule(i + 1), name);
+        explain_keys(alloc, keys_of(version), place, value, writer)?;
+        explain_name(place, name, &rules[..i], &[], writer)?;
     }
     Ok(())
 }
 
-// Writes what is wrong with the version of a rule file, and which of its keys no rule file has.
+// Writes what is wrong with values as the hide tables of a file, which come after its rules.
+fn explain_hides_in<W: Write>(
+    alloc: Global,
+    file: &str,
+    rules: &[Value],
+    hides: &[Value],
+    writer: &mut W,
+) -> Result<(), CheckFault> {
+    for (i, value) in hides.iter().enumerate() {
+        let name = name_of(value);
+        let number = rules.len().saturating_add(i).saturating_add(1);
+        let place = Place::Numbered(file, Numbered::Hide(number), name);
+        explain_keys(alloc, &HIDE_KEYS, place, value, writer)?;
+        explain_name(place, name, rules, &hides[..i], writer)?;
+    }
+    Ok(())
+}
+
+// Writes what is wrong with the version of a rule file, and which of its keys no rule file of the version has.
 fn explain_file<W: Write>(file: &str, table: &Table, writer: &mut W) -> io::Result<()> {
     let place = Place::File(file);
+    let version = fields::version(table);
     match fields::value_at(table, "version") {
         None => report(place, Problem::Missing("version"), writer)?,
-        Some(_) if fields::version(table).is_none() => {
-            report(place, Problem::Value("version", "neither 1 nor 2"), writer)?;
+        Some(_) if version.is_none() => {
+            report(
+                place,
+                Problem::Value("version", "neither 1, 2 nor 3"),
+                writer,
+            )?;
         }
         Some(_) => {}
     }
     for key in table.keys() {
-        if key.as_str() != "version" && key.as_str() != "rule" {
-            report(place, Problem::UnknownKey(key.as_str()), writer)?;
+        match key.as_str() {
+            "version" | "rule" => {}
+            "hide" => {
+                if matches!(version, Some(Version::One | Version::Two)) {
+                    report(place, Problem::EarlyHides, writer)?;
+                }
+            }
+            other => report(place, Problem::UnknownKey(other), writer)?,
         }
     }
     Ok(())
+}
+
+// The values of the array at a key. That what stands there is none is written.
+fn values_at<'a, W: Write>(
+    file: &str,
+    table: &'a Table,
+    key: &str,
+    writer: &mut W,
+) -> io::Result<&'a [Value]> {
+    let Some(value) = fields::value_at(table, key) else {
+        return Ok(&[]);
+    };
+    match fields::array_values(value) {
+        Some(values) => Ok(values),
+        None => {
+            let problem = Problem::Value(key, "not an array of tables");
+            report(Place::File(file), problem, writer)?;
+            Ok(&[])
+        }
+    }
 }
 
 // Writes what is wrong with a table as a rule file.
@@ -206,23 +282,22 @@ fn explain_table<W: Write>(
     writer: &mut W,
 ) -> Result<(), CheckFault> {
     explain_file(file, table, writer)?;
-    let Some(value) = fields::value_at(table, "rule") else {
+    let rules = values_at(file, table, "rule", writer)?;
+    let hides = values_at(file, table, "hide", writer)?;
+    if rules.len().saturating_add(hides.len()) > MOST_RULES {
+        let problem = if hides.is_empty() {
+            Problem::TooManyRules
+        } else {
+            Problem::TooManyTogether
+        };
+        report(Place::File(file), problem, writer)?;
         return Ok(());
-    };
-    match fields::array_values(value) {
-        Some(values) => explain_rules_in(alloc, fields::version(table), file, values, writer),
-        None => {
-            report(
-                Place::File(file),
-                Problem::Value("rule", "not an array of tables"),
-                writer,
-            )?;
-            Ok(())
-        }
     }
+    explain_rules_in(alloc, fields::version(table), file, rules, writer)?;
+    explain_hides_in(alloc, file, rules, hides, writer)
 }
 
-/// Writes what is wrong with a text as a rule file, each key of each rule by itself.
+/// Writes what is wrong with a text as a rule file, each key of each rule and hide table by itself.
 pub(crate) fn explain_rules<W: Write>(
     alloc: Global,
     file: FileText<'_>,

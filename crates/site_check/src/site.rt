@@ -56,7 +56,7 @@ fn rules_in<W: Write>(
     writer: &mut W,
 ) -> Result<Option<Rules>, CheckFault> {
     match Rules::from_text(alloc, file.text) {
-        Ok(rules) => match warn_of_rules(file.path, rules.as_slice(), scopes, writer) {
+        Ok(rules) => match warn_of_rules(file.path, &rules, scopes, writer) {
             Ok(()) => Ok(Some(rules)),
             Err(fault) => {
                 drop(rules);

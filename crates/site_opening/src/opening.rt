@@ -48,7 +48,7 @@ pub fn rules_at<R: Files>(rt: &R, alloc: Global, path: Option<&Text>) -> Result<
     ensures { IsReadAs (λ text rules. is_some text ≡ is_some path.entry) rules_start_of result }
 {
     let Some(path) = path else {
-        return Ok(Rules::new(Vec::new(alloc)));
+        return Ok(Rules::new(Vec::new(alloc), Vec::new(alloc)));
     };
     let text = files::read(rt, alloc, path.as_str())?;
     rules_in(alloc, text.as_str())
