@@ -10,10 +10,19 @@ use std::alloc::{AllocError, Global};
 #[derive(Clone, Copy)]
 struct RuleFiles;
 
+// The names of the rules, and of the hide tables, which spare owners or hide from them, too.
 fn print_names(rules: &Rules, out: &mut String) -> Result<(), NoMemory> {
     for place in 0..rules.len() {
         out.push(' ')?;
         out.push_str(rules.name(place))?;
+    }
+    for hide in rules.hide_tables() {
+        out.push_str(if hide.spares_owner {
+            " spares "
+        } else {
+            " hides "
+        })?;
+        out.push_str(hide.name.as_str())?;
     }
     Ok(())
 }
@@ -25,7 +34,8 @@ fn print_file(alloc: Global, text: &str, out: &mut String) -> Result<(), RuleFau
     Ok(told?)
 }
 
-// A file of one rule, good but for the line of a key. Only of `owner` it is one of version 2.
+// A file of one rule, good but for the line of a key. Only of `owner` it is one of version 2, and of a key that hide tables alone have one of
+// version 3 with one such table.
 fn print_value(alloc: Global, key: &str, line: &str, out: &mut String) -> Result<(), RuleFault> {
     let parts = [
         (key, line),
@@ -35,11 +45,13 @@ fn print_value(alloc: Global, key: &str, line: &str, out: &mut String) -> Result
         ("type", "type = '*'"),
         ("scopes", "scopes = ['*']"),
         ("verdict", "verdict = 'allow'"),
+        ("tags", "tags = 'location'"),
+        ("spare-owner", ""),
     ];
-    let text = if key == "owner" {
-        "version = 2¶[[rule]]¶name¶from¶action¶type¶scopes¶verdict¶owner"
-    } else {
-        "version = 1¶[[rule]]¶name¶from¶action¶type¶scopes¶verdict"
+    let text = match key {
+        "owner" => "version = 2¶[[rule]]¶name¶from¶action¶type¶scopes¶verdict¶owner",
+        "tags" | "spare-owner" => "version = 3¶[[hide]]¶name¶from¶type¶scopes¶tags¶spare-owner",
+        _ => "version = 1¶[[rule]]¶name¶from¶action¶type¶scopes¶verdict",
     };
     let file = lines(alloc, text, &parts)?;
     print_file(alloc, file.as_str(), out)
@@ -78,8 +90,28 @@ fn print_verdict(
     }
 }
 
+// Which of some tags are hidden.
+fn print_hidden(
+    alloc: Global,
+    rules: &Rules,
+    question: (Addr, Action, &ServiceType, Addr),
+    scope: &Key,
+    out: &mut String,
+) -> Result<(), NoMemory> {
+    let (asker, _, kind, registrant) = question;
+    for name in ["color", "location", "lock"] {
+        let tag = found(key(alloc, name))?;
+        if rules.hidden(asker, kind, scope, registrant, &tag) {
+            out.push(' ')?;
+            out.push_str(name)?;
+        }
+    }
+    Ok(())
+}
+
 fn print_decided(
     alloc: Global,
+    word: &str,
     rules: &Rules,
     text: &str,
     scope: &str,
@@ -91,11 +123,15 @@ fn print_decided(
     let kind = found(ServiceType::parse(alloc, kind))?;
     let scope = found(key(alloc, scope))?;
     let question = (asker, action, &kind, registrant);
+    if word == "hidden" {
+        return Ok(print_hidden(alloc, rules, question, &scope, out)?);
+    }
     Ok(print_verdict(rules, question, &scope, out)?)
 }
 
 fn print_decision(
     alloc: Global,
+    word: &str,
     text: &str,
     scope: &str,
     out: &mut String,
@@ -105,7 +141,7 @@ fn print_decision(
     };
     let file = whole(alloc, part_of(name, &FILES))?;
     let rules = Rules::from_text(alloc, file.as_str())?;
-    let told = print_decided(alloc, &rules, text, scope, out);
+    let told = print_decided(alloc, word, &rules, text, scope, out);
     drop(rules);
     told
 }
@@ -122,7 +158,7 @@ impl Asking for RuleFiles {
         out: &mut String,
     ) -> Result<(), RuleFault> {
         match word {
-            "decided" => print_decision(alloc, text, beside, out),
+            "decided" | "hidden" => print_decision(alloc, word, text, beside, out),
             "file" => {
                 let file = lines(alloc, text, &LINES)?;
                 print_file(alloc, file.as_str(), out)

@@ -70,8 +70,11 @@ fn filter_answer(alloc: Global, hoard: &mut Hoard) -> Result<bool, NoMemory> {
     let attributes = Box::new(alloc, found(Attrs::parse(alloc, ATTRIBUTES))?)?;
     let predicate = "(&(the-place-where-it-stands=THE h*)(!(ppm>=3)))";
     let filter = Box::new(alloc, found(Filter::parse(alloc, predicate))?)?;
+    let location = Key::of(alloc, "The-Place-Where-It-Stands")?;
     let is_taken = hoard.fill(alloc);
-    Ok(is_taken && filter.holds(&attributes))
+    let where_it_stands = filter.holds_where(&attributes, &|tag: &Key| *tag == location);
+    let elsewhere = filter.holds_where(&attributes, &|tag: &Key| *tag != location);
+    Ok(is_taken && filter.holds(&attributes) && where_it_stands && !elsewhere)
 }
 
 fn kinds_answer(alloc: Global, hoard: &mut Hoard) -> Result<bool, NoMemory> {
@@ -89,14 +92,31 @@ fn kinds_answer(alloc: Global, hoard: &mut Hoard) -> Result<bool, NoMemory> {
     )
 }
 
+const HIDING: &str = "version = 3
+
+[[hide]]
+name = \"where-it-stands\"
+from = [\"10.0.0.0/8\"]
+type = \"*\"
+scopes = [\"The First Scope of the Site\", \"b\"]
+tags = \"color,the-place-*-stands\"
+spare-owner = true
+";
+
 fn rules_answer(alloc: Global, hoard: &mut Hoard) -> Result<bool, NoMemory> {
     let rules = rules_of(alloc, OPEN)?;
+    let hiding = rules_of(alloc, HIDING)?;
     let kind = found(ServiceType::parse(alloc, KIND))?;
     let scope = Key::of(alloc, "the first scope of the site")?;
+    let tag = Key::of(alloc, "The-Place-Where-It-Stands")?;
     let is_taken = hoard.fill(alloc);
-    let asker = Addr(0x0a00_0001);
-    let verdict = rules.decide(asker, Action::See, &kind, &scope, Addr(0x0a00_0002));
-    Ok(is_taken && verdict.allow && rules.len() == 3 && rules.name(2) == "all-see")
+    let (asker, other) = (Addr(0x0a00_0001), Addr(0x0a00_0002));
+    let verdict = rules.decide(asker, Action::See, &kind, &scope, other);
+    let is_allowed = verdict.allow && rules.len() == 3 && rules.name(2) == "all-see";
+    let is_hidden = hiding.hides() == 1
+        && hiding.hidden(asker, &kind, &scope, other, &tag)
+        && !hiding.hidden(asker, &kind, &scope, asker, &tag);
+    Ok(is_taken && is_allowed && is_hidden)
 }
 
 fn templates_answer(alloc: Global, hoard: &mut Hoard) -> Result<bool, NoMemory> {

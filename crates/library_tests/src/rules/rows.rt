@@ -1,5 +1,5 @@
 // What a line of a file stands for, if not for itself.
-pub static LINES: [(&str, &str); 3] = [
+pub static LINES: [(&str, &str); 6] = [
     (
         "a",
         "[[rule]]\nname = 'a'\nfrom = ['0.0.0.0/0']\naction = 'register'\ntype = '*'\nscopes = ['*']\nverdict = 'allow'",
@@ -9,10 +9,22 @@ pub static LINES: [(&str, &str); 3] = [
         "[[rule]]\nname = 'b'\nfrom = ['0.0.0.0/0']\naction = 'see'\ntype = '*'\nscopes = ['*']\nverdict = 'deny'",
     ),
     ("broken", "[[rule]]\nname = 'a'"),
+    (
+        "h",
+        "[[hide]]\nname = 'h'\nfrom = ['0.0.0.0/0']\ntype = '*'\nscopes = ['*']\ntags = 'location'",
+    ),
+    (
+        "i",
+        "[[hide]]\nname = 'i'\nfrom = ['10.0.0.0/8', '11.1.1.1/32']\ntype = 'service:printer'\nscopes = ['a', 'B']\ntags = 'lo*, color'",
+    ),
+    (
+        "a-hides",
+        "[[hide]]\nname = 'a'\nfrom = ['0.0.0.0/0']\ntype = '*'\nscopes = ['*']\ntags = 'location'",
+    ),
 ];
 
 // Rule files by name.
-pub static FILES: [(&str, &str); 11] = [
+pub static FILES: [(&str, &str); 12] = [
     (
         "house",
         "
@@ -77,13 +89,17 @@ verdict = 'allow'
         "version = 2\nrule = [{ name = 'first', from = ['10.0.0.0/8'], action = 'register', type = '*', scopes = ['*'], verdict = 'allow' }]",
     ),
     (
+        "hides",
+        "version = 3\nhide = [{ name = 'hall', from = ['10.0.0.2/32'], type = 'service:printer', scopes = ['A'], tags = 'lo*' }, { name = 'others', from = ['10.0.0.0/8'], type = '*', scopes = ['*'], tags = 'color', spare-owner = true }]",
+    ),
+    (
         "many",
         "version = 1\n<<1023 [[rule]]\nname = 'r-%'\naction = 'see'\nfrom = ['0.0.0.0/0']\ntype = '*'\nscopes = ['*']\nverdict = 'allow'\n>>[[rule]]\nname = 'r-1024'\naction = 'register'\nfrom = ['0.0.0.0/0']\ntype = '*'\nscopes = ['*']\nverdict = 'allow'",
     ),
 ];
 
-/// Files, and lines of a key of a file's only rule, with the names of the rules; and who asks for what action on a type, of whom,
-/// in a scope, and what the file of a name decides.
+/// Files, and lines of a key of a file's only rule or hide table, with the names of what they have; and who asks for what action on a type, of whom,
+/// in a scope, and what the file of a name decides, and what it hides.
 pub const TABLE: &str = "
 file¦version = 1¦¦
 file¦version = 1¶rule = []¦¦
@@ -95,6 +111,17 @@ file¦version = 1¶a¶b¶#<<1048359 x>>¦¦ a b
 file¦version = 2¦¦
 file¦version = 2¶a¶b¦¦ a b
 file¦version = 2¶a¶owner = true¶b¶owner = false¦¦ a b
+file¦version = 3¦¦
+file¦version = 3¶rule = []¶hide = []¦¦
+file¦version = 3¶a¶owner = true¶b¶owner = false¦¦ a b
+file¦version = 3¶hide = [{ name = 'h', from = ['0.0.0.0/0'], type = '*', scopes = ['*'], tags = 'location' }]¦¦ hides h
+file¦version = 3¶a¶b¶h¶i¦¦ a b hides h hides i
+file¦version = 3¶i¶a¶h¶b¦¦ a b hides i hides h
+file¦version = 3¶h¶spare-owner = true¶i¶spare-owner = false¦¦ spares h hides i
+file¦version = 3¶<<1024 [[rule]]¶name = 'r-%'¶action = 'see'¶from = ['0.0.0.0/0']¶type = '*'¶scopes = ['*']¶verdict = 'allow'¶>>¦¦<<1024  r-%>>
+file¦version = 3¶<<1024 [[hide]]¶name = 'h-%'¶from = ['0.0.0.0/0']¶type = '*'¶scopes = ['*']¶tags = 'location'¶>>¦¦<<1024  hides h-%>>
+file¦version = 3¶<<1023 [[rule]]¶name = 'r-%'¶action = 'see'¶from = ['0.0.0.0/0']¶type = '*'¶scopes = ['*']¶verdict = 'allow'¶>>h¦¦<<1023  r-%>> hides h
+file¦version = 3¶<<24 [[rule]]¶name = 'r-%'¶action = 'see'¶from = ['0.0.0.0/0']¶type = '*'¶scopes = ['*']¶verdict = 'allow'¶>><<1000 [[hide]]¶name = 'h-%'¶from = ['0.0.0.0/0']¶type = '*'¶scopes = ['*']¶tags = 'location'¶>>¦¦<<24  r-%>><<1000  hides h-%>>
 name¦name = 'abcdefghijklmnopqrstuvwxyz-01234'¦¦ abcdefghijklmnopqrstuvwxyz-01234
 name¦name = 'a-1'¦¦ a-1
 name¦name = '-'¦¦ -
@@ -114,6 +141,13 @@ verdict¦verdict = 'deny'¦¦ a
 owner¦owner = true¦¦ a
 owner¦owner = false¦¦ a
 owner¦¦¦ a
+tags¦tags = 'a,b'¦¦ hides a
+tags¦tags = ' , b ,'¦¦ hides a
+tags¦tags = '*'¦¦ hides a
+tags¦tags = 'a\\28b*'¦¦ hides a
+spare-owner¦spare-owner = true¦¦ spares a
+spare-owner¦spare-owner = false¦¦ hides a
+spare-owner¦¦¦ hides a
 decided¦house 10.0.0.1 register service:printer¦DEFAULT¦allow by printers
 decided¦house 10.255.255.255 register service:printer:lpr¦default¦allow by printers
 decided¦house 10.0.0.1 register service:printers¦default¦deny by no-others
@@ -160,13 +194,22 @@ decided¦owners 10.0.0.1 see http of 11.0.0.1¦default¦allow by all
 decided¦owners 11.0.0.1 see http of 11.0.0.1¦default¦allow by all
 decided¦second-version 10.0.0.1 register http of 10.0.0.2¦default¦allow by first
 decided¦everyone 10.0.0.1 register http of 10.0.0.2¦default¦allow by first
+decided¦hides 10.0.0.2 see service:printer¦a¦deny by no rule
+hidden¦hides 10.0.0.2 see service:printer:lpr of 10.0.0.1¦a¦ color location lock
+hidden¦hides 10.0.0.2 see service:printer:lpr of 10.0.0.2¦a¦ location lock
+hidden¦hides 10.0.0.2 see service:printer of 10.0.0.1¦b¦ color
+hidden¦hides 10.0.0.2 see http of 10.0.0.1¦a¦ color
+hidden¦hides 10.0.0.1 see service:printer of 10.0.0.2¦a¦ color
+hidden¦hides 10.0.0.1 see service:printer of 10.0.0.1¦a¦
+hidden¦hides 11.0.0.1 see service:printer of 10.0.0.2¦a¦
+hidden¦owners 10.0.0.1 see http of 10.0.0.2¦default¦
 file¦version = ¦¦! Toml
 file¦version = 1¶version = 1¦¦! Toml
 file¦version = 1¶a¶name = 'c'¦¦! Toml
 file¦version = ¶#<<1048564 x>>¦¦! Toml
 file¦¦¦! Shape(0)
 file¦a¦¦! Shape(0)
-file¦version = 3¶a¦¦! Shape(0)
+file¦version = 4¶a¦¦! Shape(0)
 file¦version = 0¶a¦¦! Shape(0)
 file¦version = 9¶a¦¦! Shape(0)
 file¦version = -1¶a¦¦! Shape(0)
@@ -174,19 +217,38 @@ file¦version = 1.0¶a¦¦! Shape(0)
 file¦version = '1'¶a¦¦! Shape(0)
 file¦version = 2.0¶a¦¦! Shape(0)
 file¦version = -2¶a¦¦! Shape(0)
+file¦version = 3.0¶a¦¦! Shape(0)
+file¦version = -3¶a¦¦! Shape(0)
 file¦version = true¶a¦¦! Shape(0)
 file¦version = 1¶owner = true¶a¦¦! Shape(0)
 file¦version = 1¶a¶[[hide]]¦¦! Shape(0)
+file¦version = 1¶a¶h¦¦! Shape(0)
+file¦version = 1¶hide = []¶a¦¦! Shape(0)
 file¦version = 2¶owner = true¶a¦¦! Shape(0)
 file¦version = 2¶a¶[[hide]]¦¦! Shape(0)
+file¦version = 2¶a¶h¦¦! Shape(0)
+file¦version = 2¶hide = []¶a¦¦! Shape(0)
+file¦hide = []¶a¦¦! Shape(0)
+file¦version = 3¶hides = []¶a¦¦! Shape(0)
+file¦version = 3¶owner = true¶a¦¦! Shape(0)
+file¦version = 3¶hide = 5¦¦! Shape(0)
+file¦version = 3¶hide = 'h'¶broken¦¦! Shape(0)
+file¦version = 3¶hide = { name = 'h', from = ['0.0.0.0/0'], type = '*', scopes = ['*'], tags = 'location' }¦¦! Shape(0)
+file¦version = 3¶[hide]¦¦! Shape(0)
+file¦version = 3¶rule = 5¶h¦¦! Shape(0)
 file¦version = 1¶rule = 5¦¦! Shape(0)
 file¦version = 1¶rule = 'a'¦¦! Shape(0)
 file¦version = 1¶rule = { name = 'a', from = ['0.0.0.0/0'], action = 'register', type = '*', scopes = ['*'], verdict = 'allow' }¦¦! Shape(0)
 file¦version = 1¶[rule]¦¦! Shape(0)
 file¦owner = true¶version = 1¶broken¦¦! Shape(0)
-file¦version = 3¶broken¦¦! Shape(0)
+file¦version = 4¶broken¦¦! Shape(0)
+file¦version = 4¶h¶[[hide]]¦¦! Shape(0)
 file¦version = 1¶<<1025 [[rule]]¶name = 'r-%'¶action = 'see'¶from = ['0.0.0.0/0']¶type = '*'¶scopes = ['*']¶verdict = 'allow'¶>>¦¦! Shape(0)
 file¦version = 1¶broken¶<<1024 [[rule]]¶name = 'r-%'¶action = 'see'¶from = ['0.0.0.0/0']¶type = '*'¶scopes = ['*']¶verdict = 'allow'¶>>¦¦! Shape(0)
+file¦version = 3¶broken¶<<1024 [[hide]]¶name = 'h-%'¶from = ['0.0.0.0/0']¶type = '*'¶scopes = ['*']¶tags = 'location'¶>>¦¦! Shape(0)
+file¦version = 3¶<<1025 [[hide]]¶name = 'h-%'¶from = ['0.0.0.0/0']¶type = '*'¶scopes = ['*']¶tags = 'location'¶>>¦¦! Shape(0)
+file¦version = 3¶<<1024 [[rule]]¶name = 'r-%'¶action = 'see'¶from = ['0.0.0.0/0']¶type = '*'¶scopes = ['*']¶verdict = 'allow'¶>>h¦¦! Shape(0)
+file¦version = 3¶<<25 [[rule]]¶name = 'r-%'¶action = 'see'¶from = ['0.0.0.0/0']¶type = '*'¶scopes = ['*']¶verdict = 'allow'¶>><<1000 [[hide]]¶name = 'h-%'¶from = ['0.0.0.0/0']¶type = '*'¶scopes = ['*']¶tags = 'location'¶>>¦¦! Shape(0)
 file¦version = 1¶a¶b¶#<<1048360 x>>¦¦! Shape(0)
 file¦version = ¶#<<1048565 x>>¦¦! Shape(0)
 file¦version = 1¶rule = [1]¦¦! Shape(1)
@@ -201,10 +263,36 @@ file¦version = 1¶a¶b¶owner = true¦¦! Shape(2)
 file¦version = 1¶a¶b¶owner = false¦¦! Shape(2)
 file¦version = 2¶broken¦¦! Shape(1)
 file¦version = 2¶a¶b¶other = true¦¦! Shape(2)
+file¦version = 3¶broken¦¦! Shape(1)
+file¦version = 3¶a¶b¶spare-owner = true¦¦! Shape(2)
+file¦version = 3¶a¶tags = 'location'¦¦! Shape(1)
+file¦version = 3¶hide = [1]¦¦! Shape(1)
+file¦version = 3¶hide = [[]]¦¦! Shape(1)
+file¦version = 3¶[[hide]]¦¦! Shape(1)
+file¦version = 3¶a¶[[hide]]¦¦! Shape(2)
+file¦version = 3¶[[hide]]¶a¶b¦¦! Shape(3)
+file¦version = 3¶[[hide]]¶a¶broken¦¦! Shape(2)
+file¦version = 3¶a¶b¶h¶[[hide]]¶[[hide]]¦¦! Shape(4)
+file¦version = 3¶a¶h¶owner = true¦¦! Shape(2)
+file¦version = 3¶a¶h¶i¶owner = false¦¦! Shape(3)
+file¦version = 3¶h¶action = 'see'¦¦! Shape(1)
+file¦version = 3¶h¶verdict = 'deny'¦¦! Shape(1)
+file¦version = 3¶h¶spare_owner = true¦¦! Shape(1)
+file¦version = 3¶[[hide]]¶name = 'h'¶from = ['0.0.0.0/0']¶type = '*'¶tags = 'location'¦¦! Shape(1)
+file¦version = 3¶[[hide]]¶name = 'h'¶from = []¶type = '*'¶scopes = ['*']¶tags = 'location'¦¦! Shape(1)
+file¦version = 3¶[[hide]]¶name = 'H'¶from = ['0.0.0.0/0']¶type = '*'¶scopes = ['*']¶tags = 'location'¦¦! Shape(1)
+file¦version = 3¶[[hide]]¶name = 'h'¶from = ['0.0.0.0/0']¶type = ''¶scopes = ['*']¶tags = 'location'¦¦! Shape(1)
+file¦version = 3¶[[hide]]¶name = 'h'¶from = ['0.0.0.0/0']¶type = '*'¶scopes = []¶tags = 'location'¦¦! Shape(1)
+file¦version = 3¶<<1023 [[rule]]¶name = 'r-%'¶action = 'see'¶from = ['0.0.0.0/0']¶type = '*'¶scopes = ['*']¶verdict = 'allow'¶>>[[hide]]¦¦! Shape(1024)
 file¦version = 1¶<<1023 [[rule]]¶name = 'r-%'¶action = 'see'¶from = ['0.0.0.0/0']¶type = '*'¶scopes = ['*']¶verdict = 'allow'¶>>broken¦¦! Shape(1024)
 file¦version = 1¶a¶a¦¦! TwiceName
 file¦version = 1¶a¶b¶a¦¦! TwiceName
 file¦version = 1¶a¶b¶b¦¦! TwiceName
+file¦version = 3¶a¶a-hides¦¦! TwiceName
+file¦version = 3¶a-hides¶b¶a¦¦! TwiceName
+file¦version = 3¶h¶h¦¦! TwiceName
+file¦version = 3¶a¶h¶i¶i¦¦! TwiceName
+file¦version = 3¶a¶h¶a-hides¶[[hide]]¦¦! Shape(4)
 name¦¦¦! Shape(1)
 name¦name = 'a'¶owner = true¦¦! Shape(1)
 name¦name = 'a'¶version = 1¦¦! Shape(1)
@@ -264,4 +352,14 @@ owner¦owner = 1¦¦! Shape(1)
 owner¦owner = [true]¦¦! Shape(1)
 owner¦owner = { is = true }¦¦! Shape(1)
 owner¦owners = true¦¦! Shape(1)
+tags¦¦¦! Shape(1)
+tags¦tags = ''¦¦! Shape(1)
+tags¦tags = ' , '¦¦! Shape(1)
+tags¦tags = 'a,b)'¦¦! Shape(1)
+tags¦tags = 'a\\2'¦¦! Shape(1)
+tags¦tags = 5¦¦! Shape(1)
+tags¦tags = ['location']¦¦! Shape(1)
+spare-owner¦spare-owner = 'true'¦¦! Shape(1)
+spare-owner¦spare-owner = 1¦¦! Shape(1)
+spare-owner¦spare-owner = [true]¦¦! Shape(1)
 ";
