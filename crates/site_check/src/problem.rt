@@ -57,6 +57,8 @@ pub(crate) enum Problem<'a> {
     NotToml(&'a str),
     #[error("unknown key {0}")]
     UnknownKey(&'a str),
+    #[error("{0} needs version 2")]
+    EarlyKey(&'a str),
     #[error("hide tables need version 3")]
     EarlyHides,
     #[error("{0} is missing")]

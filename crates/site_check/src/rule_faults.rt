@@ -44,11 +44,32 @@ const HIDE_KEYS: [RuleKey; 6] = [
     RuleKey::SpareOwner,
 ];
 
-// The keys that a rule may have: one about owners comes with version 2.
-fn keys_of(version: Option<Version>) -> &'static [RuleKey] {
+/// The keys that a table may have in the version of its file, and those that it may have in a later one alone.
+#[derive(Clone, Copy)]
+struct Keys {
+    known: &'static [RuleKey],
+    later: &'static [RuleKey],
+}
+
+// Those of a rule: that it is about owners comes with version 2.
+fn keys_of(version: Option<Version>) -> Keys {
     match version {
-        Some(Version::One) => &RULE_KEYS[..6],
-        _ => &RULE_KEYS,
+        Some(Version::One) => Keys {
+            known: &RULE_KEYS[..6],
+            later: &RULE_KEYS[6..],
+        },
+        _ => Keys {
+            known: &RULE_KEYS,
+            later: &[],
+        },
+    }
+}
+
+// Those of a hide table.
+fn hide_keys() -> Keys {
+    Keys {
+        known: &HIDE_KEYS,
+        later: &[],
     }
 }
 
@@ -120,16 +141,27 @@ fn is_one_of(keys: &[RuleKey], key: &str) -> bool {
     keys.iter().any(|known| known.text() == key)
 }
 
-// Writes the keys of a table that are none of these.
+// What is wrong with a key, if anything is.
+fn fault_of<'a>(keys: Keys, key: &'a str) -> Option<Problem<'a>> {
+    if is_one_of(keys.known, key) {
+        return None;
+    }
+    if is_one_of(keys.later, key) {
+        return Some(Problem::EarlyKey(key));
+    }
+    Some(Problem::UnknownKey(key))
+}
+
+// Writes the keys of a table that it may not have.
 fn explain_unknown<W: Write>(
-    keys: &[RuleKey],
+    keys: Keys,
     place: Place<'_>,
     table: &Table,
     writer: &mut W,
 ) -> io::Result<()> {
     for key in table.keys() {
-        if !is_one_of(keys, key.as_str()) {
-            report(place, Problem::UnknownKey(key.as_str()), writer)?;
+        if let Some(problem) = fault_of(keys, key.as_str()) {
+            report(place, problem, writer)?;
         }
     }
     Ok(())
@@ -143,7 +175,7 @@ fn name_of(value: &Value) -> Option<&str> {
 // Writes what is wrong with a value as a table of these keys.
 fn explain_keys<W: Write>(
     alloc: Global,
-    keys: &[RuleKey],
+    keys: Keys,
     place: Place<'_>,
     value: &Value,
     writer: &mut W,
@@ -152,7 +184,7 @@ fn explain_keys<W: Write>(
         report(place, Problem::NotTable, writer)?;
         return Ok(());
     };
-    for key in keys {
+    for key in keys.known {
         key.explain(alloc, place, table, writer)?;
     }
     explain_unknown(keys, place, table, writer)?;
@@ -219,7 +251,7 @@ fn explain_hides_in<W: Write>(
         let name = name_of(value);
         let number = rules.len().saturating_add(i).saturating_add(1);
         let place = Place::Numbered(file, Numbered::Hide(number), name);
-        explain_keys(alloc, &HIDE_KEYS, place, value, writer)?;
+        explain_keys(alloc, hide_keys(), place, value, writer)?;
         explain_name(place, name, rules, &hides[..i], writer)?;
     }
     Ok(())
