@@ -5,6 +5,7 @@ use Rattle.std.specs.Option.{option_map_or}
 use Rattle.slp_text.specs.Tags.{selects}
 use Rattle.slp_text.specs.Words.{bytes_eq}
 use Rattle.service_url.specs.Types.{covers}
+use Rattle.access_rules.specs.declared.hide.FittingHides.{FittingHides}
 use Rattle.access_rules.specs.declared.hide.Hide.{Hide}
 use Rattle.access_rules.specs.declared.rule.Action.{Action}
 use Rattle.access_rules.specs.declared.rule.Action.TheVariants.{Register, Withdraw, See}
@@ -105,6 +106,19 @@ abbrev pub is_hiding : Deed → List ℕ → Hide → Bool
 is_hiding d scope h =
     list_any (λ p. holds p d.asker) h.from && allows_kind h.kind d.kind && allows_scope h.scopes scope && not (h.spares_owner && is_own d)
 
+-- one of some tables fits, and selects a tag
+abbrev pub some_hides : List Hide → Deed → List ℕ → List ℕ → Bool
+some_hides hides d scope tag = list_any (λ h. is_hiding d scope h && selects h.tags tag) hides
+
 -- a tag of what is asked about is hidden in a scope: some table that fits selects it
 abbrev pub is_hidden : SiteRules → Deed → List ℕ → List ℕ → Bool
-is_hidden rules d scope tag = list_any (λ h. is_hiding d scope h && selects h.tags tag) (hides_in rules)
+is_hidden rules = some_hides (hides_in rules)
+
+-- one of the tables that fit selects a tag
+abbrev pub is_hidden_by : FittingHides → Deed → List ℕ → List ℕ → Bool
+is_hidden_by f d scope tag = selects f.first.now.tags tag || some_hides f.rest.now d scope tag
+
+-- where there are none, nothing is hidden
+abbrev pub is_hidden_from : Option FittingHides → Deed → List ℕ → List ℕ → Bool
+is_hidden_from None d scope tag = false
+is_hidden_from (Some f) d scope tag = is_hidden_by f d scope tag

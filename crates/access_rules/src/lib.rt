@@ -14,7 +14,7 @@ mod version;
 
 pub use address::{Addr, number};
 pub use fault::RuleFault;
-pub use hide::Hide;
+pub use hide::{FittingHides, Hide};
 pub use rule::{Action, Deed, Prefix, Rule};
 pub use rules::{Rules, Verdict};
 pub use version::Version;

@@ -1,9 +1,9 @@
 -- Entries, and what is shown of them.
-use Rattle.std.proofs.Common.{◌≡◌, ◌<◌, ◌+◌, ℕ, Bool, true, false, cond, not, List, [], ◌∷◌, ◌++◌, length, get_or, map, None, refl, sym, ap, subst, ◌∙◌}
-use Rattle.std.specs.Prelude.{◌&&◌, ◌||◌, filter, flat_map, Contains, IsTrue}
+use Rattle.std.proofs.Common.{◌≡◌, ◌<◌, ◌+◌, ℕ, Bool, true, false, cond, not, List, [], ◌∷◌, ◌++◌, length, get_or, map, Option, Some, None, refl, sym, ap, subst, ◌∙◌}
+use Rattle.std.specs.Prelude.{◌&&◌, ◌||◌, filter, flat_map, is_some, slice_get, Contains, IsTrue, MatchOption}
 use Rattle.std.proofs.lemmas.Bool.{and_parts}
 use Rattle.std.proofs.lemmas.List.{nil_from_length}
-use Rattle.std.proofs.lemmas.Option.{slice_get-get_or}
+use Rattle.std.proofs.lemmas.Option.{get_or_from_slice_get, slice_get-get_or}
 use Rattle.std.specs.FinMap as fin
 use Rattle.std.specs.List.{list_any}
 use Rattle.attr_list.specs.Lists.{Attributes, attributes_of}
@@ -12,7 +12,8 @@ use Rattle.attr_list.proofs.Combined.{same_attributes}
 use Rattle.attr_list.proofs.KeptAttributes.{get-kept, joined-kept, kept-all, kept-twice}
 use Rattle.slp_text.specs.Tags.{Part, selects}
 use Rattle.slp_text.specs.Words.{bytes_eq, IsAscending}
-use Rattle.access_rules.specs.Deciding.{deed, hides_in, is_hiding}
+use Rattle.access_rules.specs.Deciding.{Deed, deed, hides_in, is_hidden, is_hidden_by, is_hidden_from, some_hides}
+use Rattle.access_rules.specs.declared.hide.FittingHides.{FittingHides}
 use Rattle.access_rules.specs.declared.rule.Action.TheVariants.{See}
 use Rattle.registry_core.specs.Entries.{outlives}
 use Rattle.registry_core.specs.declared.entry.Entry.{Entry}
@@ -20,10 +21,11 @@ use Rattle.directory_questions.specs.Items.{AreInOrder, AreJoined, IsElsewhere}
 use Rattle.directory_questions.specs.Sights.{is_left_in, is_open_in, is_shown}
 use Rattle.directory_questions.specs.declared.query.AttrQuery.{AttrQuery}
 use Rattle.directory_state.specs.Deadlines.{UrlDeadline, with_deadline}
-use Rattle.directory_state.specs.Searches.{deadlines_with, is_allowed, is_seen, open_scopes, seen_of, shown_elements, shows_in, IsFirst, IsIn, IsInAnd}
+use Rattle.directory_state.specs.Searches.{deadlines_with, is_allowed, is_seen, open_scopes, seen_of, shown_elements, shows_in, IsIn, IsInAnd, IsSight, ShowsAll}
+use Rattle.directory_state.specs.declared.shown.Sight.{Sight}
 use Rattle.directory_state.specs.declared.viewer.Viewer.{Viewer}
-use Rattle.directory_state.proofs.OpenEntries.{any-none, mapped-from, mapped-has, passes-filter}
-use Rattle.directory_state.proofs.SeenUrls.{drop_here, here, no_other}
+use Rattle.directory_state.proofs.OpenEntries.{any-none, any-some, mapped-from, mapped-has}
+use Rattle.directory_state.proofs.SeenUrls.{drop_here, no_other}
 
 -- ---- scope by scope
 
@@ -37,16 +39,6 @@ module _ (v : Viewer) (e : Entry) where
   -- the scope at a place comes first of those from it on, if it is open
   pub from-here : (place : ℕ) → place < length v.asked → open_scopes v e place ≡ cond (opens (get_or v.asked place [])) (get_or v.asked place [] ∷ open_scopes v e (place + 1)) (open_scopes v e (place + 1))
   from-here place within = ap (filter opens) (drop_here v.asked place (get_or v.asked place []) (slice_get-get_or v.asked place [] within))
-
-  pub first-opens : (place : ℕ) → IsFirst v e place → opens (get_or v.asked place []) ≡ true
-  first-opens place first = passes-filter opens v.asked (get_or v.asked place []) (subst (λ ss. Contains ss (get_or v.asked place [])) (sym first.first) (here (get_or v.asked place []) (open_scopes v e (place + 1))))
-
-  -- nothing is open before the first
-  pub first-open : (place : ℕ) → IsFirst v e place → open_scopes v e place ≡ open_scopes v e 0
-  first-open place first =
-      from-here place first.within
-      ∙ ap (λ b. cond b (get_or v.asked place [] ∷ open_scopes v e (place + 1)) (open_scopes v e (place + 1))) (first-opens place first)
-      ∙ sym first.first
 
   any-cond : (tag s : List ℕ) (ss : List (List ℕ)) → list_any (stays tag) (cond (opens s) (s ∷ ss) ss) ≡ ((opens s && stays tag s) || list_any (stays tag) ss)
   any-cond tag s ss = elim (opens s) as (λ b. list_any (stays tag) (cond b (s ∷ ss) ss) ≡ ((b && stays tag s) || list_any (stays tag) ss)) [ true ↦ refl | false ↦ refl ]
@@ -63,6 +55,40 @@ module _ (v : Viewer) (e : Entry) where
   pub none-left : (tag : List ℕ) (place : ℕ) → place < length v.asked → shows_in v e tag (get_or v.asked place []) ≡ false → list_any (stays tag) (open_scopes v e place) ≡ list_any (stays tag) (open_scopes v e (place + 1))
   none-left tag place within is = turn tag place false within is
 
+-- what was found to be open of the scopes, or that nothing is
+abbrev pub IsNext : Viewer → Entry → Option ℕ → Type 0
+IsNext v e o = MatchOption o (open_scopes v e 0 ≡ []) (λ place. open_scopes v e 0 ≡ get_or v.asked place [] ∷ open_scopes v e (place + 1))
+
+pub open-somewhere : (v : Viewer) (e : Entry) (o : Option ℕ) → IsNext v e o → is_some o ≡ is_allowed v.rules.now v.asker v.asked e
+open-somewhere v e None is = sym (any-none (is_open_in v.rules.now v.asker e) v.asked is)
+open-somewhere v e (Some place) is = sym (any-some (is_open_in v.rules.now v.asker e) v.asked (get_or v.asked place []) (open_scopes v e (place + 1)) is)
+
+-- what is seen is open in some scope
+pub not-open : {A : Type 0} (v : Viewer) (e : Entry) → IsTrue (is_seen v e) → open_scopes v e 0 ≡ [] → A
+not-open v e seen none = absurd (no_other (is_allowed v.rules.now v.asker v.asked e) (and_parts (outlives v.moment e) (is_allowed v.rules.now v.asker v.asked e) seen).1 (any-none (is_open_in v.rules.now v.asker e) v.asked none))
+
+-- what tables hide of an entry in a scope is what is hidden there
+abbrev pub HidesAs : Viewer → Entry → Option FittingHides → Deed → List ℕ → Type 0
+HidesAs v e o d s = (tag : List ℕ) → is_hidden_from o d s tag ≡ is_hidden v.rules.now d s tag
+
+abbrev pub seeing : Viewer → Entry → Deed
+seeing v e = deed v.asker See e.kind e.owner
+
+-- the same, by the place of the scope
+pub hides-there : (v : Viewer) (e : Entry) (o : Option FittingHides) (d : Deed) (place : ℕ) (s : List ℕ) → d ≡ seeing v e → slice_get v.asked place ≡ Some s → HidesAs v e o d s
+    → HidesAs v e o (seeing v e) (get_or v.asked place [])
+hides-there v e o d place s is at hides = subst (HidesAs v e o (seeing v e)) (sym (get_or_from_slice_get v.asked place s [] at)) (subst (λ x. HidesAs v e o x s) is hides)
+
+-- a tag is shown where the tables of the first scope do not hide it, or in a scope after it
+pub by-sight : (v : Viewer) (e : Entry) (s : Sight) (tag : List ℕ) (d : Deed) (scope : List ℕ) (hidden : Bool) → IsSight v e s → d ≡ seeing v e → slice_get v.asked s.first ≡ Some scope
+    → hidden ≡ is_hidden_by s.tables d scope tag
+    → is_shown v.rules.now v.asker v.asked e tag ≡ (not hidden || list_any (is_left_in v.rules.now v.asker e tag) (open_scopes v e (s.first + 1)))
+by-sight v e s tag d scope hidden sight is at by =
+    ap (list_any (is_left_in v.rules.now v.asker e tag)) sight.first.first
+    ∙ ap (λ b. not b || list_any (is_left_in v.rules.now v.asker e tag) (open_scopes v e (s.first + 1)))
+    (sym (sight.hidden tag) ∙ ap (λ x. is_hidden_by s.tables (seeing v e) x tag) (get_or_from_slice_get v.asked s.first scope [] at)
+    ∙ ap (λ x. is_hidden_by s.tables x scope tag) (sym is) ∙ sym by)
+
 -- ---- where nothing is hidden
 
 pub no-tables : (v : Viewer) (n : ℕ) → n ≡ length (hides_in v.rules.now) → n ≡ 0 → hides_in v.rules.now ≡ []
@@ -71,26 +97,21 @@ no-tables v n is none = nil_from_length (hides_in v.rules.now) (sym is ∙ none)
 pub kept-same : (a : Attributes) (p q : List ℕ → Bool) → ((tag : List ℕ) → p tag ≡ q tag) → kept_attributes a p ≡ kept_attributes a q
 kept-same a p q same = same_attributes _ _ (λ tag. get-kept a p tag ∙ ap (λ b. cond b (fin.get a tag) None) (same tag) ∙ sym (get-kept a q tag))
 
-module _ (v : Viewer) (e : Entry) (none : hides_in v.rules.now ≡ []) where
-  -- what is open somewhere is shown whole, where there are no hide tables
-  stays-there : (tag s : List ℕ) → is_left_in v.rules.now v.asker e tag s ≡ true
-  stays-there tag s = ap (λ hs. not (list_any (λ h. is_hiding (deed v.asker See e.kind e.owner) s h && selects h.tags tag) hs)) none
+-- what shows all its tags is shown whole
+pub all-whole : (v : Viewer) (e : Entry) → ShowsAll v e → (seen_of v e).attrs ≡ e.attrs
+all-whole v e all = kept-same e.attrs (is_shown v.rules.now v.asker v.asked e) (λ tag. true) all ∙ kept-all e.attrs
 
-  shown-all : (s : List ℕ) (rest : List (List ℕ)) → open_scopes v e 0 ≡ s ∷ rest → (tag : List ℕ) → is_shown v.rules.now v.asker v.asked e tag ≡ true
-  shown-all s rest opened tag = ap (list_any (is_left_in v.rules.now v.asker e tag)) opened ∙ ap (λ b. b || list_any (is_left_in v.rules.now v.asker e tag) rest) (stays-there tag s)
+-- it does so where no tag is hidden in the first scope in which it is open
+pub left-all : (v : Viewer) (e : Entry) (s : List ℕ) (rest : List (List ℕ)) → open_scopes v e 0 ≡ s ∷ rest → ((tag : List ℕ) → is_left_in v.rules.now v.asker e tag s ≡ true) → ShowsAll v e
+left-all v e s rest opened left = λ tag. ap (list_any (is_left_in v.rules.now v.asker e tag)) opened ∙ ap (λ b. b || list_any (is_left_in v.rules.now v.asker e tag) rest) (left tag)
 
-  whole : (s : List ℕ) (rest : List (List ℕ)) → open_scopes v e 0 ≡ s ∷ rest → (seen_of v e).attrs ≡ e.attrs
-  whole s rest opened = kept-same e.attrs (is_shown v.rules.now v.asker v.asked e) (λ tag. true) (shown-all s rest opened) ∙ kept-all e.attrs
-
-  pub first-whole : (place : ℕ) → IsFirst v e place → (seen_of v e).attrs ≡ e.attrs
-  first-whole place first = whole (get_or v.asked place []) (open_scopes v e (place + 1)) first.first
-
-  pub seen-whole : IsTrue (is_seen v e) → (seen_of v e).attrs ≡ e.attrs
-  seen-whole seen =
-      elim (open_scopes v e 0) as (λ ss. open_scopes v e 0 ≡ ss → (seen_of v e).attrs ≡ e.attrs) [
-        | [] ↦ λ is. absurd (no_other (is_allowed v.rules.now v.asker v.asked e) (and_parts (outlives v.moment e) (is_allowed v.rules.now v.asker v.asked e) seen).1 (any-none (is_open_in v.rules.now v.asker e) v.asked is))
-        | s ∷ rest ↦ λ is. whole s rest is
-      ] refl
+-- where there are no hide tables, what is seen is shown whole
+pub seen-whole : (v : Viewer) (e : Entry) → hides_in v.rules.now ≡ [] → IsTrue (is_seen v e) → (seen_of v e).attrs ≡ e.attrs
+seen-whole v e none seen =
+    elim (open_scopes v e 0) as (λ ss. open_scopes v e 0 ≡ ss → (seen_of v e).attrs ≡ e.attrs) [
+      | [] ↦ λ is. not-open v e seen is
+      | s ∷ rest ↦ λ is. all-whole v e (left-all v e s rest is (λ tag. ap (λ hs. not (some_hides hs (deed v.asker See e.kind e.owner) s tag)) none))
+    ] refl
 
 -- ---- what is selected of it
 

@@ -1,6 +1,7 @@
 -- How what answers a question is found: each entry that is seen joins a list of URLs with their latest deadlines, which is cut to its room.
 use Rattle.std.specs.Prelude.{◌≡◌, ℕ, ◌+◌, ◌-◌, ◌<◌, ◌≤◌, Bool, true, ◌&&◌, nat_le, min, if◌then◌else◌, List, [], ◌∷◌, drop, get_or, length, map, filter, Contains, vec_items, Option, Some, None, IfSome, IsTrue}
-use Rattle.access_rules.specs.Deciding.{SiteRules}
+use Rattle.access_rules.specs.Deciding.{SiteRules, deed, is_hidden, is_hidden_by}
+use Rattle.access_rules.specs.declared.rule.Action.TheVariants.{See}
 use Rattle.attr_list.specs.Elements.{Element}
 use Rattle.attr_list.specs.Maps.{elements_in, kept_attributes}
 use Rattle.slp_text.specs.Tags.{Part, selects}
@@ -8,7 +9,7 @@ use Rattle.registry_core.specs.Entries.{Entries, outlives, pair_of, IsListing}
 use Rattle.registry_core.specs.declared.entry.Entry.{Entry}
 use Rattle.slp_messages.specs.declared.message.UrlEntry.{UrlEntry}
 use Rattle.directory_questions.specs.Items.{is_wanted}
-use Rattle.directory_questions.specs.Sights.{is_left_in, is_open_in, seen_entry}
+use Rattle.directory_questions.specs.Sights.{is_left_in, is_open_in, is_shown, seen_entry}
 use Rattle.directory_questions.specs.declared.query.ServiceQuery.{ServiceQuery}
 use Rattle.directory_state.specs.Deadlines.{UrlDeadline, with_deadline, total_cost, urls_of}
 use Rattle.std.specs.List.{AllByRecursion, list_any}
@@ -19,6 +20,7 @@ use Rattle.directory_state.specs.declared.search.Shortlist.{Shortlist}
 use Rattle.directory_state.specs.declared.search.Room.{Room}
 use Rattle.directory_state.specs.declared.search.Search.{Search}
 use Rattle.directory_state.specs.declared.search.Spoken.{Spoken}
+use Rattle.directory_state.specs.declared.shown.Sight.{Sight}
 use Rattle.directory_state.specs.declared.viewer.SeenEntries.{SeenEntries}
 use Rattle.directory_state.specs.declared.viewer.Viewer.{Viewer}
 use Rattle.directory_state.specs.declared.search.Spoken.TheVariants.{Nothing, Others, Asked}
@@ -53,6 +55,15 @@ shows_in v e tag s = is_open_in v.rules.now v.asker e s && is_left_in v.rules.no
 pub record IsFirst (v : Viewer) (e : Entry) (place : ℕ) : Type 0 where
   pub within : place < length v.asked
   pub first : open_scopes v e 0 ≡ get_or v.asked place [] ∷ open_scopes v e (place + 1)
+
+-- it says in which scope an entry is open first, and what is hidden there
+pub record IsSight (v : Viewer) (e : Entry) (s : Sight) : Type 0 where
+  pub first : IsFirst v e s.first
+  pub hidden : (tag : List ℕ) → is_hidden_by s.tables (deed v.asker See e.kind e.owner) (get_or v.asked s.first []) tag ≡ is_hidden v.rules.now (deed v.asker See e.kind e.owner) (get_or v.asked s.first []) tag
+
+-- no tag of the entry is hidden
+abbrev pub ShowsAll : Viewer → Entry → Type 0
+ShowsAll v e = (tag : List ℕ) → is_shown v.rules.now v.asker v.asked e tag ≡ true
 
 -- the entry with what is shown of it
 abbrev pub seen_of : Viewer → Entry → Entry

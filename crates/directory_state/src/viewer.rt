@@ -1,25 +1,20 @@
 //! What is open to who asks.
 ghost use Rattle.std.specs.declared.cmp.Ordering.TheVariants.{Equal, Less};
-ghost use Rattle.std.specs.Prelude.{◌≡◌, ◌+◌, ◌<◌, ◌∷◌, [], ◌++◌, filter, flat_map, get_or, is_some, length, map, IfOk, Contains, IfSome, IsTrue, MatchOption, None, Some};
+ghost use Rattle.std.specs.Prelude.{◌≡◌, ◌+◌, ◌<◌, ◌≤◌, ◌∷◌, [], ◌++◌, filter, get_or, length, IfOk, Contains, IfSome, IsTrue, MatchOption, None, Some};
 ghost use Rattle.access_rules.specs.Deciding.{deed, deed_in};
 ghost use Rattle.access_rules.specs.declared.rule.Action.TheVariants.{See};
-ghost use Rattle.search_filter.specs.Filters.{holds};
 ghost use Rattle.registry_core.specs.declared.entry.Entry as spec;
-ghost use Rattle.registry_core.specs.Entries.{is_kind, is_of_url, IsListing};
-ghost use Rattle.directory_questions.specs.Sights.{is_left_in, is_open_in, is_shown};
-ghost use Rattle.directory_state.specs.Searches.{entries_lent, is_seen, open_scopes, seen_of, shown_elements, shows_in, AreByKind, AreFoundIn, AreSeenBy, HasEachKind, IsFirst};
+ghost use Rattle.registry_core.specs.Entries.{is_kind, is_of_url, IsListing, Passes};
+ghost use Rattle.directory_questions.specs.Sights.{is_open_in};
+ghost use Rattle.directory_state.specs.Searches.{entries_lent, is_seen, open_scopes, AreByKind, AreFoundIn, HasEachKind};
 ghost use Rattle.directory_questions.specs.Items.{is_target};
-ghost use Rattle.attr_list.specs.Lists.{attributes_of};
 
 use crate::asked::Asked;
 use access_rules::{Action, Addr, Deed, Rules};
-use attr_list::Attrs;
-use attr_union::{AttrUnion, Gathering};
 use directory_questions::Target;
 use registry_core::{Entry, Registry};
-use search_filter::Filter;
 use service_url::{ServiceType, Url};
-use slp_text::{Key, NoMemory, TagList};
+use slp_text::{Key, NoMemory};
 use std::alloc::Global;
 use std::cmp::Ordering;
 
@@ -30,13 +25,6 @@ pub struct Viewer<'q> {
     pub moment: u64,
     pub rules: &'q Rules,
     pub asked: Asked<'q>,
-}
-
-/// How an entry is seen: it is open in the scope at this place of those that are asked for, and in none before it. In which others
-/// it is open, and which tags are shown there, is asked where it is wanted (`Viewer::shows`).
-#[derive(Clone, Copy)]
-pub struct Sight {
-    pub first: usize,
 }
 
 /// Entries that are open to who asks, and what shows what of them.
@@ -83,10 +71,23 @@ fn still_ordered(before: bool, order: Ordering) -> bool
     before && matches!(order, Ordering::Less)
 }
 
+// From which number on a walk goes that has met an entry of a type: past the others of the type, where types repeat.
+#[inline(always)]
+fn past_if<R: Registry>(repeats: bool, registry: &R, kind: &ServiceType, next: usize) -> usize
+    ensures passes { Passes kind.now (R.rest_of_kind registry.now None next) (R.rest_of_kind registry.now None result) }
+    ensures onward { next ≤ result }
+{
+    if repeats {
+        registry.past_kind(kind, next)
+    } else {
+        next
+    }
+}
+
 impl Viewer<'_> {
-    // What is asked of the rules about an entry.
+    /// What is asked of the rules about an entry.
     #[inline(always)]
-    fn seeing<'a>(&self, entry: &'a Entry) -> Deed<'a>
+    pub fn seeing<'a>(&self, entry: &'a Entry) -> Deed<'a>
         ensures { deed_in result ≡ deed self.now.asker See entry.now.kind entry.now.owner }
     {
         Deed {
@@ -97,19 +98,12 @@ impl Viewer<'_> {
         }
     }
 
-    // Whether an entry stands in a scope in which the asker may see what its owner registered of its type.
+    /// Whether an entry stands in a scope in which the asker may see what its owner registered of its type.
     #[inline(always)]
-    fn is_open_in(&self, entry: &Entry, scope: &Key) -> bool
+    pub fn is_open_in(&self, entry: &Entry, scope: &Key) -> bool
         ensures { result ≡ is_open_in self.now.rules.now self.now.asker entry.now scope.now }
     {
         entry.scopes.has(scope) && self.rules.verdict(&self.seeing(entry), scope).allow
-    }
-
-    // Whether no hide table takes a tag of an entry away in a scope.
-    fn is_left_in(&self, entry: &Entry, scope: &Key, tag: &Key) -> bool
-        ensures { result ≡ is_left_in self.now.rules.now self.now.asker entry.now tag.now scope.now }
-    {
-        !self.rules.hides_tag(&self.seeing(entry), scope, tag)
     }
 
     /// The place from another one on, counted from 0, of the first scope in which an entry is open, of those that are asked for.
@@ -128,128 +122,16 @@ impl Viewer<'_> {
         None
     }
 
-    /// What is seen of an entry: it is live, and open to the asker in one of the scopes that are asked for. Each of these is asked
-    /// once, up to the first in which it is open. Takes no memory.
+    /// Whether an entry is seen: it is live, and open to the asker in one of the scopes that are asked for. Each of these is asked once,
+    /// up to the first in which it is open. Takes no memory.
     #[inline(always)]
-    pub fn view(&self, entry: &Entry) -> Option<Sight>
-        ensures seen { is_some result ≡ is_seen self.now entry.now }
-        ensures first { IfSome result (λ s. IsFirst self.now entry.now s.first) }
+    pub fn sees(&self, entry: &Entry) -> bool
+        ensures { result ≡ is_seen self.now entry.now }
     {
         if entry.deadline <= self.moment {
-            return None;
+            return false;
         }
-        let first = self.next_open(entry, 0)?;
-        Some(Sight { first })
-    }
-
-    // Whether an entry is open in the scope at a place. In that of its sight it is.
-    #[inline(always)]
-    fn is_open_at(&self, entry: &Entry, sight: Sight, place: usize) -> bool
-        requires first { IsFirst self.now entry.now sight.first }
-        requires within { place < length self.now.asked }
-        ensures { result ≡ is_open_in self.now.rules.now self.now.asker entry.now (get_or self.now.asked place []) }
-    {
-        place == sight.first || self.is_open_in(entry, self.asked.at(place))
-    }
-
-    // Whether an entry is open in the scope at a place, and a tag of it is left there.
-    #[inline(always)]
-    fn shows_at(&self, entry: &Entry, sight: Sight, place: usize, tag: &Key) -> bool
-        requires first { IsFirst self.now entry.now sight.first }
-        requires within { place < length self.now.asked }
-        ensures { result ≡ shows_in self.now entry.now tag.now (get_or self.now.asked place []) }
-    {
-        self.is_open_at(entry, sight, place) && self.is_left_in(entry, self.asked.at(place), tag)
-    }
-
-    /// Whether a tag of an entry is shown: in one of the scopes in which the entry is open no hide table takes it away. The scopes
-    /// after the first are asked where it is hidden in those before. Takes no memory.
-    pub fn shows(&self, entry: &Entry, sight: Sight, tag: &Key) -> bool
-        requires { IsFirst self.now entry.now sight.first }
-        ensures { result ≡ is_shown self.now.rules.now self.now.asker self.now.asked entry.now tag.now }
-    {
-        for place in sight.first..self.asked.len() {
-            if self.shows_at(entry, sight, place, tag) {
-                return true;
-            }
-        }
-        false
-    }
-
-    /// Whether a filter holds on what is shown of an entry. Where nothing is hidden, no tag is asked about. Takes no memory.
-    #[inline(always)]
-    pub fn holds(&self, filter: &Filter, entry: &Entry, sight: Sight) -> bool
-        requires { IsFirst self.now entry.now sight.first }
-        ensures { result ≡ holds filter.now (seen_of self.now entry.now).attrs }
-    {
-        if self.rules.hides() == 0 {
-            return filter.holds(&entry.attrs);
-        }
-        filter.holds_where(&entry.attrs, &|tag: &Key| self.shows(entry, sight, tag))
-    }
-
-    // Adds what is shown of the attributes of an entry, and is selected.
-    fn add_shown<'a>(
-        &self,
-        entry: &'a Entry,
-        tags: &TagList,
-        gathering: &mut Gathering<'a>,
-    ) -> Result<(), NoMemory>
-        ensures { IsTrue (is_seen self.now entry.now) → IfOk result (λ _. gathering.new ≡ gathering.old ++ shown_elements self.now tags.now entry.now) }
-    {
-        if self.rules.hides() == 0 {
-            return gathering.add(&entry.attrs, &|tag: &Key| tags.selects(tag));
-        }
-        match self.view(entry) {
-            Some(sight) => gathering.add(
-                &entry.attrs,
-                &|tag: &Key| { tags.selects(tag) && self.shows(entry, sight, tag) },
-            ),
-            None => Ok(()),
-        }
-    }
-
-    /// What is shown of entries that are seen, and is selected, joined in their order: lent where it lies.
-    pub fn join_shown<'a>(
-        &self,
-        alloc: Global,
-        entries: &[&'a Entry],
-        tags: &TagList,
-    ) -> Result<AttrUnion<'a>, NoMemory>
-        ensures { AreSeenBy self.now (entries_lent entries.now) → IfOk result (λ a. a ≡ attributes_of (flat_map (shown_elements self.now tags.now) (entries_lent entries.now))) }
-    {
-        let mut gathering = Gathering::new(alloc);
-        for entry in entries {
-            self.add_shown(entry, tags, &mut gathering)?;
-        }
-        gathering.join(alloc)
-    }
-
-    // What is shown of the attributes of an entry, copied.
-    fn copy_shown(&self, alloc: Global, entry: &Entry) -> Result<Attrs, NoMemory>
-        ensures { IsTrue (is_seen self.now entry.now) → IfOk result (λ a. a ≡ (seen_of self.now entry.now).attrs) }
-    {
-        let Some(sight) = self.view(entry) else {
-            return entry.attrs.copy(alloc);
-        };
-        match entry
-            .attrs
-            .kept(alloc, &|tag: &Key| self.shows(entry, sight, tag))
-        {
-            Ok(attributes) => Ok(attributes),
-            Err(_) => Err(NoMemory),
-        }
-    }
-
-    /// What is shown of entries that are seen, copied.
-    pub fn copies_of_shown(&self, alloc: Global, entries: &[&Entry]) -> Result<Vec<Attrs>, NoMemory>
-        ensures { AreSeenBy self.now (entries_lent entries.now) → IfOk result (λ v. v.items ≡ map (λ e. (seen_of self.now e).attrs) (entries_lent entries.now)) }
-    {
-        let mut copies = Vec::with_capacity(alloc, entries.len())?;
-        for entry in entries {
-            copies.push(self.copy_shown(alloc, entry)?)?;
-        }
-        Ok(copies)
+        self.next_open(entry, 0).is_some()
     }
 
     /// What is open of the types that one covers.
@@ -265,7 +147,7 @@ impl Viewer<'_> {
         let mut found = Vec::new(alloc);
         let mut from = 0;
         while let Some((entry, next)) = registry.by_kind(Some(kind), from) {
-            if self.view(entry).is_some() {
+            if self.sees(entry) {
                 found.push(entry)?;
             }
             from = next;
@@ -289,7 +171,7 @@ impl Viewer<'_> {
     }
 
     /// Of what is open an entry of each type, and it may be more. Where one of a type was seen, the walk goes on past the others of the
-    /// type, if the registry knows where they end.
+    /// type, if the registry knows where they end: after a look at the next one, and where the type before had others, without.
     pub fn gather_types<'a, R: Registry>(
         &self,
         alloc: Global,
@@ -301,19 +183,23 @@ impl Viewer<'_> {
     {
         let mut entries = Vec::with_capacity(alloc, AT_ONCE)?;
         let mut are_ordered = true;
+        let mut repeats = false;
         let mut from = 0;
         while let Some((entry, next)) = registry.by_kind(None, from) {
-            from = next;
             let order = last_to(&entries, entry);
             if is_equal(order) {
                 from = registry.past_kind(&entry.kind, next);
+                repeats = true;
                 continue;
             }
-            if self.view(entry).is_none() {
+            from = next;
+            if !self.sees(entry) {
                 continue;
             }
             are_ordered = still_ordered(are_ordered, order);
             entries.push(entry)?;
+            from = past_if(repeats, registry, &entry.kind, next);
+            repeats = from > next;
         }
         Ok(KindEntries {
             entries,
@@ -334,7 +220,7 @@ impl Viewer<'_> {
         let mut found = Vec::new(alloc);
         let mut from = 0;
         while let Some((entry, next)) = registry.by_url(url, from) {
-            if self.view(entry).is_some() {
+            if self.sees(entry) {
                 found.push(entry)?;
             }
             from = next;

@@ -1,9 +1,8 @@
 use Rattle.std.proofs.Common.{rules, ◌≡◌, ◌++◌, ℕ, Bool, List, sym, subst}
-use Rattle.std.specs.Prelude.{◌&&◌, IfOk}
+use Rattle.std.specs.Prelude.{IfOk}
 use Rattle.slp_text.specs.Tags.{selects}
 use Rattle.attr_list.specs.Maps.{elements_in, kept_attributes}
-use Rattle.directory_questions.specs.Sights.{is_shown}
-use Rattle.directory_state.proofs.ShownEntries.{no-tables, seen-whole, shown-selected}
+use Rattle.directory_state.proofs.ShownEntries.{no-tables, seen-whole}
 use Rattle.directory_state.proofs.viewer.Viewer.add_shown.Goals as goal
 
 pub returns-then-hides-eq0 : goal.returns-then-hides-eq0
@@ -14,11 +13,3 @@ returns-then-hides-eq0 c = λ seen.
     let none = no-tables v c.hides.result c.hides.ensures c.if-hides-eq0.true in
     subst (λ a. IfOk c.add.result (λ _. c.add.new.self ≡ c.args.gathering.now ++ elements_in (kept_attributes a p))) (sym (seen-whole v e none seen))
     (c.add.ensures p (λ tag r met. search rules))
-
-pub returns-in-Some : goal.returns-in-Some
-returns-in-Some c = λ seen.
-    let v = c.args.self.now in
-    let e = c.args.entry.now in
-    let p : List ℕ → Bool = λ tag. selects c.args.tags.now tag && is_shown v.rules.now v.asker v.asked e tag in
-    subst (λ a. IfOk c.add-in-Some.result (λ _. c.add-in-Some.new.self ≡ c.args.gathering.now ++ elements_in a)) (shown-selected v e c.args.tags.now)
-    (c.add-in-Some.ensures p (λ tag r met. search rules))

@@ -1,0 +1,179 @@
+//! What is shown of an entry, and to whom.
+ghost use Rattle.std.specs.Prelude.{◌≡◌, ◌+◌, ◌<◌, ◌++◌, flat_map, length, map, IfOk, IsTrue, MatchOption};
+ghost use Rattle.std.specs.List.{list_any};
+ghost use Rattle.attr_list.specs.Lists.{attributes_of};
+ghost use Rattle.search_filter.specs.Filters.{holds};
+ghost use Rattle.directory_questions.specs.Sights.{is_left_in, is_shown};
+ghost use Rattle.directory_state.specs.Searches.{entries_lent, is_seen, open_scopes, seen_of, shown_elements, shows_in, AreSeenBy, IsSight, ShowsAll};
+
+use crate::viewer::Viewer;
+use access_rules::FittingHides;
+use attr_list::Attrs;
+use attr_union::{AttrUnion, Gathering};
+use registry_core::Entry;
+use search_filter::Filter;
+use slp_text::{Key, NoMemory, TagList};
+use std::alloc::Global;
+
+/// How an entry is seen of which something may be hidden: it is open in the scope at this place of those that are asked for, and in
+/// none before it, and these hide tables fit there. In which others it is open is asked where a tag is hidden in this one.
+#[derive(Clone, Copy)]
+pub struct Sight<'a> {
+    pub first: usize,
+    pub tables: FittingHides<'a>,
+}
+
+impl Viewer<'_> {
+    // How an entry is seen. `None` is that all of it is shown, since no hide table fits in the first scope in which it is open.
+    fn sight(&self, entry: &Entry) -> Option<Sight<'_>>
+        ensures { MatchOption result (IsTrue (is_seen self.now entry.now) → ShowsAll self.now entry.now) (IsSight self.now entry.now) }
+    {
+        let first = self.next_open(entry, 0)?;
+        let tables = self
+            .rules
+            .fitting_hides(&self.seeing(entry), self.asked.at(first))?;
+        Some(Sight { first, tables })
+    }
+
+    // Whether an entry is open in a scope, and no hide table takes a tag of it away there.
+    fn shows_in(&self, entry: &Entry, scope: &Key, tag: &Key) -> bool
+        ensures { result ≡ shows_in self.now entry.now tag.now scope.now }
+    {
+        self.is_open_in(entry, scope) && !self.rules.hides_tag(&self.seeing(entry), scope, tag)
+    }
+
+    // Whether a tag of an entry is left in a scope in which it is open, of those that are asked for after a place.
+    // A call of its own in the machine's code: most tags are shown in the first scope.
+    #[inline(never)]
+    fn shows_after(&self, entry: &Entry, place: usize, tag: &Key) -> bool
+        requires { place < length self.now.asked }
+        ensures { result ≡ list_any (is_left_in self.now.rules.now self.now.asker entry.now tag.now) (open_scopes self.now entry.now (place + 1)) }
+    {
+        let count = self.asked.len();
+        for later in place + 1..count {
+            if self.shows_in(entry, self.asked.at(later), tag) {
+                return true;
+            }
+        }
+        false
+    }
+
+    // Whether a tag of an entry is shown: in one of the scopes in which the entry is open no hide table takes it away. The scopes
+    // after the first are asked where it is hidden there. Takes no memory.
+    fn shows(&self, entry: &Entry, sight: &Sight<'_>, tag: &Key) -> bool
+        requires { IsSight self.now entry.now sight.now }
+        ensures { result ≡ is_shown self.now.rules.now self.now.asker self.now.asked entry.now tag.now }
+    {
+        let scope = self.asked.at(sight.first);
+        !sight.tables.hide_tag(&self.seeing(entry), scope, tag)
+            || self.shows_after(entry, sight.first, tag)
+    }
+
+    /// Whether a filter holds on what is shown of an entry that is seen. Where a site hides nothing, no tag is asked about. Takes no
+    /// memory.
+    #[inline(always)]
+    pub fn holds(&self, filter: &Filter, entry: &Entry) -> bool
+        requires { IsTrue (is_seen self.now entry.now) }
+        ensures { result ≡ holds filter.now (seen_of self.now entry.now).attrs }
+    {
+        if self.rules.hides() == 0 {
+            return filter.holds(&entry.attrs);
+        }
+        self.holds_by_sight(filter, entry)
+    }
+
+    // The same, where a site hides something. A call of its own in the machine's code, so that the walk over entries keeps its
+    // registers.
+    #[cold]
+    #[inline(never)]
+    fn holds_by_sight(&self, filter: &Filter, entry: &Entry) -> bool
+        requires { IsTrue (is_seen self.now entry.now) }
+        ensures { result ≡ holds filter.now (seen_of self.now entry.now).attrs }
+    {
+        match self.sight(entry) {
+            Some(sight) => filter.holds_where(
+                &entry.attrs,
+                &|tag: &Key| { self.shows(entry, &sight, tag) },
+            ),
+            None => filter.holds(&entry.attrs),
+        }
+    }
+
+    // Adds what is shown of the attributes of an entry, and is selected.
+    fn add_shown<'a>(
+        &self,
+        entry: &'a Entry,
+        tags: &TagList,
+        gathering: &mut Gathering<'a>,
+    ) -> Result<(), NoMemory>
+        ensures { IsTrue (is_seen self.now entry.now) → IfOk result (λ _. gathering.new ≡ gathering.old ++ shown_elements self.now tags.now entry.now) }
+    {
+        if self.rules.hides() == 0 {
+            return gathering.add(&entry.attrs, &|tag: &Key| tags.selects(tag));
+        }
+        self.add_by_sight(entry, tags, gathering)
+    }
+
+    // The same, where a site hides something: a call of its own as well.
+    #[cold]
+    #[inline(never)]
+    fn add_by_sight<'a>(
+        &self,
+        entry: &'a Entry,
+        tags: &TagList,
+        gathering: &mut Gathering<'a>,
+    ) -> Result<(), NoMemory>
+        ensures { IsTrue (is_seen self.now entry.now) → IfOk result (λ _. gathering.new ≡ gathering.old ++ shown_elements self.now tags.now entry.now) }
+    {
+        match self.sight(entry) {
+            Some(sight) => gathering.add(
+                &entry.attrs,
+                &|tag: &Key| { tags.selects(tag) && self.shows(entry, &sight, tag) },
+            ),
+            None => gathering.add(&entry.attrs, &|tag: &Key| tags.selects(tag)),
+        }
+    }
+
+    /// What is shown of entries that are seen, and is selected, joined in their order: lent where it lies.
+    pub fn join_shown<'a>(
+        &self,
+        alloc: Global,
+        entries: &[&'a Entry],
+        tags: &TagList,
+    ) -> Result<AttrUnion<'a>, NoMemory>
+        ensures { AreSeenBy self.now (entries_lent entries.now) → IfOk result (λ a. a ≡ attributes_of (flat_map (shown_elements self.now tags.now) (entries_lent entries.now))) }
+    {
+        let mut gathering = Gathering::new(alloc);
+        for entry in entries {
+            self.add_shown(entry, tags, &mut gathering)?;
+        }
+        gathering.join(alloc)
+    }
+
+    // What is shown of the attributes of an entry, copied.
+    fn copy_shown(&self, alloc: Global, entry: &Entry) -> Result<Attrs, NoMemory>
+        ensures { IsTrue (is_seen self.now entry.now) → IfOk result (λ a. a ≡ (seen_of self.now entry.now).attrs) }
+    {
+        let Some(sight) = self.sight(entry) else {
+            return entry.attrs.copy(alloc);
+        };
+        match entry
+            .attrs
+            .kept(alloc, &|tag: &Key| self.shows(entry, &sight, tag))
+        {
+            Ok(attributes) => Ok(attributes),
+            Err(_) => Err(NoMemory),
+        }
+    }
+
+    /// What is shown of entries that are seen, copied.
+    pub fn copies_of_shown(&self, alloc: Global, entries: &[&Entry]) -> Result<Vec<Attrs>, NoMemory>
+        ensures { AreSeenBy self.now (entries_lent entries.now) → IfOk result (λ v. v.items ≡ map (λ e. (seen_of self.now e).attrs) (entries_lent entries.now)) }
+    {
+        let mut copies = Vec::with_capacity(alloc, entries.len())?;
+        for entry in entries {
+            copies.push(self.copy_shown(alloc, entry)?)?;
+        }
+        Ok(copies)
+    }
+}
