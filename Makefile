@@ -79,7 +79,7 @@ install:
 	sed 's|/usr/local/bin/|$(prefix)/bin/|g' examples/systemd/slpda.service > $(units)/slpda.service
 	install -m 644 examples/systemd/slpda.socket $(units)
 	chmod 644 $(units)/slpda.service
-	install -m 644 $(addprefix examples/site/,$(site) closed.toml) $(examples)
+	install -m 644 $(addprefix examples/site/,$(site) closed.toml one-scope.toml) $(examples)
 	@test ! -e $(etc)/slpda.toml || { echo "$(etc) stays as it is; examples are in $(examples)."; exit 0; }; \
 	for file in $(site); do test -e $(etc)/$$file || install -m 644 examples/site/$$file $(etc) || exit 1; done; \
 	echo "$(etc) has an example now: change it for the site."
@@ -88,7 +88,7 @@ install:
 uninstall:
 	rm -f $(addprefix $(root)/bin/,$(programs) $(tools)) $(foreach page,$(pages),$(call page_of,$(page)))
 	rm -f $(addprefix $(completions)/,$(completed)) $(addprefix $(units)/,slpda.service slpda.socket)
-	rm -f $(addprefix $(examples)/,$(site) closed.toml)
+	rm -f $(addprefix $(examples)/,$(site) closed.toml one-scope.toml)
 	@rmdir $(examples) $(dir $(examples)) 2> /dev/null || true
 	@echo "$(etc) is left as it is."
 
