@@ -243,7 +243,7 @@ impl<S: Serve + Drop> AgentLoop<S> {
     }
 
     /// Waits until a socket is ready, for 500 ms at most, and serves what is. Then each stream is closed that has sat there for 300 seconds
-    /// of a steady clock. `Io` is answered only where the wait or a listening socket failed. `NoMemory` is answered once all is served that
+    /// of a steady clock. `Io` is answered only where the wait failed, or a socket of the loop's own is of no use any more. `NoMemory` is answered once all is served that
     /// was ready: a connection that found none is closed.
     pub fn turn<M: Moments>(&mut self, steady: &mut M) -> Result<(), LoopFault>
         ensures limit { self.new.limit ≡ self.old.limit }
@@ -263,6 +263,8 @@ impl<S: Serve + Drop> AgentLoop<S> {
         self.poll.poll(&mut self.events, Some(wait))?;
         self.streams.go_on_to(steady.now());
         self.streams.accept_again(self.poll.registry())?;
+        self.datagrams
+            .serve_again(self.poll.registry(), &mut self.server)?;
         serve_events(
             self.poll.registry(),
             &self.events,

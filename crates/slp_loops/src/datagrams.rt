@@ -1,6 +1,8 @@
-ghost use Rattle.std.specs.Prelude.{◌≤◌, vec_len};
+ghost use Rattle.std.specs.Prelude.{◌≤◌, ◌↔◌, vec_len, IsErr};
+ghost use Rattle.std_io.specs.IoError.{raw_os_error};
+ghost use Rattle.slp_loops.specs.Sockets.{IsLost};
 
-use crate::fault::LoopFault;
+use crate::fault::{LoopFault, is_socket_lost};
 use crate::serve::Serve;
 use access_rules::Addr;
 use mio::net::UdpSocket;
@@ -38,11 +40,38 @@ struct Exchange {
     ghost within: { length ≤ vec_len buffer },
 }
 
+/// What a socket has after a receive.
+#[derive(Clone, Copy)]
+enum Rest {
+    /// Nothing: an event tells when more comes.
+    Nothing,
+    /// Perhaps a datagram.
+    More,
+    /// Perhaps one that could not be received now, of which no event tells.
+    Later,
+}
+
 /// A socket of datagrams, with what serving takes.
 #[derive(Drop)]
 pub struct Datagrams {
     socket: UdpSocket,
     exchanges: Vec<Exchange>,
+    // Whether a datagram may wait that no event will report.
+    receives_again: bool,
+}
+
+// What a socket has after a failed receive, unless the socket itself is of no use any more.
+fn rest_after(error: &io::Error) -> Result<Rest, LoopFault>
+    ensures { IsErr result ↔ IsLost (raw_os_error error.now) }
+{
+    if is_socket_lost(error) {
+        return Err(LoopFault::Io);
+    }
+    match error.kind() {
+        ErrorKind::WouldBlock => Ok(Rest::Nothing),
+        ErrorKind::Interrupted => Ok(Rest::More),
+        _ => Ok(Rest::Later),
+    }
 }
 
 impl Exchange {
@@ -100,22 +129,21 @@ impl Datagrams {
         for _ in 0..TOGETHER {
             exchanges.push(Exchange::new(alloc)?)?;
         }
-        Ok(Datagrams { socket, exchanges })
+        Ok(Datagrams {
+            socket,
+            exchanges,
+            receives_again: false,
+        })
     }
 
-    // Takes datagrams, one for each exchange: how many, and whether there may be more.
-    fn receive(&mut self) -> (usize, Result<bool, LoopFault>) {
+    // Takes datagrams, one for each exchange: how many, and what the socket has then.
+    fn receive(&mut self) -> (usize, Result<Rest, LoopFault>) {
         for (count, exchange) in self.exchanges.iter_mut().enumerate() {
             if let Err(e) = exchange.receive(&self.socket) {
-                let rest = match e.kind() {
-                    ErrorKind::WouldBlock => Ok(false),
-                    ErrorKind::Interrupted => Ok(true),
-                    _ => Err(LoopFault::Io),
-                };
-                return (count, rest);
+                return (count, rest_after(&e));
             }
         }
-        (self.exchanges.len(), Ok(true))
+        (self.exchanges.len(), Ok(Rest::More))
     }
 
     // Answers those that were received, in their order.
@@ -134,14 +162,33 @@ impl Datagrams {
         registry: &Registry,
         server: &mut S,
     ) -> Result<(), LoopFault> {
+        self.receives_again = false;
         for _ in 0..ROUNDS {
             let (count, rest) = self.receive();
             self.answer(count, server);
-            if !rest? {
-                return Ok(());
+            match rest? {
+                Rest::More => {}
+                Rest::Nothing => return Ok(()),
+                Rest::Later => {
+                    self.receives_again = true;
+                    return Ok(());
+                }
             }
         }
         registry.reregister(&mut self.socket, DATAGRAMS, Interest::READABLE)?;
         Ok(())
+    }
+
+    /// Serves what could not be received at the last try.
+    pub fn serve_again<S: Serve>(
+        &mut self,
+        registry: &Registry,
+        server: &mut S,
+    ) -> Result<(), LoopFault> {
+        if self.receives_again {
+            self.serve(registry, server)
+        } else {
+            Ok(())
+        }
     }
 }

@@ -2,14 +2,11 @@ ghost use Rattle.std.specs.Prelude.{◌≡◌, ◌⊎◌, ◌≤◌, ◌<◌, �
 ghost use Rattle.slab.specs.Slab.{slab_len};
 ghost use Rattle.slp_loops.specs.Holding.{HasNoOther, KeepsOthers, NoneSits, least_stay, longest_stay, moment_of};
 ghost use Rattle.slp_loops.specs.Sitting.{moments};
-ghost use Rattle.std_io.specs.IoError.{raw_os_error};
-ghost use Rattle.slp_loops.specs.Listening.{IsLost};
 
 use crate::connection::{Connection, Next};
-use crate::fault::LoopFault;
+use crate::fault::{LoopFault, is_socket_lost};
 use crate::serve::Serve;
 use access_rules::Addr;
-use libc::{EBADF, EINVAL, ENOTSOCK};
 use mio::net::{TcpListener, TcpStream};
 use mio::{Interest, Registry, Token};
 use slab::Slab;
@@ -73,14 +70,6 @@ impl Peer {
         }
         told
     }
-}
-
-// Whether a failed `accept` tells that the listener itself is of no use any more. All else concerns
-// the one connection that waited, or means that are wanting now, as descriptors.
-fn is_listener_lost(error: &io::Error) -> bool
-    ensures { IsTrue result ↔ IsLost (raw_os_error error.now) }
-{
-    matches!(error.raw_os_error(), Some(EBADF | EINVAL | ENOTSOCK))
 }
 
 /// The streams of a loop, of which there are never more than the limit.
@@ -216,7 +205,7 @@ impl Streams {
                     ErrorKind::Interrupted | ErrorKind::ConnectionAborted => {}
                     _ => {
                         self.accepts_again = true;
-                        return if is_listener_lost(&e) {
+                        return if is_socket_lost(&e) {
                             Err(LoopFault::Io)
                         } else {
                             Ok(())
