@@ -16,7 +16,6 @@
 .DEFAULT_GOAL := help
 
 script := examples/printer.script
-jobs := $(shell nproc)
 
 help:
 	@sed -n 's/^# make/make/p' Makefile
@@ -25,32 +24,23 @@ try:
 	@echo "Compiling without any proof: what follows shows how the program works, and proves nothing."
 	@make/try $(script)
 
-# build PROGRAM..: proves what these programs need, side by side, and links them. The crates count themselves in a folder of this build.
-define build
-@command -v rt > /dev/null || { echo "There is no rt on the path: README.md says what is needed."; exit 1; }
-@room=$$(mktemp -d) && trap 'rm -rf "$$room"' EXIT && trap 'exit 130' HUP INT TERM && \
-wanted=$$(make/needed $(1) | wc -l) && echo "$$wanted crates are proved, up to $(jobs) at a time. The first takes minutes." && \
-ROOM=$$room WANTED=$$wanted $(MAKE) --no-print-directory -O -j$(jobs) $(addprefix bin/,$(1)) || \
-{ ls "$$room" | sed -n 's|^failed-\(.*\)|Not proved: \1 (crates/\1/out/build.log)|p'; exit 1; }
-endef
-
 programs := slpda slpcheck slptool slpreplay
 
 build:
-	$(call build,$(programs))
+	@make/build $(programs)
 	@echo "The programs are $(addprefix bin/,$(programs))."
 
 demo:
-	$(call build,slpda slpcheck slptool)
+	@make/build slpda slpcheck slptool
 	@examples/site/demo
 
 run:
-	$(call build,slpreplay)
+	@make/build slpreplay
 	@bin/slpreplay < $(script)
 
 # Its last line is not a command, so the status is 3.
 day:
-	$(call build,slpreplay)
+	@make/build slpreplay
 	@bin/slpreplay < crates/slpreplay/stdin || test $$? = 3
 
 # What is installed lies below DESTDIR, where a package is made, and prefix. It is found there by its name, so uninstall takes the same.
@@ -100,12 +90,12 @@ wrong:
 
 bench:
 	@bench/instructions bin/slpreplay
-	$(call build,view_rows)
+	@make/build view_rows
 	@bench/views bin/view_rows
 	@bench/server bin/slpda
 
 refusals:
-	$(call build,$(programs))
+	@make/build $(programs)
 	@cd crates/refusal_tests && rt test
 	@refusals/try
 
@@ -113,31 +103,7 @@ refusals:
 hostile:
 	@hostile/try bin/slpda $(or $(count),10000000) $(seed)
 
-# A crate is proved once those that crates.txt names in its line are.
-crates := $(shell sed -n 's/^\([a-z_]*\):.*/\1/p' crates.txt)
-below = $(filter $(crates),$(shell sed -n 's/^$(1)://p' crates.txt))
-
-# A build waits for its longest chain: with four processors and more, the crates of the chain get two jobs, all others one.
-goals := $(patsubst bin/%,%,$(filter bin/%,$(MAKECMDGOALS)))
-chain := $(patsubst +%,%,$(filter +%,$(if $(filter-out 1 2 3,$(jobs)),$(shell make/needed $(goals)))))
-jobs_of = $(if $(filter $(1),$(chain)),2,1)
-
-define rules
-.PHONY: proved-$(1)
-proved-$(1): $(addprefix proved-,$(call below,$(1)))
-	@make/prove $(1) lib $(call jobs_of,$(1))
-endef
-$(foreach crate,$(crates),$(eval $(call rules,$(crate))))
-
-# A program is linked, too, and run once on nothing: a replay then ends well, and a program that wants words prints its usage.
-# program NAME STATUS
-define program
-.PHONY: bin/$(1)
-bin/$(1): $(addprefix proved-,$(call below,$(1)))
-	@make/prove $(1) run $(2)
-endef
-$(eval $(call program,slpreplay,0))
-$(eval $(call program,slpda,64))
-$(eval $(call program,slpcheck,64))
-$(eval $(call program,slptool,64))
-$(eval $(call program,view_rows,0))
+# One program alone, with what it needs.
+.PHONY: $(addprefix bin/,$(programs))
+$(addprefix bin/,$(programs)): bin/%:
+	@make/build $*
