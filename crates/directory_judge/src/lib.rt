@@ -19,4 +19,5 @@ pub use copies::{Judged, change_view, judge_on};
 pub use grounds::Grounds;
 pub use judgement::Decision;
 pub use reason::{Because, Decider, Finding, Reason};
+pub use ruling::Ruling;
 pub use site::Site;

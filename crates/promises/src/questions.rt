@@ -1,0 +1,92 @@
+ghost use Rattle.std.specs.Prelude.{◌≡◌, ◌≤◌, ◌↔◌, ℕ, Bool, List, max, false, IfOk, OnErr, IsErrOf, Ok, Err};
+ghost use Rattle.std.specs.List.{list_any};
+ghost use Rattle.attr_list.specs.Maps.{kept_attributes, updated_attributes};
+ghost use Rattle.attr_list.specs.Tests.{AcceptsAs};
+ghost use Rattle.attr_values.specs.declared.fault.AttrFault.TheVariants as fault;
+ghost use Rattle.search_filter.specs.Filters as filters;
+ghost use Rattle.search_filter.specs.Reading.{filter_in};
+ghost use Rattle.directory_judge.specs.History.{History};
+ghost use Rattle.directory_judge.specs.Judgements.{supports};
+ghost use Rattle.directory_questions.specs.Calls.{Opening, standpoint};
+ghost use Rattle.directory_questions.specs.Items.{AreAttributesOf, AreServices, IsAskedAbout, IsElsewhere, IsForeign, IsOpenNow};
+ghost use Rattle.directory_questions.specs.Verdicts.{IsLegal};
+ghost use Rattle.directory_state.specs.Folds.{Fold};
+ghost use Rattle.directory_state.specs.Fronts.{IsFront, items_in, size_in};
+ghost use Rattle.slp_messages.specs.declared.message.UrlEntry.{UrlEntry};
+
+use attr_list::{AttrFault, Attrs};
+use attr_union::AttrUnion;
+use directory_questions::{AttrQuery, Call, QueryFault, ServiceQuery};
+use directory_state::{Directory, FoundItems, Room};
+use registry_core::Registry;
+use search_filter::{Filter, FilterFault};
+use slp_text::Key;
+use std::alloc::Global;
+
+/// The moment at which a call acts: the greater of its own and the clock.
+pub fn now<R: Registry>(directory: &Directory<R>, moment: u32) -> u32
+    ensures { result ≡ max moment directory.now.clock }
+{
+    directory.now(moment)
+}
+
+/// The URLs that answer a question of who calls, from the front as many as there is room for.
+pub fn find<'a, R: Registry>(
+    alloc: Global,
+    directory: &'a Directory<R>,
+    call: &Call<'_>,
+    query: &ServiceQuery,
+    room: Room,
+) -> Result<FoundItems<'a>, QueryFault>
+    requires small { room.bytes ≤ 65535 }
+    requires small_each { room.each ≤ 65535 }
+    ensures scope { IsErrOf result QueryFault.Scope ↔ (list_any (supports directory.now.site) query.now.scopes ≡ false) }
+    ensures language { (o : Opening) (h : History) → Fold o h directory.now → IsLegal o h
+        → (IsErrOf result QueryFault.Language → IsForeign (IsOpenNow (standpoint o h call.now.moment call.now.asker) query.now.scopes) query.now) × IfOk result (λ _. ¬ IsForeign (IsOpenNow (standpoint o h call.now.moment call.now.asker) query.now.scopes) query.now) }
+    ensures items { (o : Opening) (h : History) → Fold o h directory.now → IsLegal o h
+        → IfOk result (λ found. (all : List UrlEntry) × AreServices (standpoint o h call.now.moment call.now.asker) query.now all × IsFront room all (items_in found) found.is_cut) }
+    ensures fits { IfOk result (λ found. size_in room (items_in found) ≤ room.bytes) }
+{
+    directory.find(alloc, call.moment, call.asker, query, room)
+}
+
+/// What the tags of a question select of the attributes that are shown to who calls.
+pub fn find_attributes<'a, R: Registry>(
+    alloc: Global,
+    directory: &'a Directory<R>,
+    call: &Call<'_>,
+    query: &AttrQuery,
+) -> Result<AttrUnion<'a>, QueryFault>
+    ensures scope { IsErrOf result QueryFault.Scope ↔ (list_any (supports directory.now.site) query.now.scopes ≡ false) }
+    ensures language { (o : Opening) (h : History) → Fold o h directory.now → IsLegal o h
+        → (IsErrOf result QueryFault.Language → IsElsewhere (IsAskedAbout (IsOpenNow (standpoint o h call.now.moment call.now.asker) query.now.scopes) query.now) query.now.language)
+        × IfOk result (λ _. ¬ IsElsewhere (IsAskedAbout (IsOpenNow (standpoint o h call.now.moment call.now.asker) query.now.scopes) query.now) query.now.language) }
+    ensures joined { (o : Opening) (h : History) → Fold o h directory.now → IsLegal o h
+        → IfOk result (λ a. AreAttributesOf (standpoint o h call.now.moment call.now.asker) query.now a) }
+{
+    directory.find_attributes(alloc, call.moment, call.asker, query)
+}
+
+/// Whether the filter that a text spells holds on attributes.
+pub fn holds(alloc: Global, text: &str, attributes: &Attrs) -> Result<bool, FilterFault>
+    ensures { IfOk result (λ told. (f : filters.Filter) × (filter_in text.now ≡ Ok f) × (told ≡ filters.holds f attributes.now)) }
+{
+    let filter = Filter::parse(alloc, text)?;
+    Ok(filter.holds(attributes))
+}
+
+/// Whether a filter holds on those attributes alone whose tags a test accepts.
+pub fn holds_where<F: Fn(&Key) -> bool>(filter: &Filter, attributes: &Attrs, accepts: &F) -> bool
+    requires { F.IsAlwaysCallable accepts.now }
+    ensures { (p : List ℕ → Bool) → AcceptsAs F.Fn accepts.now p → result ≡ filters.holds filter.now (kept_attributes attributes.now p) }
+{
+    filter.holds_where(attributes, accepts)
+}
+
+/// The attributes with the tags of others as they are there.
+pub fn updated(alloc: Global, attributes: &Attrs, more: &Attrs) -> Result<Attrs, AttrFault>
+    ensures value { IfOk result (λ a. a ≡ updated_attributes attributes.now more.now) }
+    ensures memory { OnErr result (result ≡ Err fault.NoMemory) }
+{
+    attributes.updated(alloc, more)
+}
