@@ -1,5 +1,5 @@
 -- Escapes are read one character or byte at a time.
-use Rattle.std.proofs.Common.{◌≡◌, ℕ, ◌+◌, ◌*◌, Bool, true, false, ◌==◌, List, ◌∷◌, Option, Some, None, Result, Ok, Err, refl, sym}
+use Rattle.std.proofs.Common.{◌≡◌, ℕ, ◌+◌, ◌*◌, Bool, true, false, ◌==◌, List, [], ◌∷◌, Option, Some, None, Result, Ok, Err, refl, sym}
 use Rattle.std.specs.Prelude.{if◌then◌else◌}
 use Rattle.std.specs.Option.{option_map_or}
 use Rattle.slp_text.specs.Ascii.{backslash}
@@ -47,3 +47,9 @@ module _ (allowed refused : ℕ → Bool) where
   unescape_reader stage.Plain c cs = at_plain (c == backslash) (refused c) c cs
   unescape_reader stage.Slash c cs = at_slash (digit_of c) cs
   unescape_reader (stage.Digit d) c cs = at_digit d (digit_of c) cs
+
+  -- an escape that has begun does not end there
+  pub begun_escape : (s : Stage) → (s ≡ stage.Plain → ⊥) → unescapes s [] ≡ Err BadEscape
+  begun_escape stage.Plain other = absurd (other refl)
+  begun_escape stage.Slash other = refl
+  begun_escape (stage.Digit d) other = refl

@@ -36,3 +36,12 @@ returns-clause-ok c =
     let ended = no_more now.0 _ now.1 c.in-None.ensures.steps.0.0 in
     let text = rw ended at now.2 in
     sym (append-nil _) ∙ text
+
+pub returns-clause-err : goal.returns-clause-err
+returns-clause-err c = c.loop-c.invariant.start
+
+pub returns-in_err-push_written-clause-err : goal.returns-in_err-push_written-clause-err
+returns-in_err-push_written-clause-err c =
+    let now = c.loop-c.invariant in
+    let more = c.push_written.ensures.err in
+    (now.start.0 ++ more.0, more.1 ∙ ap (λ t. t ++ more.0) now.start.1 ∙ append_assoc _ now.start.0 more.0)

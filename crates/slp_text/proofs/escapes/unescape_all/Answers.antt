@@ -1,10 +1,11 @@
 use Rattle.std.proofs.Common.{ℕ, Bool, true, [], ◌∷◌, ◌++◌, Ok, refl, sym, ap, ◌∙◌, chars, append_assoc, append-nil}
 use Rattle.std.proofs.lemmas.Result.{err_from_is_err_and}
 use Rattle.std.proofs.lemmas.Str.{encodes-chars}
+use Rattle.slp_text.specs.Reading.{read_map}
 use Rattle.slp_text.specs.declared.escapes.Stage.TheVariants.{Plain}
 use Rattle.slp_text.proofs.Characters.{no_more, one_more}
 use Rattle.slp_text.proofs.Readers.{event_of, read_map-same, Follows-step, Follows-fault, fault_is}
-use Rattle.slp_text.proofs.EscapeReaders.{unescapes, unescape_event, unescape_reader}
+use Rattle.slp_text.proofs.EscapeReaders.{unescapes, unescape_event, unescape_reader, begun_escape}
 use Rattle.slp_text.proofs.escapes.unescape_all.Goals as goal
 
 abbrev any : ℕ → Bool
@@ -62,3 +63,18 @@ returns-in-Plain c =
     let ended = no_more now.0 _ now.1 c.in-None.ensures.steps.0.0 in
     let text = rw (ended, c.in-Plain.is) at now.2 in
     sym text ∙ ap Ok (append-nil _)
+
+pub returns-in_err-push-in-Read : goal.returns-in_err-push-in-Read
+returns-in_err-push-in-Read c =
+    let p = err_from_is_err_and c.from_residual-in_err-push-in-Read.result c.from_residual-in_err-push-in-Read.ensures.1 in
+    rw (p.1, p.2) tt
+
+pub read_escape-requires : goal.read_escape-requires
+read_escape-requires c = c.loop-c.invariant.stage
+
+pub returns-in_default : goal.returns-in_default
+returns-in_default c =
+    let now = c.loop-c.invariant.text in
+    let ended = no_more now.0 _ now.1 c.in-None.ensures.steps.0.0 in
+    let text = rw ended at now.2 in
+    sym text ∙ ap (read_map (λ xs. c.loop-c.read.items ++ xs)) (begun_escape any any c.loop-c.stage c.in_default.not-Plain)

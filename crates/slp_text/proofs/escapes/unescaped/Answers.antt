@@ -8,7 +8,7 @@ use Rattle.slp_text.specs.Steps.{is_refused_raw, step_of}
 use Rattle.slp_text.specs.declared.escapes.Stage.TheVariants.{Plain}
 use Rattle.slp_text.proofs.Characters.{no_more, one_more}
 use Rattle.slp_text.proofs.Readers.{event_of, Follows-step, Follows-fault, fault_is}
-use Rattle.slp_text.proofs.EscapeReaders.{unescapes, unescape_event, unescape_reader}
+use Rattle.slp_text.proofs.EscapeReaders.{unescapes, unescape_event, unescape_reader, begun_escape}
 use Rattle.slp_text.proofs.escapes.unescaped.Goals as goal
 
 abbrev from : List ℕ → List ℕ → List ℕ
@@ -55,3 +55,15 @@ returns-in-Plain c =
     let ended = no_more now.0 _ now.1 c.in-None.ensures.steps.0.0 in
     let text = rw (ended, c.in-Plain.is) at now.2 in
     sym text ∙ ap Ok (append-nil _)
+
+pub returns-in_err-push-in-Read : goal.returns-in_err-push-in-Read
+returns-in_err-push-in-Read c =
+    let p = err_from_is_err_and c.from_residual-in_err-push-in-Read.result c.from_residual-in_err-push-in-Read.ensures.1 in
+    rw (p.1, p.2) tt
+
+pub returns-in_default : goal.returns-in_default
+returns-in_default c =
+    let now = c.loop-c.invariant in
+    let ended = no_more now.0 _ now.1 c.in-None.ensures.steps.0.0 in
+    let text = rw ended at now.2 in
+    sym text ∙ ap (read_map (from (string_bytes c.loop-c.read))) (begun_escape is_escapable (is_refused_raw c.args.place) c.loop-c.stage c.in_default.not-Plain)

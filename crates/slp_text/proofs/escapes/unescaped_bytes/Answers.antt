@@ -1,9 +1,11 @@
-use Rattle.std.proofs.Common.{◌≡◌, ◌<◌, ◌+◌, ℕ, Bool, true, false, List, [], ◌∷◌, ◌++◌, Ok, refl, sym, ap, ◌∙◌, length, drop, get_or, arith, append_assoc, add-one, drop-cons}
+use Rattle.std.proofs.Common.{◌≡◌, ◌<◌, ◌+◌, ℕ, Bool, true, false, List, [], ◌∷◌, ◌++◌, Ok, refl, sym, ap, ◌∙◌, length, drop, get_or, arith, append_assoc, append-nil, add-one, drop-cons}
 use Rattle.std.proofs.lemmas.Result.{err_from_is_err_and}
 use Rattle.slp_text.specs.Escapes.{unescaped_bytes}
+use Rattle.slp_text.specs.Reading.{read_map}
 use Rattle.slp_text.specs.declared.escapes.Stage.TheVariants.{Plain}
-use Rattle.slp_text.proofs.Readers.{event_of, Follows-step, Follows-fault, fault_is}
-use Rattle.slp_text.proofs.EscapeReaders.{unescapes, unescape_event, unescape_reader}
+use Rattle.std.proofs.lemmas.List.{drop_all}
+use Rattle.slp_text.proofs.Readers.{event_of, read_map-same, Follows-step, Follows-fault, fault_is}
+use Rattle.slp_text.proofs.EscapeReaders.{unescapes, unescape_event, unescape_reader, begun_escape}
 use Rattle.slp_text.proofs.escapes.unescaped_bytes.Goals as goal
 use Rattle.slp_text.proofs.escapes.unescaped_bytes.Goals.{in-Within, in-Read+in_ok-push-in-Read}
 
@@ -51,3 +53,39 @@ loop-b-preserved c =
             (λ xs. ap (λ t. t ++ xs) w.in_ok-push-in-Read.ensures.items ∙ append_assoc items (w.in-Read.d ∷ []) xs) text);
       }
     ]
+
+pub returns-in_err-push-in-Read-clause-value : goal.returns-in_err-push-in-Read-clause-value
+returns-in_err-push-in-Read-clause-value c =
+    let p = err_from_is_err_and c.from_residual-in_err-push-in-Read.result c.from_residual-in_err-push-in-Read.ensures.1 in
+    rw (p.1, p.2) tt
+
+pub returns-in-Plain-clause-value : goal.returns-in-Plain-clause-value
+returns-in-Plain-clause-value c =
+    let ended = drop_all c.loop-b.b-index c.as_bytes-b-items.result.now c.loop-b-test.false in
+    let text = rw (ended, c.in-Plain.is) at c.loop-b.invariant.text in
+    sym text ∙ ap Ok (append-nil _)
+
+pub loop-b-init : goal.loop-b-init
+loop-b-init c = record { stage = tt; text = rw (c.new-read.ensures.items, c.as_bytes-b-items.ensures.value) (read_map-same _) }
+
+pub returns-in_default-clause-value : goal.returns-in_default-clause-value
+returns-in_default-clause-value c =
+    let ended = drop_all c.loop-b.b-index c.as_bytes-b-items.result.now c.loop-b-test.false in
+    let text = rw ended at c.loop-b.invariant.text in
+    sym text ∙ ap (read_map (λ xs. c.loop-b.read.items ++ xs)) (begun_escape any raw c.loop-b.stage c.in_default.not-Plain)
+
+pub read_byte-requires : goal.read_byte-requires
+read_byte-requires c = c.loop-b.invariant.stage
+
+pub returns-in_err-next-clause-fault : goal.returns-in_err-next-clause-fault
+returns-in_err-next-clause-fault c =
+    let p = err_from_is_err_and c.from_residual.result c.from_residual.ensures.1 in
+    rw (p.1, p.2) c.in_err-next.ensures.fault
+
+pub returns-in_err-push-in-Read-clause-fault : goal.returns-in_err-push-in-Read-clause-fault
+returns-in_err-push-in-Read-clause-fault c =
+    let p = err_from_is_err_and c.from_residual-in_err-push-in-Read.result c.from_residual-in_err-push-in-Read.ensures.1 in
+    rw (p.1, p.2) (λ same. cc)
+
+pub returns-in_default-clause-fault : goal.returns-in_default-clause-fault
+returns-in_default-clause-fault c = λ same. cc

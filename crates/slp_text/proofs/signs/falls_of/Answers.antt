@@ -1,9 +1,10 @@
-use Rattle.std.proofs.Common.{◌+◌, ◌-◌, ◌<◌, length, take, drop, get_or, refl, sym, subst, ap, ◌∙◌, arith}
+use Rattle.std.proofs.Common.{◌≡◌, ◌+◌, ◌-◌, ◌<◌, ◌++◌, [], ◌∷◌, length, length-drop, take, drop, get_or, refl, sym, subst, ap, ◌∙◌, arith}
+use Rattle.std.proofs.lemmas.Result.{err_from_is_err_and}
 use Rattle.slp_text.specs.Searches.{has_at, has_front, IsLongestEnd, front, AreFalls}
 use Rattle.slp_text.specs.SignCodes.{signs_in}
 use Rattle.slp_text.proofs.Matches.{rest_all}
 use Rattle.slp_text.proofs.Searches.{piece-at, so_far-star, so_far-character}
-use Rattle.slp_text.proofs.SignCodes.{cut-codes, own-code, small-code, star-there}
+use Rattle.slp_text.proofs.SignCodes.{length-codes, cut-codes, own-code, small-code, star-there}
 use Rattle.slp_text.proofs.signs.falls_of.Goals as goal
 use Rattle.slp_text.proofs.signs.falls_of.Goals.{then-c+in_ok-push-2, else-c+in_ok-push-3}
 
@@ -61,3 +62,25 @@ loop-i-preserved c =
           let longest = subst (λ q. IsLongestEnd q w.next_fall-fall.result (drop 1 (front (i - st + 1) q))) cut w.next_fall-fall.ensures in
           so_far-character p i st c.if-c.start w.next_fall-fall.result x falls c.if-c.falls.items (own-code i codes x refl small (omega arith) c.requires) w.start-is (ap (λ v. v.items) w.falls-is ∙ w.in_ok-push-3.ensures.items) longest now
     ]
+
+pub loop-i-init : goal.loop-i-init
+loop-i-init c =
+    let falls = c.push.new.self.items in
+    let one : falls ≡ 0 ∷ [] = c.in_ok-push.ensures.items ∙ ap (λ t. t ++ 0 ∷ []) c.new-falls.ensures.items in
+    let long : length falls ≡ 1 = ap length one in
+    (long, omega arith, refl, refl, λ n starts k some within came. absurd (omega (arith, length-drop n falls)))
+
+pub returns-clause-long : goal.returns-clause-long
+returns-clause-long c = omega (arith, c.loop-i.invariant.0, length-codes c.args.codes.now c.requires)
+
+pub returns-clause-falls : goal.returns-clause-falls
+returns-clause-falls c = c.loop-i.invariant.4
+
+pub returns-in_err-push : goal.returns-in_err-push
+returns-in_err-push c = let p = err_from_is_err_and c.from_residual.result c.from_residual.ensures.1 in rw p.1 (record { long = tt; falls = tt })
+
+pub returns-in_err-push-2 : goal.returns-in_err-push-2
+returns-in_err-push-2 c = let p = err_from_is_err_and c.from_residual-in_err-push-2.result c.from_residual-in_err-push-2.ensures.1 in rw p.1 (record { long = tt; falls = tt })
+
+pub returns-in_err-push-3 : goal.returns-in_err-push-3
+returns-in_err-push-3 c = let p = err_from_is_err_and c.from_residual-in_err-push-3.result c.from_residual-in_err-push-3.ensures.1 in rw p.1 (record { long = tt; falls = tt })
