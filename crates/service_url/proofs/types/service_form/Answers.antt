@@ -1,7 +1,7 @@
-use Rattle.std.proofs.Common.{◌≡◌, ◌<◌, ◌+◌, ◌-◌, ◌&&◌, ℕ, List, length, take, drop, sym, ap, ap₂, ◌∙◌, arith, inl, inr}
+use Rattle.std.proofs.Common.{◌≡◌, ◌<◌, ◌+◌, ◌-◌, ◌&&◌, ◌||◌, true, ℕ, List, length, take, drop, sym, ap, ap₂, ◌∙◌, arith, inl, inr}
 use Rattle.std.specs.Prelude.{not}
-use Rattle.std.specs.List.{after_first, position_or_len}
-use Rattle.std.proofs.lemmas.List.{take_all, length-drop}
+use Rattle.std.specs.List.{after_first, before_first, position_or_len}
+use Rattle.std.proofs.lemmas.List.{take_all, length-drop, length-take}
 use Rattle.std.proofs.lemmas.Bool.{cases_lt}
 use Rattle.std.proofs.lemmas.List.Sums.{prefix_len-le-length}
 use Rattle.service_url.specs.Types.{is_colon, is_name}
@@ -37,3 +37,18 @@ returns c =
       ap (λ m. 8 + m) c.colon_at-colon.ensures,
       sym (name_colon r l),
     )
+
+pub slice_bounds-is_name-end : goal.slice_bounds-is_name-end
+slice_bounds-is_name-end c =
+    let r : List ℕ = c.args.rest.now in
+    omega (arith, c.colon_at-colon.ensures, prefix_len-le-length (λ x. not (is_colon x)) r, length-take c.colon_at-colon.result r)
+
+pub returns-then-colon-rest : goal.returns-then-colon-rest
+returns-then-colon-rest c =
+    let r : List ℕ = c.args.rest.now in
+    let n : ℕ = c.colon_at-colon.result in
+    let named : is_name r ≡ true = ap is_name (sym (take_all n r (omega (arith, c.if-colon-rest.true)))) ∙ sym c.is_name.ensures ∙ c.if-not-is_name.false in
+    (ap (λ b. b || (is_name (before_first is_colon r) && is_name (after_first is_colon r))) named, ap (λ m. 8 + m) c.colon_at-colon.ensures, sym named)
+
+pub overflow_add-colon : goal.overflow_add-colon
+overflow_add-colon c = omega (arith, c.colon_at-colon.ensures, prefix_len-le-length (λ x. not (is_colon x)) c.args.rest.now)
