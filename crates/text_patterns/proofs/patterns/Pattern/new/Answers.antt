@@ -1,7 +1,9 @@
-use Rattle.std.proofs.Common.{◌<◌, ◌+◌, ◌++◌, Some, true, false, [], map, drop, length, ap, ◌∙◌, chars, arith}
+use Rattle.std.proofs.Common.{◌≡◌, Bool, List, ◌∷◌, refl, sym, append-nil, ◌<◌, ◌+◌, ◌++◌, Some, true, false, [], map, drop, length, ap, ◌∙◌, chars, arith}
 use Rattle.std.specs.Prelude.{string_bytes}
+use Rattle.std.proofs.lemmas.List.{drop_all}
+use Rattle.std.proofs.lemmas.Result.{err_from_is_err_and}
 use Rattle.caseless.specs.Caseless.{default_case_fold}
-use Rattle.slp_text.specs.Tags.{signs_of}
+use Rattle.slp_text.specs.Tags.{Sign, signs_of}
 use Rattle.text_patterns.specs.Patterns.{pattern_of, pattern_with}
 use Rattle.text_patterns.proofs.Building.{more_signs}
 use Rattle.text_patterns.proofs.Pieces.{folded_pieces, next_piece, pattern_with-start, piece-other, piece-one}
@@ -30,3 +32,26 @@ loop-piece-preserved c =
       | else-begun w ↦ piece-one c.loop-piece.begun c.loop-piece.gap c.if-begun.gap c.loop-piece.signs.items c.if-begun.signs.items (default_case_fold (chars (string_bytes one))) later _ all cut w.if-begun.false
           w.gap-is (ap (λ v. v.items) w.signs-is) c.loop-piece.invariant
     ]
+
+-- with nothing still to come the pattern is what is there
+ended : (begun gap : Bool) (signs : List Sign) → pattern_with gap signs (more_signs begun []) ≡ signs
+ended true gap [] = refl
+ended true gap (s ∷ ss) = append-nil (s ∷ ss)
+ended false gap [] = refl
+ended false gap (s ∷ ss) = append-nil (s ∷ ss)
+
+pub returns : goal.returns
+returns c =
+    let now = c.loop-piece.invariant in
+    let none = drop_all c.loop-piece.piece-index c.args.pieces.now c.loop-piece-test.false in
+    let all = rw none at now in
+    c.in_ok-signs.ensures ∙ c.deref.ensures.value ∙ sym (ended c.loop-piece.begun c.loop-piece.gap c.loop-piece.signs.items) ∙ all
+
+pub returns-in_err-gap : goal.returns-in_err-gap
+returns-in_err-gap c = let p = err_from_is_err_and c.from_residual.result c.from_residual.ensures.1 in rw p.1 tt
+
+pub returns-in_err-gap-2 : goal.returns-in_err-gap-2
+returns-in_err-gap-2 c = let p = err_from_is_err_and c.from_residual-in_err-gap-2.result c.from_residual-in_err-gap-2.ensures.1 in rw p.1 tt
+
+pub returns-in_err-signs : goal.returns-in_err-signs
+returns-in_err-signs c = let p = err_from_is_err_and c.from_residual-in_err-signs.result c.from_residual-in_err-signs.ensures.1 in rw p.1 tt
