@@ -1,6 +1,6 @@
 -- Arrays of values that are read one by one.
-use Rattle.std.proofs.Common.{◌≡◌, ◌<◌, ◌+◌, ℕ, length, get_or, drop, List, [], ◌∷◌, ◌++◌, Option, Some, None, refl, ap, sym, ◌∙◌, append_assoc, map}
-use Rattle.std.proofs.lemmas.List.{drop_more}
+use Rattle.std.proofs.Common.{◌≡◌, ◌<◌, ◌≤◌, ◌+◌, ℕ, length, get_or, drop, List, [], ◌∷◌, ◌++◌, Option, Some, None, refl, ap, sym, ◌∙◌, append_assoc, append-nil, map}
+use Rattle.std.proofs.lemmas.List.{drop_more, drop_all}
 use Rattle.std.specs.Option.{option_map, option_and_then}
 use Rattle.toml.specs.Data.{Data, as_array}
 use Rattle.toml.specs.View.{view, items_of, items_view}
@@ -10,6 +10,10 @@ use Rattle.access_rules.specs.Tables.{values_of, each_in, array_in, array_values
 -- what was read so far, and what is read of the rest
 abbrev pub with_front : {A : Type 0} → List A → Option (List A) → Option (List A)
 with_front xs o = option_map (λ ys. xs ++ ys) o
+
+pub with_front-same : {A : Type 0} (o : Option (List A)) → with_front [] o ≡ o
+with_front-same None = refl
+with_front-same (Some xs) = refl
 
 put_between : {A : Type 0} (xs : List A) (x : A) (o : Option (List A)) → with_front xs (option_and_then (λ ys. Some (x ∷ ys)) o) ≡ with_front (xs ++ x ∷ []) o
 put_between xs x None = refl
@@ -45,3 +49,7 @@ pub read_no_more : {A : Type 0} (f : Data → Option A) (values : List Value) (i
     → with_front xs (each_in f (map view (drop i values))) ≡ None
 read_no_more f values i other xs h is =
     ap (λ vs. with_front xs (each_in f (map view vs))) (drop_more values i other h) ∙ read_none f xs (view (get_or values i other)) (map view (drop (i + 1) values)) is
+
+-- there is no other value
+pub read_all : {A : Type 0} (f : Data → Option A) (values : List Value) (i : ℕ) (xs : List A) → length values ≤ i → with_front xs (each_in f (map view (drop i values))) ≡ Some xs
+read_all f values i xs h = ap (λ vs. with_front xs (each_in f (map view vs))) (drop_all i values h) ∙ ap Some (append-nil xs)

@@ -1,6 +1,6 @@
 -- Rules and hide tables that are read one by one.
-use Rattle.std.proofs.Common.{◌≡◌, ℕ, ◌+◌, ◌<◌, length, get_or, drop, map, List, [], ◌∷◌, ◌++◌, Option, Some, Result, Ok, Err, refl, ap, sym, ◌∙◌, append_assoc}
-use Rattle.std.proofs.lemmas.List.{drop_more}
+use Rattle.std.proofs.Common.{◌≡◌, ℕ, ◌+◌, ◌<◌, ◌≤◌, length, get_or, drop, map, List, [], ◌∷◌, ◌++◌, Option, Some, None, Result, Ok, Err, refl, ap, sym, ◌∙◌, append_assoc, append-nil}
+use Rattle.std.proofs.lemmas.List.{drop_more, drop_all}
 use Rattle.std.specs.Option.{option_map_or}
 use Rattle.toml.specs.Data.{Data}
 use Rattle.toml.specs.View.{view}
@@ -25,3 +25,14 @@ module _ {A : Type 0} (f : Data → Option A) where
       → read_map (λ ys. xs ++ ys) (each_from f n (map view (drop i values))) ≡ read_map (λ ys. (xs ++ x ∷ []) ++ ys) (each_from f (n + 1) (map view (drop (i + 1) values)))
   read_step n values i other xs x h is =
       ap (λ vs. read_map (λ ys. xs ++ ys) (each_from f n (map view vs))) (drop_more values i other h) ∙ read_one xs n (view (get_or values i other)) (map view (drop (i + 1) values)) x is
+
+  -- it is none
+  pub read_none : (n : ℕ) (values : List Value) (i : ℕ) (other : Value) (xs : List A) → i < length values → f (view (get_or values i other)) ≡ None
+      → read_map (λ ys. xs ++ ys) (each_from f n (map view (drop i values))) ≡ Err (Shape n)
+  read_none n values i other xs h is =
+      ap (λ vs. read_map (λ ys. xs ++ ys) (each_from f n (map view vs))) (drop_more values i other h)
+      ∙ ap (λ (o : Option A). read_map (λ ys. xs ++ ys) (option_map_or (λ y. read_map (λ ys. y ∷ ys) (each_from f (n + 1) (map view (drop (i + 1) values)))) o (Err (Shape n)))) is
+
+  -- there is no other value
+  pub read_all : (n : ℕ) (values : List Value) (i : ℕ) (xs : List A) → length values ≤ i → read_map (λ ys. xs ++ ys) (each_from f n (map view (drop i values))) ≡ Ok xs
+  read_all n values i xs h = ap (λ vs. read_map (λ ys. xs ++ ys) (each_from f n (map view vs))) (drop_all i values h) ∙ ap Ok (append-nil xs)
