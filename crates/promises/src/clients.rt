@@ -14,5 +14,6 @@ pub fn user_step(
 ) -> Result<Step, ClientFault>
     ensures { ((result ≡ Err fault.NoMemory) × (agent.new ≡ agent.old)) ⊎ ((result ≡ (stepped agent.old now event.entry).answer) × (agent.new ≡ record agent.old { stage = (stepped agent.old now event.entry).stage })) }
 {
-    agent.step(alloc, now, event)
+    let told = agent.step(alloc, now, event);
+    told
 }

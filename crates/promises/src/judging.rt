@@ -20,7 +20,8 @@ pub fn judge<R: Registry>(
 ) -> Result<Decision, NoMemory>
     ensures { IfOk result (λ j. IsJudgement grounds.now.live (judgement_in j) (judgement grounds.now (message_in change.now))) }
 {
-    grounds.judge(alloc, change)
+    let told = grounds.judge(alloc, change);
+    told
 }
 
 /// What the rules say of an action on an entry, in its scopes and with its registrant.
@@ -31,12 +32,14 @@ pub fn rule<'b, R: Registry>(
 ) -> Option<Ruling<'b>>
     ensures { option_map ruling_in result ≡ ruling_on grounds.now.rules (deed grounds.now.asker action entry.now.kind entry.now.owner) entry.now.scopes }
 {
-    grounds.rule(action, &entry.kind, &entry.scopes, entry.owner)
+    let told = grounds.rule(action, &entry.kind, &entry.scopes, entry.owner);
+    told
 }
 
 /// Whether the entries that are live fill the capacity of the site.
 pub fn is_full<R: Registry>(grounds: &Grounds<'_, R>) -> bool
     ensures { result ≡ nat_le grounds.now.site.capacity (fin.len grounds.now.live) }
 {
-    grounds.is_full()
+    let told = grounds.is_full();
+    told
 }

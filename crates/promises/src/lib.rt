@@ -16,6 +16,6 @@ pub use judging::{is_full, judge, rule};
 pub use messages::read_service_request;
 pub use published::{answer, change};
 pub use questions::{find, find_attributes, holds, holds_where, now, updated};
-pub use registries::{by_place, put};
+pub use registries::put;
 pub use replies::{audit_line, reply};
 pub use rules::verdict;

@@ -16,5 +16,6 @@ pub fn read_service_request<'a>(
     requires function { view.now.function ≡ 1 }
     ensures { Gives (λ r. message.ServiceRequest (kept_header (heading_in view.now)) (request_in r)) result (reading bytes.now) }
 {
-    slp_wire::read_service_request(view, bytes)
+    let told = slp_wire::read_service_request(view, bytes);
+    told
 }

@@ -29,7 +29,8 @@ pub fn change<J: Naming, R: Wait + Drop>(
     ensures stays_shut { writer.old.is_shut ≡ true → writer.new.is_shut ≡ true }
     ensures faults { IfErr result (λ e. (e ≡ ViewFault.NoMemory) ⊎ (e ≡ ViewFault.Closed)) }
 {
-    writer.change(alloc, call.moment, call.asker, call.bytes, answer)
+    let told = writer.change(alloc, call.moment, call.asker, call.bytes, answer);
+    told
 }
 
 /// Answers bytes that ask for no change, at one history that was published, which goes on from all that was seen before. Another view
@@ -59,5 +60,6 @@ pub fn answer<J: Naming>(
         bytes,
         limit,
     } = *call;
-    view.answer(alloc, &OpenGate, own, moment, asker, bytes, limit, answer)
+    let told = view.answer(alloc, &OpenGate, own, moment, asker, bytes, limit, answer);
+    told
 }

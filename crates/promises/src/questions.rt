@@ -27,7 +27,8 @@ use std::alloc::Global;
 pub fn now<R: Registry>(directory: &Directory<R>, moment: u32) -> u32
     ensures { result ≡ max moment directory.now.clock }
 {
-    directory.now(moment)
+    let told = directory.now(moment);
+    told
 }
 
 /// The URLs that answer a question of who calls, from the front as many as there is room for.
@@ -47,7 +48,8 @@ pub fn find<'a, R: Registry>(
         → IfOk result (λ found. (all : List UrlEntry) × AreServices (standpoint o h call.now.moment call.now.asker) query.now all × IsFront room all (items_in found) found.is_cut) }
     ensures fits { IfOk result (λ found. size_in room (items_in found) ≤ room.bytes) }
 {
-    directory.find(alloc, call.moment, call.asker, query, room)
+    let told = directory.find(alloc, call.moment, call.asker, query, room);
+    told
 }
 
 /// What the tags of a question select of the attributes that are shown to who calls.
@@ -64,7 +66,8 @@ pub fn find_attributes<'a, R: Registry>(
     ensures joined { (o : Opening) (h : History) → Fold o h directory.now → IsLegal o h
         → IfOk result (λ a. AreAttributesOf (standpoint o h call.now.moment call.now.asker) query.now a) }
 {
-    directory.find_attributes(alloc, call.moment, call.asker, query)
+    let told = directory.find_attributes(alloc, call.moment, call.asker, query);
+    told
 }
 
 /// Whether the filter that a text spells holds on attributes.
@@ -72,7 +75,8 @@ pub fn holds(alloc: Global, text: &str, attributes: &Attrs) -> Result<bool, Filt
     ensures { IfOk result (λ told. (f : filters.Filter) × (filter_in text.now ≡ Ok f) × (told ≡ filters.holds f attributes.now)) }
 {
     let filter = Filter::parse(alloc, text)?;
-    Ok(filter.holds(attributes))
+    let told = filter.holds(attributes);
+    Ok(told)
 }
 
 /// Whether a filter holds on those attributes alone whose tags a test accepts.
@@ -80,7 +84,8 @@ pub fn holds_where<F: Fn(&Key) -> bool>(filter: &Filter, attributes: &Attrs, acc
     requires { F.IsAlwaysCallable accepts.now }
     ensures { (p : List ℕ → Bool) → AcceptsAs F.Fn accepts.now p → result ≡ filters.holds filter.now (kept_attributes attributes.now p) }
 {
-    filter.holds_where(attributes, accepts)
+    let told = filter.holds_where(attributes, accepts);
+    told
 }
 
 /// The attributes with the tags of others as they are there.
@@ -88,5 +93,6 @@ pub fn updated(alloc: Global, attributes: &Attrs, more: &Attrs) -> Result<Attrs,
     ensures value { IfOk result (λ a. a ≡ updated_attributes attributes.now more.now) }
     ensures memory { OnErr result (result ≡ Err fault.NoMemory) }
 {
-    attributes.updated(alloc, more)
+    let told = attributes.updated(alloc, more);
+    told
 }

@@ -36,7 +36,8 @@ pub fn reply<R: Registry>(
         bytes,
         limit,
     } = *call;
-    slp_answer::reply(alloc, directory, own, moment, asker, bytes, limit, answer)
+    let told = slp_answer::reply(alloc, directory, own, moment, asker, bytes, limit, answer);
+    told
 }
 
 /// Appends the line that tells what came of a message.
@@ -44,5 +45,6 @@ pub fn audit_line(rules: &Rules, audit: &Audit, line: &mut Vec<u8>) -> Result<()
     ensures ok { OnOk result (line.new.items ≡ line.old.items ++ audit_text rules.now audit.now) }
     ensures err { OnErr result (line.new.items ≡ line.old.items) }
 {
-    slp_answer::audit_line(rules, audit, line)
+    let told = slp_answer::audit_line(rules, audit, line);
+    told
 }

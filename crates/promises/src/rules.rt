@@ -9,5 +9,6 @@ pub fn verdict(rules: &Rules, deed: &Deed<'_>, scope: &Key) -> Verdict
     ensures value { result ≡ deciding rules.now (deed_in deed.now) scope.now }
     ensures within { IfSome result.rule (λ place. place < number rules.now) }
 {
-    rules.verdict(deed, scope)
+    let told = rules.verdict(deed, scope);
+    told
 }
