@@ -1,17 +1,18 @@
 # make             lists all this, and starts nothing
 # make try         replays a small script with the program as it stands, unproved: a minute or two
-# make build       proves what the programs need, and leaves them in bin/: an hour the first time, on 4 processors
-# make demo        starts the server on an example site, and asks it with the client: as make build, and seconds; needs python3
+# make build       proves what the programs need, and what they promise, on every processor, and leaves them in bin/: half an hour to an hour the first time
+# make bin/slptool proves the client alone, with what it needs, and leaves it in bin/: some ten minutes the first time, on 4 processors
+# make demo        starts the server on an example site, and asks it with the client: as make build, and seconds
 # make run         replays the script of make try, or script=FILE, with the proved program: half an hour the first time
 # make day         replays a day of a small site, which examples/day.md explains: as make run
 # make install     puts the programs of bin/, tools and pages below prefix=/usr/local: seconds, once make build is done
 # make uninstall   takes away what make install put, and leaves /etc/slpda alone: seconds
-# make test        the gate, which proves and tries all from nothing: 45 minutes, on 4 processors
+# make test        the gate, which proves and tries all from nothing: an hour, on 4 processors
 # make wrong       tries the wrong bodies beside the gate, or CRATE=slp_text those of one crate: 90 minutes; needs python3
 # make bench       counts what a message costs, and measures the server: minutes, once make build is done; needs valgrind, python3, cc
 # make refusals    refuses each request for memory of the programs in turn: minutes, once make build is done; needs python3
 # make hostile     sends the server ten million broken messages, or count=N, and asks whether anyone else noticed: minutes; needs make build, python3
-# What is proved is kept in crates/*/out: a second call proves what changed since, and what stands on it.
+# What is proved is kept in crates/*/out: a second call proves what changed since, and what stands on it. All that builds needs python3.
 .PHONY: help try build demo run day install uninstall test wrong bench refusals hostile
 .DEFAULT_GOAL := help
 
