@@ -42,7 +42,7 @@ pub(crate) fn body_of(
     }
 }
 
-// The bodies, each in a function of its own: the prover takes seven times as long for one `match` with a `?` in each way.
+// The bodies, each in a function of its own: one `match` with a `?` in each way takes the prover several times as long.
 fn service_request_body(
     alloc: Global,
     header: Header,

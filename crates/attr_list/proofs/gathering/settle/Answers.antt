@@ -1,6 +1,7 @@
-use Rattle.std.proofs.Common.{◌++◌, [], ◌∷◌, sym, ap, ap₂, ◌∙◌}
+use Rattle.std.proofs.Common.{◌++◌, [], ◌∷◌, sym, ap, ap₂, ◌∙◌, map}
 use Rattle.std.specs.Prelude.{vec_items}
-use Rattle.std.proofs.lemmas.List.{map_push}
+use Rattle.std.proofs.lemmas.Iterator.Consumers.{YieldsList-from_rest, YieldsList-end}
+use Rattle.std.proofs.lemmas.List.{map_push, map-id}
 use Rattle.std.proofs.lemmas.Result.{err_from_is_err_and}
 use Rattle.attr_list.specs.Lists.{distinct_values, held_of}
 use Rattle.attr_list.specs.Stored.{pair_in, pairs_in}
@@ -27,3 +28,9 @@ returns-in_err-push c =
 
 pub returns-clause-ordered : goal.returns-clause-ordered
 returns-clause-ordered c = c.into_iter-tag-iterator.ensures.into_iter_gives.5
+
+pub returns-clause-value : goal.returns-clause-value
+returns-clause-value c =
+    let entries = YieldsList-from_rest {shows = λ p. p} c.args.named.entries c.into_iter-tag-iterator.ensures.into_iter_gives.0 in
+    let all = YieldsList-end entries c.loop-tag.yielded _ c.loop-tag.yielded_by _ _ c.in-None.is c.next.ensures.steps in
+    c.loop-tag.invariant ∙ ap (map (λ p. (p.0, held_of (distinct_values (vec_items p.1))))) (sym (map-id c.loop-tag.yielded) ∙ all.0)
