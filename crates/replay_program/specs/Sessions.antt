@@ -1,5 +1,5 @@
 -- Which history an agent and a session stand for, and what a datagram does to it.
-use Rattle.std.specs.Prelude.{◌≡◌, ℕ, ◌-◌, Bool, true, false, IsTrue, List, ◌++◌, length, Option, MatchOption, Result, Ok, Err}
+use Rattle.std.specs.Prelude.{◌≡◌, ℕ, ◌-◌, Bool, true, false, IsTrue, List, ◌++◌, Option, MatchOption, Result, Ok, Err}
 use Rattle.replay_program.specs.OpeningRules.{opening_rules}
 use Rattle.access_rules.specs.Deciding.{SiteRules, number}
 use Rattle.access_rules.specs.declared.fault.RuleFault.{RuleFault}

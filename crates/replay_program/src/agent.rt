@@ -126,16 +126,32 @@ fn site_with(alloc: Global, site: &Site, templates: Templates) -> Result<Site, N
 }
 
 // A directory to which nothing happened, with rules that allow everything to everyone.
-fn begin(alloc: Global, site: &Site) -> Result<Directory<SiteRegistry>, NoMemory>
-    ensures state { IfOk result (λ d. d ≡ opening_state (record { rules = opening_rules; site = site.now })) }
-    ensures fold { IfOk result (λ d. Fold (record { rules = opening_rules; site = site.now }) [] d) }
+fn begin(alloc: Global, site: Site) -> Result<Directory<SiteRegistry>, NoMemory>
+    ensures state { IfOk result (λ d. d ≡ opening_state (record { rules = opening_rules; site = site })) }
+    ensures fold { IfOk result (λ d. Fold (record { rules = opening_rules; site = site }) [] d) }
 {
     let rules = Arc::new(alloc, opening::rules(alloc)?)?;
     match SiteRegistry::with_capacity(alloc, site.capacity()) {
-        Ok(registry) => Directory::open(alloc, registry, site, rules),
+        Ok(registry) => Directory::open(alloc, registry, &site, rules),
         Err(RegistryFault::NoMemory) => Err(NoMemory),
         Err(RegistryFault::Full) => unreachable!(),
     }
+}
+
+// What a run begins anew with on the site of a configuration, with these templates.
+fn begun_on(
+    alloc: Global,
+    config: Config,
+    templates: &Templates,
+) -> Result<(Directory<SiteRegistry>, Row<(Addr, u16)>), NoMemory>
+    requires { IsWithin config }
+    ensures state { IfOk result (λ r. (r.0 ≡ opening_state (record { rules = opening_rules; site = site_in templates.now config })) × (r.1 ≡ config.listen)) }
+    ensures fold { IfOk result (λ r. Fold (record { rules = opening_rules; site = site_in templates.now config }) [] r.0) }
+{
+    let templates = Arc::new(alloc, templates.share(alloc)?)?;
+    let (site, listen) = site_of(config, templates);
+    let directory = begin(alloc, site)?;
+    Ok((directory, listen))
 }
 
 impl Agent {
@@ -148,10 +164,11 @@ impl Agent {
     pub fn open(alloc: Global) -> Result<Agent, NoMemory>
         ensures { IfOk result (λ a. a ≡ opening_agent) }
     {
-        let site = opening_site(alloc)?;
+        let listen = opening_addresses(alloc)?;
+        let directory = begin(alloc, opening_site(alloc)?)?;
         Ok(Agent {
-            directory: begin(alloc, &site)?,
-            listen: opening_addresses(alloc)?,
+            directory,
+            listen,
             loop_index: 0,
             moment: 0,
             asker: FIRST_ASKER,
@@ -163,12 +180,8 @@ impl Agent {
         requires { IsWithin config }
         ensures { (w : World) → IsAgent w self.old → IfOk result (λ _. IsAgent (configured_world config w) self.new) }
     {
-        let templates = self.directory.site().templates().share(alloc)?;
-        let templates = Arc::new(alloc, templates)?;
-        let (site, listen) = site_of(config, templates);
-        let directory = begin(alloc, &site);
-        drop(site);
-        self.directory = directory?;
+        let (directory, listen) = begun_on(alloc, config, self.directory.site().templates())?;
+        self.directory = directory;
         self.listen = listen;
         self.loop_index = 0;
         Ok(())
@@ -210,7 +223,7 @@ impl Agent {
         match templates_and(alloc, self.directory.site().templates(), text) {
             Ok(templates) => {
                 let site = site_with(alloc, self.directory.site(), templates)?;
-                self.directory = begin(alloc, &site)?;
+                self.directory = begin(alloc, site)?;
                 Ok(Ok(()))
             }
             Err(ParseFault::NoMemory) => Err(NoMemory),

@@ -42,6 +42,21 @@ pub struct Progress {
     pub session: Session,
 }
 
+impl Progress {
+    ghost use Rattle.replay_program.specs.Reads.{StandsAfter};
+
+    /// Where a run stands before its first line.
+    pub fn begin(alloc: Global) -> Result<Progress, NoMemory>
+        ensures { IfOk result (λ p. StandsAfter [] [] [] p) }
+    {
+        Ok(Progress {
+            number: 0,
+            block: None,
+            session: Session::open(alloc)?,
+        })
+    }
+}
+
 // What is kept of a block's text with one line more.
 fn lengthen_text(text: Option<String>, line: &str) -> Result<Option<String>, NoMemory>
     ensures { IfOk result (λ t. option_map string_bytes t ≡ block_text_with (option_map string_bytes text) line.now) }

@@ -5,7 +5,6 @@ ghost use Rattle.replay_program.specs.Gives.{Gives};
 use crate::fault::RunFault;
 use crate::line_input::{feed, finish};
 use crate::progress::Progress;
-use crate::session::Session;
 use slp_answer::Answer;
 use std::alloc::Global;
 use std::io::{ErrorKind, Read, Write};
@@ -77,11 +76,7 @@ impl Replay {
         ensures known { KnownGives (R.remaining reader.old) (W.contents writer.old) (W.contents writer.new) result }
     {
         let mut chunk = vec![in alloc; 0u8; CHUNK]?;
-        let mut progress = Progress {
-            number: 0,
-            block: None,
-            session: Session::open(alloc)?,
-        };
+        let mut progress = Progress::begin(alloc)?;
         run_through(
             alloc,
             chunk.as_mut_slice(),
