@@ -1,18 +1,72 @@
-use Rattle.std.proofs.Common.{◌≡◌, ◌≢◌, true, false, [], sym, ap, subst, ◌∙◌}
-use Rattle.std.specs.Prelude.{Some}
+use Rattle.std.proofs.Common.{◌≡◌, ◌≢◌, ◌<◌, ℕ, true, false, List, [], ◌∷◌, length, Option, Some, None, refl, sym, ap, subst, ◌∙◌, arith}
 use Rattle.std.specs.Arc.{arc_value}
 use Rattle.std.specs.Option.{option_map}
 use Rattle.std.specs.Result.{result_ok}
-use Rattle.std.proofs.lemmas.Result.{IfOk-weaker}
+use Rattle.std.proofs.lemmas.Option.{none-some, same_Some}
+use Rattle.std.proofs.lemmas.Result.{err_from_is_err_and, IfOk-weaker}
 use Rattle.slp_messages.specs.Views.{withdrawal_in}
 use Rattle.service_url.specs.Urls.{url_of}
 use Rattle.slp_text.specs.Keys.{key_of}
 use Rattle.slp_text.specs.Scopes.{scopes_of}
-use Rattle.directory_judge.specs.Judgements.{Grounds, judgement_in, judgement_of_removal, judgement_of_url, IsJudgement}
+use Rattle.slp_text.specs.Tags.{Part}
+use Rattle.directory_judge.specs.Judgements.{Grounds, denial, denial_by, judgement_in, judgement_in_scopes, judgement_of_removal, judgement_of_texts, judgement_of_url, IsJudgement}
 use Rattle.directory_judge.proofs.Steps.{judgement-tagged, judgement-whole}
 use Rattle.directory_judge.specs.Withdrawals.{withdrawal_of_texts}
 use Rattle.directory_judge.specs.declared.change.Withdrawn.{Withdrawn}
+use Rattle.directory_judge.specs.declared.reason.Decider.TheVariants as decider
 use Rattle.directory_judge.proofs.grounds.Grounds.judge_asked.Goals as goal
+
+some-length : (xs : List (List ℕ)) → xs ≢ [] → 0 < length xs
+some-length [] some = absurd (some refl)
+some-length (x ∷ xs) some = omega arith
+
+module _ (g : Grounds) (language : List ℕ) (tags : List Part) where
+  withdrawn-none : (url : Option (List ℕ)) (scopes : Option (List (List ℕ))) → withdrawal_of_texts g.site url scopes ≡ None → judgement_of_texts g language url (Some tags) scopes ≡ denial_by decider.Parse
+  withdrawn-none None scopes e = refl
+  withdrawn-none (Some url) None e = refl
+  withdrawn-none (Some url) (Some scopes) e = absurd (none-some _ (sym e))
+
+  withdrawn-unscoped : (w : Withdrawn) (url : Option (List ℕ)) (scopes : Option (List (List ℕ))) → withdrawal_of_texts g.site url scopes ≡ Some w → w.scopes ≡ [] → judgement_of_texts g language url (Some tags) scopes ≡ denial_by decider.Scope
+  withdrawn-unscoped w None scopes e none = absurd (none-some w e)
+  withdrawn-unscoped w (Some url) None e none = absurd (none-some w e)
+  withdrawn-unscoped w (Some url) (Some scopes) e none = ap (λ (x : Withdrawn). judgement_in_scopes g (x.url, language) tags x.scopes) (same_Some _ w e) ∙ ap (judgement_in_scopes g (w.url, language) tags) none
+
+pub returns-in_err-withdrawn : goal.returns-in_err-withdrawn
+returns-in_err-withdrawn g c =
+    let p = err_from_is_err_and c.from_residual.result c.from_residual.ensures.1 in
+    rw p.1 tt
+
+pub returns-in_default : goal.returns-in_default
+returns-in_default g c =
+    let on = c.args.self.now in
+    let w = withdrawal_in c.args.withdrawal.now in
+    let url = result_ok (url_of w.entry.url) in
+    let scopes = result_ok (scopes_of w.scopes) in
+    let is : withdrawal_of_texts on.site url scopes ≡ None =
+    ap (λ (v : Grounds). withdrawal_of_texts v.site url scopes) (sym c.self.view_is) ∙ sym c.in_ok-withdrawn.ensures.value ∙ ap (option_map arc_value) c.in_default.is in
+    withdrawn-none on (key_of c.args.header.now.language.now) c.args.tags.now url scopes is ∙ ap denial (sym c.by.ensures)
+
+pub returns-then-is_empty : goal.returns-then-is_empty
+returns-then-is_empty g c =
+    let on = c.args.self.now in
+    let w = withdrawal_in c.args.withdrawal.now in
+    let asked = arc_value c.in-Some.withdrawn in
+    let url = result_ok (url_of w.entry.url) in
+    let scopes = result_ok (scopes_of w.scopes) in
+    let is : withdrawal_of_texts on.site url scopes ≡ Some asked =
+    ap (λ (v : Grounds). withdrawal_of_texts v.site url scopes) (sym c.self.view_is) ∙ sym c.in_ok-withdrawn.ensures.value ∙ ap (option_map arc_value) c.in-Some.is in
+    let none : asked.scopes ≡ [] = sym (ap (λ (x : Withdrawn). x.scopes) c.deref.ensures) ∙ c.is_empty.ensures.0 c.if-is_empty.true in
+    withdrawn-unscoped on (key_of c.args.header.now.language.now) c.args.tags.now asked url scopes is none ∙ ap denial (sym c.by-then-is_empty.ensures)
+
+pub judge_stored-requires : goal.judge_stored-requires
+judge_stored-requires g c =
+    let asked = arc_value c.in-Some.withdrawn in
+    some-length asked.scopes (λ none. let k : true ≡ false = sym (c.is_empty.ensures.1 (ap (λ (x : Withdrawn). x.scopes) c.deref.ensures ∙ none)) ∙ c.if-is_empty.false in cc)
+
+pub judge_removal-requires-clause-scoped : goal.judge_removal-requires-clause-scoped
+judge_removal-requires-clause-scoped g c =
+    let lent = c.deref-2.result.now in
+    some-length lent.scopes (λ none. let k : true ≡ false = sym (c.is_empty.ensures.1 (ap (λ (x : Withdrawn). x.scopes) (c.deref.ensures ∙ sym c.deref-2.ensures) ∙ none)) ∙ c.if-is_empty.false in cc)
 
 pub returns-then-is_empty-2 : goal.returns-then-is_empty-2
 returns-then-is_empty-2 g c =
