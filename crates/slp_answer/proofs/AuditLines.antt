@@ -1,5 +1,5 @@
 -- The line of an audit, written part by part.
-use Rattle.std.proofs.Common.{◌≡◌, ℕ, ◌+◌, Bool, false, length, if◌then◌else◌, List, [], ◌∷◌, ◌++◌, codes, refl, sym, ap, ◌∙◌, append_assoc, arith}
+use Rattle.std.proofs.Common.{◌≡◌, ℕ, ◌+◌, ◌/◌, ◌%◌, Bool, true, false, length, if◌then◌else◌, List, [], ◌∷◌, ◌++◌, codes, encode_utf8, encode_utf8_all, refl, sym, ap, ◌∙◌, append_assoc, append-nil, arith}
 use Rattle.std.specs.Prelude.{◌==◌}
 use Rattle.std.specs.Fmt.{decimal, digits}
 use Rattle.std.proofs.lemmas.Bool.Decides.{nat_tests}
@@ -7,7 +7,9 @@ use Rattle.std.proofs.lemmas.List.{length-append}
 use Rattle.access_rules.specs.Addresses.{address_text}
 use Rattle.slp_answer.specs.Audits.{line_text, head_text, tail_text, beginning_text, decider_text, action_text, text_or_dash, ending_text}
 use Rattle.slp_answer.specs.declared.copies.Audit.{Audit}
-use Rattle.slp_text.specs.Ascii.{digit_zero}
+use Rattle.slp_text.specs.Ascii.{backslash, digit_zero, dot}
+use Rattle.slp_text.specs.Escapes.{is_reserved, capital_digit, written_character}
+use Rattle.slp_text.specs.declared.escapes.Place.TheVariants.{Scope}
 
 -- what stands between who decided and the asker
 abbrev pub action_piece : Audit → List ℕ
@@ -70,3 +72,46 @@ denies code some =
 
 pub allows : (code : ℕ) → code ≡ 0 → codes "# allow code=0 by=" ≡ beginning_text code
 allows code h = sym (ap beginning_text h ∙ ap (λ (d : List ℕ). codes "# allow code=" ++ d ++ codes " by=") zero_digit)
+
+-- ---- an address
+
+-- a number with a dot after it
+abbrev pub dotted : ℕ → List ℕ
+dotted n = decimal n ++ dot ∷ []
+
+address_of_parts : (w a b d e : List ℕ) → (((w ++ (a ++ dot ∷ [])) ++ (b ++ dot ∷ [])) ++ (d ++ dot ∷ [])) ++ e ≡ w ++ (a ++ dot ∷ b ++ dot ∷ d ++ dot ∷ e)
+address_of_parts w a b d e = simp append_assoc refl
+
+-- of a number that an address is
+pub address_is_written : (w : List ℕ) (n a : ℕ) → n ≡ a → (((w ++ dotted (n / 16777216)) ++ dotted (n / 65536 % 256)) ++ dotted (n / 256 % 256)) ++ decimal (n % 256) ≡ w ++ address_text a
+address_is_written w n a is =
+    address_of_parts w (decimal (n / 16777216)) (decimal (n / 65536 % 256)) (decimal (n / 256 % 256)) (decimal (n % 256)) ∙ ap (λ m. w ++ address_text m) is
+
+pub address_length : (n a : ℕ) → n ≡ a → length (address_text a) ≡ length (dotted (n / 16777216)) + (length (dotted (n / 65536 % 256)) + (length (dotted (n / 256 % 256)) + length (decimal (n % 256))))
+address_length n a is =
+    let p = dotted (n / 16777216) in
+    let q = dotted (n / 65536 % 256) in
+    let r = dotted (n / 256 % 256) in
+    let whole = ap length (address_is_written [] n a is) in
+    let two = length-append p q in
+    let three = length-append (p ++ q) r in
+    let four = length-append ((p ++ q) ++ r) (decimal (n % 256)) in
+    omega (arith, whole, two, three, four)
+
+-- ---- a character of a scope
+
+-- as it is, where it is not reserved
+pub raw_is_written : (c : ℕ) → is_reserved Scope c ≡ false → encode_utf8 c ≡ encode_utf8_all (written_character Scope c)
+raw_is_written c h = rw h (sym (append-nil (encode_utf8 c)))
+
+escape_of : (c d e : ℕ) → is_reserved Scope c ≡ true → d ≡ capital_digit (c / 16) → e ≡ capital_digit (c % 16) → backslash ∷ d ∷ e ∷ [] ≡ written_character Scope c
+escape_of c d e h first second = rw (h, first, second) refl
+
+-- and by three characters where it is
+pub escape_is_written : (c d e : ℕ) → is_reserved Scope c ≡ true → d ≡ capital_digit (c / 16) → e ≡ capital_digit (c % 16) → (encode_utf8 backslash ++ encode_utf8 d) ++ encode_utf8 e ≡ encode_utf8_all (written_character Scope c)
+escape_is_written c d e h first second =
+    let b = encode_utf8 backslash in
+    append_assoc b (encode_utf8 d) (encode_utf8 e) ∙ ap (λ t. b ++ (encode_utf8 d ++ t)) (sym (append-nil (encode_utf8 e))) ∙ ap encode_utf8_all (escape_of c d e h first second)
+
+pub parts_length : (a b c : List ℕ) → length ((a ++ b) ++ c) ≡ (length a + length b) + length c
+parts_length a b c = length-append (a ++ b) c ∙ ap (λ n. n + length c) (length-append a b)
