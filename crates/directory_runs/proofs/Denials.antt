@@ -1,6 +1,6 @@
 -- Every denial carries its code, and its line names who decided.
 use Rattle.std.proofs.Common.{◌≡◌, ◌≢◌, ℕ, Bool, true, false, cond, not, List, [], ◌∷◌, ◌++◌, codes, length, Option, Some, None, Result, Ok, Err, refl, sym, ap, subst, ◌∙◌, append_assoc, arith, inl, inr}
-use Rattle.std.specs.Prelude.{◌⊎◌, ◌==◌, ◌&&◌, ◌||◌, filter, find, is_none, is_some, nat_le, unwrap_or}
+use Rattle.std.specs.Prelude.{◌==◌, ◌&&◌, ◌||◌, filter, find, is_none, is_some, nat_le, unwrap_or}
 use Rattle.std.specs.Fmt.{decimal}
 use Rattle.std.specs.FinMap as fin
 use Rattle.std.specs.List.{list_any}
@@ -47,7 +47,7 @@ use Rattle.directory_questions.specs.Answers.{Sense, Settled, Lists, Describes, 
 use Rattle.directory_questions.specs.Calls.{Opening, Call, standpoint_of}
 use Rattle.directory_questions.specs.Cuts.{attributes_with, services_with, types_with}
 use Rattle.directory_questions.specs.Items.{attribute_texts, kind_asked}
-use Rattle.directory_questions.specs.Outcomes.{Outcome, acknowledgement_of, code_outcome, code_outcome_as, denial_outcome, fault_outcome, is_to_many, outcome, sent_of, silence}
+use Rattle.directory_questions.specs.Outcomes.{Outcome, acknowledgement_of, code_outcome, code_outcome_as, denial_outcome, fault_outcome, outcome, sent_of, silence}
 use Rattle.directory_questions.specs.Requests.{action_of}
 use Rattle.directory_questions.specs.Verdicts.{grounds}
 use Rattle.directory_questions.specs.declared.question.Question.{Question}
@@ -55,7 +55,7 @@ use Rattle.directory_questions.specs.declared.question.Question.TheVariants as q
 use Rattle.slp_answer.specs.Answers.{audit_in}
 use Rattle.slp_answer.specs.Audits.{action_text, audit_text, decider_text, line_text, rule_named, tail_text}
 use Rattle.slp_answer.specs.declared.copies.Audit.{Audit}
-use Rattle.directory_runs.specs.Promises.{DenialsAreKept, IsDenial, IsRuledOut}
+use Rattle.directory_runs.specs.Promises.{DenialsAreKept, IsDenial, IsRuledOut, answering_function, asks_for_agents, is_for_agents}
 
 -- ---- who denies
 
@@ -273,25 +273,25 @@ just g (message.ServiceAdvert h a) = tt
 
 -- ---- the line
 
-in_parts : (a b c d e : List ℕ) → a ++ b ++ c ++ d ++ e ≡ a ++ (b ++ (c ++ (d ++ e)))
-in_parts a b c d e = simp append_assoc
+in_parts : (a b c d : List ℕ) → a ++ b ++ c ++ d ≡ a ++ (b ++ (c ++ d))
+in_parts a b c d = simp append_assoc
 
 denial_line : (rs : SiteRules) (a : Audit) → a.code ≢ OK
-    → (rest : List ℕ) × (audit_text rs a ≡ codes "# deny code=" ++ decimal a.code ++ codes " by=" ++ decider_text (rule_named rs a.because.decider) a.because.decider ++ rest)
+    → (rest : List ℕ) × (audit_text rs a ≡ codes "# deny code=" ++ decimal a.code ++ codes " by=" ++ decider_text (rule_named rs a.because.decider) a.because.decider ++ codes " action=" ++ rest)
 unfolding audit_text line_text
 denial_line rs a not_ok =
     let nonzero : (a.code == 0) ≡ false = grind (arith, nat_tests) in
     let who = decider_text (rule_named rs a.because.decider) a.because.decider in (
-      codes " action=" ++ (action_text a.action ++ (codes " asker=" ++ tail_text a)),
+      action_text a.action ++ (codes " asker=" ++ tail_text a),
       ap (λ b. cond b (codes "# allow code=") (codes "# deny code=") ++ decimal a.code ++ codes " by=" ++ who ++ codes " action=" ++ action_text a.action ++ codes " asker=" ++ tail_text a) nonzero
-          ∙ in_parts (codes "# deny code=" ++ decimal a.code ++ codes " by=" ++ who) (codes " action=") (action_text a.action) (codes " asker=") (tail_text a),
+          ∙ in_parts (codes "# deny code=" ++ decimal a.code ++ codes " by=" ++ who ++ codes " action=") (action_text a.action) (codes " asker=") (tail_text a),
     )
 
 -- ---- what comes of bytes
 
-module _ (rs : SiteRules) (asker : ℕ) (head : Heading) where
+module _ (rs : SiteRules) (c : Call) (head : Heading) where
   abbrev KeepsDenials : Outcome → Type 0
-  KeepsDenials r = (code : ℕ) (because : Because) → r.verdict ≡ Some (code, because) → code ≢ OK → IsDenial rs asker head r code because
+  KeepsDenials r = (code : ℕ) (because : Because) → r.verdict ≡ Some (code, because) → code ≢ OK → IsDenial rs c head r code because
 
   kept-silence : KeepsDenials silence
   kept-silence code because is not_ok = absurd (none-some _ is)
@@ -299,52 +299,52 @@ module _ (rs : SiteRules) (asker : ℕ) (head : Heading) where
   kept-ok : (reply : List ℕ) (because : Because) → KeepsDenials (outcome reply OK because)
   kept-ok reply because code other is not_ok = let same : (OK, because) ≡ (code, other) = same_Some (OK, because) (code, other) is in absurd (not_ok (sym (ap (λ (p : ℕ × Because). p.0) same)))
 
-  module _ (code : ℕ) (because : Because) (coded : code ≡ code_by because.decider) (accounted : IsAccounted rs asker head.function because) where
-    denied : (function : ℕ) → code ≢ OK → IsDenial rs asker head (code_outcome_as head code because function) code because
-    denied function not_ok = record {
+  module _ (code : ℕ) (because : Because) (coded : code ≡ code_by because.decider) (accounted : IsAccounted rs c.asker head.function because) where
+    denied : (function : ℕ) → answering_function c head ≡ Some function → code ≢ OK → IsDenial rs c head (code_outcome_as head code because function) code because
+    denied function by not_ok = record {
       coded = coded;
-      carried = (function, refl);
-      line = denial_line rs (audit_in asker head (code, because)) not_ok;
+      carried = (function, by, refl);
+      line = denial_line rs (audit_in c.asker head (code, because)) not_ok;
       by_rule = accounted.by_rule;
       by_default = accounted.by_default;
     }
 
-    kept-as : (function : ℕ) → KeepsDenials (code_outcome_as head code because function)
-    kept-as function c b is not_ok =
-        let same : (code, because) ≡ (c, b) = same_Some (code, because) (c, b) is in
-        subst (λ (p : ℕ × Because). p.0 ≢ OK → IsDenial rs asker head (code_outcome_as head code because function) p.0 p.1) same (denied function) not_ok
+    kept-as : (function : ℕ) → answering_function c head ≡ Some function → KeepsDenials (code_outcome_as head code because function)
+    kept-as function by other b is not_ok =
+        let same : (code, because) ≡ (other, b) = same_Some (code, because) (other, b) is in
+        subst (λ (p : ℕ × Because). p.0 ≢ OK → IsDenial rs c head (code_outcome_as head code because function) p.0 p.1) same (denied function by) not_ok
 
-    kept-by : (function : Option ℕ) → KeepsDenials (option_map_or (code_outcome_as head code because) function silence)
-    kept-by None = kept-silence
-    kept-by (Some f) = kept-as f
+    kept-by : (function : Option ℕ) → answering_function c head ≡ function → KeepsDenials (option_map_or (code_outcome_as head code because) function silence)
+    kept-by None by = kept-silence
+    kept-by (Some f) by = kept-as f by
 
-    kept-code : KeepsDenials (code_outcome head code because)
-    kept-code = kept-by (reply_function_of head.function)
+    kept-code : answering_function c head ≡ reply_function_of head.function → KeepsDenials (code_outcome head code because)
+    kept-code plain = kept-by (reply_function_of head.function) plain
 
   kept-ok_by : (because : Because) (function : Option ℕ) → KeepsDenials (option_map_or (code_outcome_as head OK because) function silence)
   kept-ok_by because None = kept-silence
   kept-ok_by because (Some f) = kept-ok (sent_of head OK false (refusal_bytes f OK head.xid head.language)) because
 
   -- a step that is not a rule
-  kept-step : (d : Decider) (kind : Option (List ℕ)) → IsStep d → KeepsDenials (code_outcome head (code_by d) (by_step d kind))
-  kept-step d kind step = kept-code (code_by d) (by_step d kind) refl (step_accounted rs asker head.function (by_step d kind) step)
+  kept-step : answering_function c head ≡ reply_function_of head.function → (d : Decider) (kind : Option (List ℕ)) → IsStep d → KeepsDenials (code_outcome head (code_by d) (by_step d kind))
+  kept-step plain d kind step = kept-code (code_by d) (by_step d kind) refl (step_accounted rs c.asker head.function (by_step d kind) step) plain
 
-  kept-fault : (e : WireFault) → KeepsDenials (fault_outcome head e)
-  kept-fault fault.Version = kept-step decider.Version None tt
-  kept-fault fault.Parse = kept-step decider.Parse None tt
-  kept-fault fault.Auth = kept-step decider.Auth None tt
-  kept-fault fault.Option = kept-step decider.Option None tt
-  kept-fault fault.NoHeader = kept-silence
-  kept-fault fault.Unknown = kept-silence
-  kept-fault fault.NoMemory = kept-silence
-  kept-fault fault.TooLong = kept-silence
+  kept-fault : answering_function c head ≡ reply_function_of head.function → (e : WireFault) → KeepsDenials (fault_outcome head e)
+  kept-fault plain fault.Version = kept-step plain decider.Version None tt
+  kept-fault plain fault.Parse = kept-step plain decider.Parse None tt
+  kept-fault plain fault.Auth = kept-step plain decider.Auth None tt
+  kept-fault plain fault.Option = kept-step plain decider.Option None tt
+  kept-fault plain fault.NoHeader = kept-silence
+  kept-fault plain fault.Unknown = kept-silence
+  kept-fault plain fault.NoMemory = kept-silence
+  kept-fault plain fault.TooLong = kept-silence
 
-  kept-agents : (site : Site) (own : ℕ) (kind : List ℕ) (scopes : Option (List (List ℕ))) → KeepsDenials (agents_outcome site own head kind scopes)
-  kept-agents site own kind None = kept-as (code_by decider.Parse) (by_step decider.Parse None) refl (step_accounted rs asker head.function (by_step decider.Parse None) tt) DIRECTORY_ADVERT
-  kept-agents site own kind (Some scopes) =
+  kept-agents : answering_function c head ≡ Some DIRECTORY_ADVERT → (site : Site) (own : ℕ) (kind : List ℕ) (scopes : Option (List (List ℕ))) → KeepsDenials (agents_outcome site own head kind scopes)
+  kept-agents advert site own kind None = kept-as (code_by decider.Parse) (by_step decider.Parse None) refl (step_accounted rs c.asker head.function (by_step decider.Parse None) tt) DIRECTORY_ADVERT advert
+  kept-agents advert site own kind (Some scopes) =
       elim (is_agent_for site scopes) as (λ b. KeepsDenials (cond b (advert_outcome site own head kind) (advert_code head (code_by decider.Scope) (by_step decider.Scope (Some kind))))) [
         | true ↦ kept-ok (sent_of head OK false (plain_bytes (advert_of site own head))) (by_step decider.Nobody (Some kind))
-        | false ↦ kept-as (code_by decider.Scope) (by_step decider.Scope (Some kind)) refl (step_accounted rs asker head.function (by_step decider.Scope (Some kind)) tt) DIRECTORY_ADVERT
+        | false ↦ kept-as (code_by decider.Scope) (by_step decider.Scope (Some kind)) refl (step_accounted rs c.asker head.function (by_step decider.Scope (Some kind)) tt) DIRECTORY_ADVERT advert
       ]
 
   kept-same : (r it : Outcome) → r ≡ it → KeepsDenials it → KeepsDenials r
@@ -353,68 +353,75 @@ module _ (rs : SiteRules) (asker : ℕ) (head : Heading) where
   kept-cut : {A : Type 0} (listed : List A → ℕ → Message) (limit : ℕ) (because : Because) (items : List A) (r : Outcome) → IsCutReply listed limit head because items r → KeepsDenials r
   kept-cut listed limit because items r is = kept-same r (outcome (sent_of head OK (length items == 0) is.whole) OK because) is.sent (kept-ok (sent_of head OK (length items == 0) is.whole) because)
 
-  kept-judged : (v : Judgement) → IsJust rs asker head.function v → KeepsDenials (acknowledgement_of head v)
-  kept-judged (Accepts event because) is = kept-ok_by because (reply_function_of head.function)
-  kept-judged Ignores is = kept-ok_by (by_step decider.Nobody None) (reply_function_of head.function)
-  kept-judged Waits is = kept-silence
-  kept-judged (Denies code because) is = kept-code code because is.0 is.1
+  kept-judged : answering_function c head ≡ reply_function_of head.function → (v : Judgement) → IsJust rs c.asker head.function v → KeepsDenials (acknowledgement_of head v)
+  kept-judged plain (Accepts event because) is = kept-ok_by because (reply_function_of head.function)
+  kept-judged plain Ignores is = kept-ok_by (by_step decider.Nobody None) (reply_function_of head.function)
+  kept-judged plain Waits is = kept-silence
+  kept-judged plain (Denies code because) is = kept-code code because is.0 is.1 plain
 
 module _ (o : Opening) (h : History) (c : Call) (head : Heading) where
   abbrev KeepsDenialsHere : Outcome → Type 0
-  KeepsDenialsHere = KeepsDenials (rules o.rules h) c.asker head
+  KeepsDenialsHere = KeepsDenials (rules o.rules h) c head
 
-  kept-change : (sent : Message) (r : Outcome) (change : Option Event) → function_of sent ≡ head.function → IsAnswerTo o h c (Changes head sent) r change → KeepsDenialsHere r
-  kept-change sent r change function is =
+  -- the reply's function is that of what was asked
+  abbrev IsPlain : Type 0
+  IsPlain = answering_function c head ≡ reply_function_of head.function
+
+  answering : (agents : Bool) → asks_for_agents c.own (reading c.bytes) ≡ agents → answering_function c head ≡ cond agents (Some DIRECTORY_ADVERT) (reply_function_of head.function)
+  answering agents is = ap (λ (b : Bool). cond b (Some DIRECTORY_ADVERT) (reply_function_of head.function)) is
+
+  kept-change : IsPlain → (sent : Message) (r : Outcome) (change : Option Event) → function_of sent ≡ head.function → IsAnswerTo o h c (Changes head sent) r change → KeepsDenialsHere r
+  kept-change plain sent r change function is =
       let v = is.1 in
       let g = grounds (standpoint_of o h c) v.live in
       let here : IsJust g.rules g.asker head.function is.0 = subst (IsJust g.rules g.asker head.function) (sym v.is) (subst (λ f. IsJust g.rules g.asker f (judgement g sent)) function (just g sent)) in
-      kept-same (rules o.rules h) c.asker head r (acknowledgement_of head is.0) is.2 (kept-judged (rules o.rules h) c.asker head is.0 here)
+      kept-same (rules o.rules h) c head r (acknowledgement_of head is.0) is.2 (kept-judged (rules o.rules h) c head plain is.0 here)
 
-  kept-within : (scopes : List (List ℕ)) (kind : Option (List ℕ)) (sense : Sense) (r : Outcome) (change : Option Event) → (IsAnswerTo o h c sense r change → KeepsDenialsHere r)
+  kept-within : IsPlain → (scopes : List (List ℕ)) (kind : Option (List ℕ)) (sense : Sense) (r : Outcome) (change : Option Event) → (IsAnswerTo o h c sense r change → KeepsDenialsHere r)
       → IsAnswerTo o h c (sense_within o.site head scopes kind sense) r change → KeepsDenialsHere r
-  kept-within scopes kind sense r change kept =
+  kept-within plain scopes kind sense r change kept =
       elim (list_any (supports o.site) scopes) as (λ b. IsAnswerTo o h c (cond b sense (Settled (code_outcome head (code_by decider.Scope) (by_step decider.Scope kind)))) r change → KeepsDenialsHere r) [
         | true ↦ kept
-        | false ↦ λ is. kept-same (rules o.rules h) c.asker head r (code_outcome head (code_by decider.Scope) (by_step decider.Scope kind)) is.0 (kept-step (rules o.rules h) c.asker head decider.Scope kind tt)
+        | false ↦ λ is. kept-same (rules o.rules h) c head r (code_outcome head (code_by decider.Scope) (by_step decider.Scope kind)) is.0 (kept-step (rules o.rules h) c head plain decider.Scope kind tt)
       ]
 
-  kept-language : (kind : Option (List ℕ)) (r : Outcome) → r ≡ language_outcome head kind → KeepsDenialsHere r
-  kept-language kind r is = kept-same (rules o.rules h) c.asker head r (language_outcome head kind) is (kept-step (rules o.rules h) c.asker head decider.Language kind tt)
+  kept-language : IsPlain → (kind : Option (List ℕ)) (r : Outcome) → r ≡ language_outcome head kind → KeepsDenialsHere r
+  kept-language plain kind r is = kept-same (rules o.rules h) c head r (language_outcome head kind) is (kept-step (rules o.rules h) c head plain decider.Language kind tt)
 
-  kept-question : (asked : Question) (r : Outcome) (change : Option Event) → IsAnswerTo o h c (sense_of_question o.site c.own head asked) r change → KeepsDenialsHere r
-  kept-question question.Silent r change = λ is. kept-same (rules o.rules h) c.asker head r silence is.0 (kept-silence (rules o.rules h) c.asker head)
-  kept-question question.Unreadable r change = λ is. kept-same (rules o.rules h) c.asker head r (denial_outcome head decider.Parse) is.0 (kept-step (rules o.rules h) c.asker head decider.Parse None tt)
-  kept-question (question.Services q) r change = kept-within q.scopes (Some q.kind) (Lists head q) r change (λ is. elim is.0 [
-    | inl none ↦ kept-language (Some q.kind) r none.1
-    | inr some ↦ kept-cut (rules o.rules h) c.asker head (services_with head) c.limit (by_step decider.Nobody (Some q.kind)) some.1.items r some.1.reply
+  kept-question : (asked : Question) (r : Outcome) (change : Option Event) → asks_for_agents c.own (reading c.bytes) ≡ is_for_agents asked → IsAnswerTo o h c (sense_of_question o.site c.own head asked) r change → KeepsDenialsHere r
+  kept-question question.Silent r change asks = λ is. kept-same (rules o.rules h) c head r silence is.0 (kept-silence (rules o.rules h) c head)
+  kept-question question.Unreadable r change asks = λ is. kept-same (rules o.rules h) c head r (denial_outcome head decider.Parse) is.0 (kept-step (rules o.rules h) c head (answering false asks) decider.Parse None tt)
+  kept-question (question.Services q) r change asks = kept-within (answering false asks) q.scopes (Some q.kind) (Lists head q) r change (λ is. elim is.0 [
+    | inl none ↦ kept-language (answering false asks) (Some q.kind) r none.1
+    | inr some ↦ kept-cut (rules o.rules h) c head (services_with head) c.limit (by_step decider.Nobody (Some q.kind)) some.1.items r some.1.reply
   ])
-  kept-question (question.Attributes q) r change = kept-within q.scopes (kind_asked q.target) (Describes head q) r change (λ is. elim is.0 [
-    | inl none ↦ kept-language (kind_asked q.target) r none.1
-    | inr some ↦ kept-cut (rules o.rules h) c.asker head (attributes_with head) c.limit (by_step decider.Nobody (kind_asked q.target)) (attribute_texts some.1.attributes) r some.1.reply
+  kept-question (question.Attributes q) r change asks = kept-within (answering false asks) q.scopes (kind_asked q.target) (Describes head q) r change (λ is. elim is.0 [
+    | inl none ↦ kept-language (answering false asks) (kind_asked q.target) r none.1
+    | inr some ↦ kept-cut (rules o.rules h) c head (attributes_with head) c.limit (by_step decider.Nobody (kind_asked q.target)) (attribute_texts some.1.attributes) r some.1.reply
   ])
-  kept-question (question.Types q) r change = kept-within q.scopes None (Names head q) r change
-      (λ is. let some = is.0 in kept-cut (rules o.rules h) c.asker head (types_with head) c.limit (by_step decider.Nobody None) some.types r some.reply)
-  kept-question (question.Agents q) r change = λ is. kept-same (rules o.rules h) c.asker head r (agents_outcome o.site c.own head q.kind q.scopes) is.0 (kept-agents (rules o.rules h) c.asker head o.site c.own q.kind q.scopes)
+  kept-question (question.Types q) r change asks = kept-within (answering false asks) q.scopes None (Names head q) r change
+      (λ is. let some = is.0 in kept-cut (rules o.rules h) c head (types_with head) c.limit (by_step decider.Nobody None) some.types r some.reply)
+  kept-question (question.Agents q) r change asks = λ is. kept-same (rules o.rules h) c head r (agents_outcome o.site c.own head q.kind q.scopes) is.0 (kept-agents (rules o.rules h) c head (answering true asks) o.site c.own q.kind q.scopes)
 
   kept-settled : (r : Outcome) (change : Option Event) → IsAnswerTo o h c (Settled silence) r change → KeepsDenialsHere r
-  kept-settled r change is = kept-same (rules o.rules h) c.asker head r silence is.0 (kept-silence (rules o.rules h) c.asker head)
+  kept-settled r change is = kept-same (rules o.rules h) c head r silence is.0 (kept-silence (rules o.rules h) c head)
 
-  kept-message : (sent : Message) (r : Outcome) (change : Option Event) → function_of sent ≡ head.function → IsAnswerTo o h c (sense_of_message o.site c.own head sent) r change → KeepsDenialsHere r
-  kept-message (message.Registration k x) r change function is = kept-change (message.Registration k x) r change function is
-  kept-message (message.Withdrawal k x) r change function is = kept-change (message.Withdrawal k x) r change function is
-  kept-message (message.ServiceRequest k q) r change function is = kept-question (question_of c.own (message.ServiceRequest k q)) r change is
-  kept-message (message.AttributeRequest k q) r change function is = kept-question (question_of c.own (message.AttributeRequest k q)) r change is
-  kept-message (message.TypeRequest k q) r change function is = kept-question (question_of c.own (message.TypeRequest k q)) r change is
-  kept-message (message.ServiceReply k x) r change function is = kept-settled r change is
-  kept-message (message.Acknowledgement k code) r change function is = kept-settled r change is
-  kept-message (message.AttributeReply k x) r change function is = kept-settled r change is
-  kept-message (message.DirectoryAdvert k a) r change function is = kept-settled r change is
-  kept-message (message.TypeReply k x) r change function is = kept-settled r change is
-  kept-message (message.ServiceAdvert k a) r change function is = kept-settled r change is
+  kept-message : (sent : Message) (r : Outcome) (change : Option Event) → asks_for_agents c.own (reading c.bytes) ≡ is_for_agents (question_of c.own sent) → function_of sent ≡ head.function → IsAnswerTo o h c (sense_of_message o.site c.own head sent) r change → KeepsDenialsHere r
+  kept-message (message.Registration k x) r change asks function is = kept-change (answering false asks) (message.Registration k x) r change function is
+  kept-message (message.Withdrawal k x) r change asks function is = kept-change (answering false asks) (message.Withdrawal k x) r change function is
+  kept-message (message.ServiceRequest k q) r change asks function is = kept-question (question_of c.own (message.ServiceRequest k q)) r change asks is
+  kept-message (message.AttributeRequest k q) r change asks function is = kept-question (question_of c.own (message.AttributeRequest k q)) r change asks is
+  kept-message (message.TypeRequest k q) r change asks function is = kept-question (question_of c.own (message.TypeRequest k q)) r change asks is
+  kept-message (message.ServiceReply k x) r change asks function is = kept-settled r change is
+  kept-message (message.Acknowledgement k code) r change asks function is = kept-settled r change is
+  kept-message (message.AttributeReply k x) r change asks function is = kept-settled r change is
+  kept-message (message.DirectoryAdvert k a) r change asks function is = kept-settled r change is
+  kept-message (message.TypeReply k x) r change asks function is = kept-settled r change is
+  kept-message (message.ServiceAdvert k a) r change asks function is = kept-settled r change is
 
   kept-reading : (read : Result Message WireFault) (r : Outcome) (change : Option Event) → heading_of c.bytes ≡ Some head → reading c.bytes ≡ read → IsAnswerTo o h c (sense_of_reading o.site c.own head read) r change → KeepsDenialsHere r
-  kept-reading (Ok sent) r change headed read is = kept-message sent r change (message_function c.bytes head sent headed read) is
-  kept-reading (Err e) r change headed read is = kept-same (rules o.rules h) c.asker head r (fault_outcome head e) is.0 (kept-fault (rules o.rules h) c.asker head e)
+  kept-reading (Ok sent) r change headed read is = kept-message sent r change (ap (asks_for_agents c.own) read) (message_function c.bytes head sent headed read) is
+  kept-reading (Err e) r change headed read is = kept-same (rules o.rules h) c head r (fault_outcome head e) is.0 (kept-fault (rules o.rules h) c head (answering false (ap (asks_for_agents c.own) read)) e)
 
 module _ (o : Opening) (h : History) (c : Call) where
   kept-under : (heading : Option Heading) (r : Outcome) (change : Option Event) → heading_of c.bytes ≡ heading → IsAnswerTo o h c (sense_under o.site c.own heading (reading c.bytes)) r change → DenialsAreKept (rules o.rules h) c r

@@ -1,21 +1,20 @@
 -- What is kept from others is in nothing that they see.
-use Rattle.std.proofs.Common.{◌≡◌, ◌≢◌, ℕ, Bool, true, false, cond, not, List, [], ◌∷◌, ◌++◌, map, Option, Some, None, refl, sym, ap, ap₂, subst, ◌∙◌}
+use Rattle.std.proofs.Common.{◌≡◌, ◌≢◌, ℕ, Bool, true, false, cond, not, List, [], ◌∷◌, map, Option, Some, None, refl, sym, ap, ap₂, ◌∙◌}
 use Rattle.std.specs.Prelude.{◌==◌, ◌&&◌, ◌||◌, filter, flat_map, Contains}
 use Rattle.std.specs.FinMap as fin
 use Rattle.std.specs.List.{list_any}
 use Rattle.std.proofs.lemmas.Bool.{eqb-true}
 use Rattle.std.proofs.lemmas.List.Folds.{list_any-append}
-use Rattle.slp_text.proofs.KeySets.{bytes_same, member_cases}
+use Rattle.slp_text.proofs.KeySets.{bytes_same}
 use Rattle.slp_text.specs.Tags.{Part, selects}
 use Rattle.slp_text.specs.Words.{bytes_eq}
 use Rattle.attr_list.specs.Elements.{Element}
-use Rattle.attr_list.specs.Lists.{Attributes, attributes_of, distinct_values, held_of, values_named}
-use Rattle.attr_list.specs.Maps.{elements_in, joined_attributes, kept_attributes, selected_attributes}
+use Rattle.attr_list.specs.Lists.{Attributes, distinct_values, held_of, values_named}
+use Rattle.attr_list.specs.Maps.{elements_in, joined_attributes, selected_attributes}
 use Rattle.attr_list.specs.declared.held.Held.{Held}
 use Rattle.attr_list.proofs.Gathered.{get-attributes_of}
 use Rattle.attr_list.proofs.KeptAttributes.{elements-kept, get-kept, kept-twice}
-use Rattle.access_rules.specs.Deciding.{Deed, SiteRules, allows_kind, allows_scope, deed, hides_in, holds, is_hidden, is_hiding, is_own}
-use Rattle.access_rules.specs.declared.hide.Hide.{Hide}
+use Rattle.access_rules.specs.Deciding.{Deed, SiteRules, allows_kind, allows_scope, deed, hides_in, is_hidden, is_hiding}
 use Rattle.access_rules.specs.declared.rule.Action.TheVariants.{See}
 use Rattle.registry_core.specs.declared.entry.Entry.{Entry}
 use Rattle.directory_judge.specs.Meaning.{rules}
@@ -26,7 +25,7 @@ use Rattle.directory_questions.specs.declared.query.AttrQuery.{AttrQuery}
 use Rattle.directory_state.proofs.OpenEntries.{some-list_any}
 use Rattle.directory_state.proofs.SeenUrls.{here, there, no_other}
 use Rattle.directory_state.proofs.ShownEntries.{kept-same}
-use Rattle.directory_runs.specs.Hiding.{without_tag, IsForOthers, IsKeptBack}
+use Rattle.directory_runs.specs.Hiding.{without_tag, IsKeptBack}
 
 -- ---- tests
 

@@ -3,6 +3,12 @@ pub mod Denials
 pub mod Fitting
 pub mod Hiding
 pub mod Kept
+pub mod Merging
 pub mod Owners
 pub mod Promises
+pub mod RunRows
+pub mod SightRows
+pub mod Standing
+pub mod Totals
+pub mod Turns
 pub mod WholeReplies

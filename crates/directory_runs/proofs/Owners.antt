@@ -12,12 +12,11 @@ use Rattle.slp_messages.specs.declared.header.Header.{Header}
 use Rattle.slp_messages.specs.declared.message.Message.{Message}
 use Rattle.slp_messages.specs.declared.message.Message.TheVariants as message
 use Rattle.slp_messages.specs.declared.message.Registration.{Registration}
-use Rattle.slp_messages.specs.declared.message.Withdrawal.{Withdrawal}
-use Rattle.access_rules.specs.Deciding.{SiteRules, deciding, deed, is_own, is_owners, is_without_owners, rules_in}
+use Rattle.access_rules.specs.Deciding.{SiteRules, deciding, deed, is_owners, is_without_owners, rules_in}
 use Rattle.access_rules.specs.declared.rule.Action.{Action}
 use Rattle.access_rules.specs.declared.rule.Action.TheVariants as action
 use Rattle.access_rules.proofs.Owners.{owners-alone, whoever-registered}
-use Rattle.registry_core.specs.Entries.{Entries, Pair, pair_cmp, pair_eq, pair_of, is_registered}
+use Rattle.registry_core.specs.Entries.{Entries, Pair, pair_cmp, pair_of, is_registered}
 use Rattle.registry_core.specs.declared.entry.Entry.{Entry}
 use Rattle.registry_core.proofs.Lists.{pair_eq-true}
 use Rattle.directory_judge.specs.History.{Act, Putting, Setting, Put, Set, Remove, Withdraw, Sweep, Reload, Event, History, last_that}
@@ -27,11 +26,12 @@ use Rattle.directory_judge.specs.declared.particulars.Particulars.{Particulars}
 use Rattle.directory_state.proofs.OpenEntries.{Contains-filter}
 use Rattle.directory_questions.specs.Calls.{Opening, Standpoint}
 use Rattle.directory_questions.specs.Items.{IsOpenNow}
-use Rattle.directory_questions.specs.Verdicts.{grounds}
-use Rattle.directory_runs.specs.Allowing.{IsAllowed, IsAllowedOn, IsReleased, IsRuledIn, MayFollow, RegistrationIsAllowed, TagsAreReleased, UrlIsReleased, WithdrawalIsAllowed}
+use Rattle.directory_questions.specs.Verdicts.{IsLegal, grounds}
+use Rattle.directory_runs.specs.Allowing.{IsAllowed, IsAllowedOn, IsReleased, IsRuledIn, MayFollow, RegistrationIsAllowed, TagsAreReleased, UrlIsReleased}
+use Rattle.directory_runs.proofs.Standing.{first_of_scopes, has_scopes}
 use Rattle.directory_runs.specs.Owners.{action_of_act, changes, BringsNoOwners, IsForOwners, IsWithoutOwners}
 
-false-true : {A : Type 0} (b : Bool) → b ≡ false → b ≡ true → A
+pub false-true : {A : Type 0} (b : Bool) → b ≡ false → b ≡ true → A
 false-true true f t = absurd cc
 false-true false f t = absurd cc
 
@@ -104,10 +104,11 @@ module _ (g : Grounds) (e : Entry) (scope : List ℕ) (stands : fin.get g.live (
   own-change (message.TypeReply h r) event may = absurd may
   own-change (message.ServiceAdvert h a) event may = absurd may
 
-pub not-changed : (from : Standpoint) (sent : Message) (event : Event) (e : Entry) (scope : List ℕ) → IsAllowed from sent event → Live from.history from.moment e → Contains e.scopes scope
+pub not-changed : (from : Standpoint) (sent : Message) (event : Event) (e : Entry) → IsLegal from.opening from.history → IsAllowed from sent event → Live from.history from.moment e
     → changes event.act e ≡ true → IsForOwners from (action_of_act event.act) → from.asker ≡ e.owner
-not-changed from sent event e scope may live has it owners =
-    own-change (grounds from may.live) e scope ((may.are_live (pair_of e) e).1 (refl, live)) has sent event may.allowed it owners
+not-changed from sent event e legal may live it owners =
+    let s = first_of_scopes e.scopes (has_scopes from.opening from.history e legal live.stands) in
+    own-change (grounds from may.live) e s.0 ((may.are_live (pair_of e) e).1 (refl, live)) s.1 sent event may.allowed it owners
 
 pub not-seen : (from : Standpoint) (asked : List (List ℕ)) (e : Entry) → IsForOwners from action.See → IsOpenNow from asked e → from.asker ≡ e.owner
 not-seen from asked e owners opened =

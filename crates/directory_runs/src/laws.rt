@@ -1,5 +1,5 @@
 //! What holds of every run. The functions do nothing: their contracts are the laws.
-ghost use Rattle.std.specs.Prelude.{◌≡◌, ◌≢◌, ◌↔◌, ◌<◌, ◌≤◌, ◌^◌, ◌∷◌, ◌++◌, ℕ, true, List, None, Option, Contains, length};
+ghost use Rattle.std.specs.Prelude.{◌≡◌, ◌≢◌, ◌↔◌, ◌<◌, ◌≤◌, ◌^◌, ◌∷◌, ◌++◌, ℕ, true, false, List, None, Option, Contains, length};
 ghost use Rattle.std.specs.FinMap as fin;
 ghost use Rattle.attr_list.specs.Lists.{Attributes};
 ghost use Rattle.access_rules.specs.Deciding.{SiteRules, deciding, deed};
@@ -8,10 +8,10 @@ ghost use Rattle.access_rules.specs.declared.rule.Action.TheVariants.{See};
 ghost use Rattle.registry_core.specs.declared.entry.Entry.{Entry as AnyEntry};
 ghost use Rattle.slp_messages.specs.declared.message.Message.{Message};
 ghost use Rattle.directory_judge.specs.History.{Event, History, clock};
-ghost use Rattle.directory_judge.specs.Meaning.{Live, rules};
+ghost use Rattle.directory_judge.specs.Meaning.{Live, Stands, rules};
 ghost use Rattle.directory_judge.specs.Sites.{IsSite};
-ghost use Rattle.directory_questions.specs.Answers.{IsAnswer, IsOpenTo};
-ghost use Rattle.directory_questions.specs.Calls.{Opening, Call, Standpoint};
+ghost use Rattle.directory_questions.specs.Answers.{is_change_of, IsAnswer, IsOpenTo};
+ghost use Rattle.directory_questions.specs.Calls.{Opening, Call, AreBytes, Standpoint};
 ghost use Rattle.directory_questions.specs.Items.{AreAttributesOf, IsDescribed, IsOpenNow};
 ghost use Rattle.directory_questions.specs.Sights.{seen_entry};
 ghost use Rattle.directory_questions.specs.declared.query.AttrQuery.{AttrQuery};
@@ -22,7 +22,12 @@ ghost use Rattle.directory_runs.specs.Allowing.{IsAllowed};
 ghost use Rattle.directory_runs.specs.Hiding.{without_tag, IsKeptBack};
 ghost use Rattle.directory_runs.specs.Owners.{action_of_act, changes, IsForOwners, IsWithoutOwners};
 ghost use Rattle.directory_runs.specs.Promises.{IsKeptThroughout};
-ghost use Rattle.directory_runs.specs.Runs.{Learn, Reply, Run, IsRun, world};
+ghost use Rattle.directory_runs.specs.Changes.{IsChanged};
+ghost use Rattle.directory_runs.specs.Runs.{Entry, Learn, May, Publish, Reply, Run, IsRun, World, happened, world};
+ghost use Rattle.directory_runs.specs.Turns.{AreDone, AreTurns, Deed, IsRunOf, Turn, last_turn};
+ghost use Rattle.slp_answer.specs.Answers.{Replies, Tells};
+ghost use Rattle.slp_answer.specs.declared.answer.Sent.{Sent};
+ghost use Rattle.slp_headers.specs.Headers.{heading_of};
 
 /// What users are promised, over every interleaving of changes, sweeps, reloads and questions. A loop answers at one
 /// published state, which begins with all that the loop had seen and was told; a reply of code 0 without the flag holds exactly
@@ -77,10 +82,15 @@ pub fn replies_fit()
         → IsAnswer o h c r change → length r.reply ≤ c.limit }
 {}
 
+/// Whatever stands in a legal history has a scope, so that a rule decides who may change and see it.
+pub fn what_stands_has_a_scope()
+    ensures { (o : Opening) (h : History) (e : AnyEntry) → IsLegal o h → Stands h e → 0 < length e.scopes }
+{}
+
 /// Where each rule about registering is about owners alone, what another registered is never replaced or updated; where each rule
 /// about withdrawing is, it is never withdrawn, nor a tag of it.
 pub fn what_another_registered_is_not_changed()
-    ensures { (from : Standpoint) (sent : Message) (event : Event) (e : AnyEntry) (scope : List ℕ) → IsAllowed from sent event → Live from.history from.moment e → Contains e.scopes scope
+    ensures { (from : Standpoint) (sent : Message) (event : Event) (e : AnyEntry) → IsLegal from.opening from.history → IsAllowed from sent event → Live from.history from.moment e
         → changes event.act e ≡ true → IsForOwners from (action_of_act event.act) → from.asker ≡ e.owner }
 {}
 
@@ -105,4 +115,30 @@ pub fn what_is_kept_from_others_is_not_seen()
 pub fn the_first_version_asks_for_no_registrant()
     ensures { (o : Opening) (h : History) (asker : ℕ) (action : Action) (kind : List ℕ) (one other : ℕ) (scope : List ℕ) → IsWithoutOwners o h
         → deciding (rules o.rules h) (deed asker action kind one) scope ≡ deciding (rules o.rules h) (deed asker action kind other) scope }
+{}
+
+/// What a loop tells of bytes that ask for no change, at a history, may happen in every world that has this history published.
+pub fn what_is_replied_may_happen()
+    ensures { (o : Opening) (w : World) (loop : ℕ) (h : History) (c : Call) (what : Sent) (reply line : List ℕ) → AreBytes c.bytes → is_change_of c.bytes ≡ false → w.published ≡ h
+        → Replies o h c what reply line → (r : Outcome) × May o w (Entry loop c r) × Tells (rules o.rules h) c.asker (heading_of c.bytes) r what reply line }
+{}
+
+/// What a writer answers to bytes that ask for a change may happen there, too, and publishes the history that it leaves.
+pub fn what_is_changed_may_happen()
+    ensures { (o : Opening) (w : World) (h : History) (c : Call) (what : Sent) (reply line : List ℕ) (after : History) → AreBytes c.bytes → is_change_of c.bytes ≡ true → w.published ≡ h
+        → IsChanged o h c.moment c.asker c.bytes what reply line after
+        → (r : Outcome) × (change : Option Event) × May o w (Publish c r change) × ((happened w (Publish c r change)).published ≡ after) × Tells (rules o.rules h) c.asker (heading_of c.bytes) r what reply line }
+{}
+
+/// What loops told and what a writer did is one run, and keeps what users are promised: the calls of each loop in their order, at
+/// histories that go on from one another, and the calls of the writer in theirs, each at the history that the one before left. All
+/// that loops saw are pasts of what is published at the end.
+pub fn what_was_told_is_a_run()
+    ensures { (o : Opening) (deeds : List Deed) (h : History) (number : ℕ) (loops : ℕ → List Turn) → AreDone o deeds h
+        → ((i : ℕ) → i < number → AreTurns o (loops i) × IsPast (last_turn (loops i)) h) → (run : Run) × IsRunOf o deeds number loops h run }
+{}
+
+/// At each legal history there is what is to be told of each call that leaves room for a datagram, so that a run can go on with it.
+pub fn something_is_told()
+    ensures { (o : Opening) (h : History) (c : Call) → IsLegal o h → 1400 ≤ c.limit → (r : Outcome) × (change : Option Event) × IsAnswer o h c r change }
 {}
