@@ -1,10 +1,11 @@
 -- The event that is picked for a change is the one that its bytes ask for.
-use Rattle.std.proofs.Common.{◌≡◌, ℕ, List, ◌∷◌, Option, Some, None, sym, ap, ◌∙◌, subst}
+use Rattle.std.proofs.Common.{◌≡◌, ℕ, true, List, ◌∷◌, Option, Some, None, refl, sym, ap, ◌∙◌, subst}
 use Rattle.std.specs.Prelude.{unwrap_or}
 use Rattle.directory_judge.specs.Contents.{content}
 use Rattle.directory_judge.specs.History.{Event, History}
 use Rattle.directory_judge.specs.declared.change.Change.{Change}
-use Rattle.directory_questions.specs.Calls.{Opening}
+use Rattle.directory_questions.specs.Answers.{is_change_of, IsAnswer}
+use Rattle.directory_questions.specs.Calls.{Opening, AreBytes}
 use Rattle.directory_questions.specs.Verdicts.{IsLegal, history_with}
 use Rattle.directory_state.specs.Events.{call_anywhere}
 use Rattle.directory_state.specs.Folds.{StandsFor}
@@ -13,7 +14,10 @@ use Rattle.directory_state.proofs.AskedEvents.{event_is_asked}
 use Rattle.directory_state.proofs.LegalHistories.{Fold-events}
 use Rattle.slp_answer.specs.Answers.{Acknowledges}
 use Rattle.slp_answer.specs.declared.answer.Sent.{Sent}
-use Rattle.published_view.specs.Changes.{IsChanged, event_or_sweep, sweep_at}
+use Rattle.directory_runs.specs.Changes.{IsChanged, sweep_at}
+use Rattle.directory_runs.specs.Runs.{Publish}
+use Rattle.published_view.specs.Changes.{event_or_sweep}
+use Rattle.published_view.specs.Traces.{IsWritten}
 
 module _ {o : Opening} {h : History} {m asker : ℕ} {bytes : List ℕ} {what : Sent} {change : Option Change} {reply line : List ℕ} (told : Acknowledges o h m asker bytes what change reply line) where
   module _ (legal : IsLegal o h) (c : Change) (is : change ≡ Some c) where
@@ -29,6 +33,16 @@ module _ {o : Opening} {h : History} {m asker : ℕ} {bytes : List ℕ} {what : 
     handed_out = (
       subst (λ (e : Event). IsLegal o (e ∷ h)) (sym it_is) made.handed.3,
       subst (λ (e : Event). StandsFor h (content c) e) (sym it_is) made.handed.2,
+    )
+
+    pub written_out : AreBytes bytes → is_change_of bytes ≡ true → IsWritten o (Some (call_anywhere m asker bytes)) h (event_or_sweep o h m asker bytes ∷ h)
+    written_out are asks = (
+      Publish (call_anywhere m asker bytes) made.outcome made.event,
+      (made.outcome, made.event, refl),
+      λ w at. (
+        (are, asks, subst (λ (x : History). IsAnswer o x (call_anywhere m asker bytes) made.outcome made.event) (sym at) (made.is 0 0)),
+        ap (history_with made.event) at ∙ (ap (λ (x : Option Event). history_with x h) made.handed.1 ∙ ap (λ (e : Event). e ∷ h) (sym it_is)),
+      ),
     )
 
     pub changed_so : (after : History) → after ≡ event_or_sweep o h m asker bytes ∷ h → IsChanged o h m asker bytes what reply line after

@@ -1,5 +1,5 @@
 -- What a writer's own directory tells at the history that it published.
-use Rattle.std.proofs.Common.{◌≡◌, ℕ, max, List, ◌∷◌, Option, ap, ◌∙◌, subst, arith}
+use Rattle.std.proofs.Common.{◌≡◌, ℕ, max, List, ◌∷◌, Option, None, inl, inr, refl, sym, ap, ◌∙◌, subst, arith}
 use Rattle.logbook.specs.Pages.{Book}
 use Rattle.access_rules.specs.Deciding.{SiteRules}
 use Rattle.directory_judge.specs.History.{History, now}
@@ -10,8 +10,11 @@ use Rattle.directory_state.specs.Folds.{Fold}
 use Rattle.slp_answer.specs.Answers.{Acknowledges}
 use Rattle.slp_answer.specs.declared.answer.Sent.{Sent}
 use Rattle.published_view.specs.declared.copies.PublishedCopy.{PublishedCopy}
-use Rattle.published_view.specs.Changes.{Writing, reload_at, sweep_at}
+use Rattle.directory_runs.specs.Changes.{reload_at, sweep_at}
+use Rattle.directory_runs.specs.Runs.{Sweep, Reload}
+use Rattle.published_view.specs.Changes.{Writing}
 use Rattle.published_view.specs.Rules.{IsAfter, history_of}
+use Rattle.published_view.specs.Traces.{IsWritten}
 use Rattle.published_view.proofs.Turns.{folded}
 
 -- the history that a writer is known by
@@ -41,3 +44,10 @@ module _ {book : Book} {o : Opening} (own : PublishedCopy) (h : History) (is : I
 
     pub reload_is_legal : (rs : SiteRules) → IsLegal o (reload_at n rs ∷ h)
     reload_is_legal rs = (omega (arith, acts_at), tt, legal_at)
+
+    -- and is written
+    pub sweep_is_written : IsWritten o None h (sweep_at n ∷ h)
+    sweep_is_written = (Sweep m, inl (m, refl), λ w at. (tt, ap (λ (x : History). sweep_at (now x m) ∷ x) at ∙ ap (λ (k : ℕ). sweep_at k ∷ h) (sym acts_at)))
+
+    pub reload_is_written : (rs : SiteRules) → IsWritten o None h (reload_at n rs ∷ h)
+    reload_is_written rs = (Reload m rs, inr (m, rs, refl), λ w at. (tt, ap (λ (x : History). reload_at (now x m) rs ∷ x) at ∙ ap (λ (k : ℕ). reload_at k rs ∷ h) (sym acts_at)))

@@ -1,16 +1,14 @@
 -- The rule of the published directory, and what its steps tell.
-use Rattle.std.specs.Prelude.{ℕ, ◌≡◌, List, ◌∷◌}
-use mathlib.Core.Option.{some}
-use lib.ListN.{get_elem?}
+use Rattle.std.specs.Prelude.{◌≡◌, List, ◌∷◌, Option}
 use Rattle.logbook.specs.Pages.{Book}
 use Rattle.directory_judge.specs.Contents.{content}
 use Rattle.directory_judge.specs.History.{Event, History}
-use Rattle.directory_questions.specs.Calls.{Opening}
+use Rattle.directory_questions.specs.Calls.{Opening, Call}
 use Rattle.directory_questions.specs.Verdicts.{IsLegal}
-use Rattle.history_log.specs.Pasts.{IsPast}
 use Rattle.directory_state.specs.Folds.{StandsFor}
 use Rattle.directory_state.specs.State.{state_after}
 use Rattle.history_log.specs.Events.{history_in}
+use Rattle.published_view.specs.Traces.{Trace, Wrote, last_at, HaveRuns, IsAsked, IsWritten}
 use Rattle.published_view.specs.declared.copies.PublishedCopy.{PublishedCopy}
 use Rattle.published_view.specs.declared.copies.Step.{Step}
 
@@ -25,20 +23,26 @@ pub record IsAfter (book : Book) (o : Opening) (k : PublishedCopy) : Type 0 wher
   pub left : k.directory ≡ state_after o (history_of k)
 
 -- the step makes one event more, and its change stands for it
-pub record NextOf (book : Book) (o : Opening) (h : History) (s : Step) : Type 0 where
+pub record NextOf (book : Book) (o : Opening) (call : Option Call) (h : History) (s : Step) : Type 0 where
   pub event : Event
   pub longer : history_in s.trail.seen.log ≡ event ∷ h
   pub book_is : s.trail.seen.book ≡ book
   pub legal : IsLegal o (event ∷ h)
+  pub written : IsWritten o call h (event ∷ h)
   pub stands : StandsFor h (content s.change) event
 
--- the history goes on from what each thread has seen
-abbrev pub ArePasts : History → List History → Type 0
-ArePasts h views = (seat : ℕ) (v : History) → get_elem? views seat ≡ some v → IsPast v h
+-- The directory stands for a legal history, and all that threads did is one run that published this history.
+abbrev pub IsPublished : Book → Opening → PublishedCopy → List Trace → Type 0
+IsPublished book o k traces = IsAfter book o k × HaveRuns o (history_of k) traces
 
-abbrev pub IsPublished : Book → Opening → PublishedCopy → List History → Type 0
-IsPublished book o k views = IsAfter book o k × ArePasts (history_of k) views
+-- the history of y was seen, and a call asked at it, or none
+abbrev pub SeesAll : Book → Opening → Option Call → Trace → PublishedCopy → PublishedCopy → Trace → Type 0
+SeesAll book o call v x y w = IsAsked o v call w × (last_at w ≡ history_of y) × IsAfter book o y
 
--- what is seen afterwards is the history of y, and that of x went on from what was seen
-abbrev pub SeesAll : Book → Opening → History → PublishedCopy → PublishedCopy → History → Type 0
-SeesAll book o v x y w = IsPast v (history_of x) × (w ≡ history_of y) × IsAfter book o y
+-- y is shown, and nothing is written
+abbrev pub Shows : Book → Opening → Trace → PublishedCopy → PublishedCopy → Trace → Type 0
+Shows book o v x y w = (w ≡ v) × IsAfter book o y
+
+-- the history of y was left, for a call or none
+abbrev pub Leaves : Book → Opening → Option Call → Trace → PublishedCopy → PublishedCopy → Trace → Type 0
+Leaves book o call v x y w = (w ≡ Wrote (history_of y) call ∷ v) × IsAfter book o y

@@ -2,8 +2,9 @@
 //! view for each loop.
 ghost use Rattle.std.specs.Prelude.{◌≡◌, ◌⊎◌, ◌<◌, ◌≤◌, [], drop, All, vec_len, IfSome, IsOk, IfOk, IfErr};
 ghost use Rattle.std.specs.Arc.{arc_value};
+ghost use Rattle.left_right.specs.Sides.{view};
 ghost use Rattle.directory_state.specs.State.{opening_state};
-ghost use Rattle.published_view.specs.Changes.{at_history};
+ghost use Rattle.published_view.specs.Changes.{at_opening};
 ghost use Rattle.published_view.specs.Rules.{IsAfter, history_of};
 
 use crate::copies::{AgentDirectory, Operation, PublishedCopy};
@@ -53,7 +54,7 @@ fn copy_of(
 // The line keeps the room that its first operation made, and no later one needs more: so none is refused when it is put in line.
 fn with_room<J: Naming, R: Wait>(mut writer: RuledWriter<J>, rt: &R) -> Option<RuledWriter<J>>
     requires { drop writer.behind writer.log.items ≡ [] }
-    ensures { IfSome result (λ w. (w.desk.shown.value ≡ writer.desk.shown.value) × (drop w.behind w.log.items ≡ [])) }
+    ensures { IfSome result (λ w. (w.desk.shown.value ≡ writer.desk.shown.value) × (drop w.behind w.log.items ≡ []) × (view w.desk.place ≡ view writer.desk.place)) }
 {
     if writer.append(Operation::Nothing).is_err() {
         drop(writer.take(rt));
@@ -79,7 +80,8 @@ fn writer_of<J: Naming, R: Wait>(
     requires few { loops ≤ 8 }
     requires alike { first ≡ second }
     requires opening { IsAfter J.book J.opening first }
-    ensures { IfOk result (λ w. (w.desk.shown.value ≡ first) × (drop w.behind w.log.items ≡ [])) }
+    requires empty { history_of first ≡ [] }
+    ensures { IfOk result (λ w. (w.desk.shown.value ≡ first) × (drop w.behind w.log.items ≡ []) × (view w.desk.place ≡ [])) }
 {
     let writer = RuledWriter::<J>::new(alloc, first, second, loops)?;
     let Some(writer) = with_room(writer, rt) else {
@@ -120,6 +122,7 @@ fn begun<J: Naming, R: Wait>(
     requires opening { J.opening ≡ record { rules = arc_value rules.now; site = site.now } }
     ensures shown { IfOk result (λ r. r.0 ≡ r.1.desk.shown.value) }
     ensures idle { IfOk result (λ r. drop r.1.behind r.1.log.items ≡ []) }
+    ensures unwritten { IfOk result (λ r. view r.1.desk.place ≡ []) }
     ensures after { IfOk result (λ r. IsAfter J.book J.opening r.0) }
     ensures no_history { IfOk result (λ r. history_of r.0 ≡ []) }
 {
@@ -151,7 +154,7 @@ pub fn open<J: Naming, R: Wait + Drop>(
 ) -> Result<(DirectoryWriter<J, R>, Vec<LoopView<J>>), ViewFault>
     requires book { opened.seen.book ≡ J.book }
     requires opening { J.opening ≡ record { rules = arc_value rules; site = site.now } }
-    ensures writer { IfOk result (λ r. r.0 ≡ at_history []) }
+    ensures writer { IfOk result (λ r. r.0 ≡ at_opening) }
     ensures count { IfOk result (λ r. vec_len r.1 ≡ loops) }
     ensures loops { IfOk result (λ r. All (λ l. l ≡ []) r.1.items) }
     ensures range { IsOk result → (0 < loops) × (loops ≤ 8) }
@@ -164,7 +167,7 @@ pub fn open<J: Naming, R: Wait + Drop>(
     let begun = begun::<J, R>(alloc, &rt, &front, site, &rules, loops);
     drop(rules);
     let (own, writer) = begun?;
-    match loops_of(alloc, writer.factory(), &front, loops) {
+    match loops_of(alloc, writer.factory(), loops) {
         Ok(all) => Ok((
             DirectoryWriter {
                 writer: Some(writer),

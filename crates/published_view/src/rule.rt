@@ -1,19 +1,20 @@
 //! The rule of what is published, and the steps under it.
-ghost use Rattle.std.specs.Prelude.{◌≡◌, ◌≤◌, [], ◌∷◌, false, drop, MatchResult};
+ghost use Rattle.std.specs.Prelude.{◌≡◌, ◌⊎◌, ◌≤◌, [], ◌∷◌, None, Some, false, drop, MatchResult};
 ghost use Rattle.left_right.specs.Sides.{view};
 ghost use Rattle.directory_questions.specs.Answers.{is_change_of};
 ghost use Rattle.directory_questions.specs.Calls.{call_in};
-ghost use Rattle.directory_questions.specs.Verdicts.{IsLegal};
 ghost use Rattle.history_log.specs.Pasts.{IsPast};
 ghost use Rattle.slp_answer.specs.Answers.{Replies};
 ghost use Rattle.published_view.specs.Rules.{IsAfter, NextOf, history_of};
 ghost use Rattle.published_view.specs.Steps.{stepped};
+ghost use Rattle.published_view.specs.Traces.{Wrote, last_at, IsAsked};
 
 use crate::copies::{Operation, PublishedCopy, Step};
 use crate::fault::ViewFault;
 use crate::gate::Gate;
+use crate::ghosts::{Asks, AsksNothing, Marked};
 use crossbeam_utils::rule::{Outcome, Protocol};
-use history_log::{Front, Happened, Naming};
+use history_log::{Front, Naming};
 use left_right::reader::{Factory, Reader};
 use left_right::writer::Writer;
 use slp_answer::{Answer, Call, Sent, reply};
@@ -22,13 +23,13 @@ use std::alloc::{AllocError, Global};
 use std::marker::PhantomData;
 use std::sync::Wait;
 
-/// The rule of what is published, at every step: it is the state of a legal history, and what each thread has seen is a past of
-/// that history. (A clause reads an array as a list, of any length.)
+/// The rule of what is published, at every step: it is the state of a legal history, and all that threads asked and wrote so far is
+/// one run that published this history, whatever they were told. (A clause reads an array as a list, of any length.)
 pub struct Published<J> {
     of: PhantomData<J>,
 }
 
-impl<J: Naming> Protocol<PublishedCopy, [Happened; 0]> for Published<J> {
+impl<J: Naming> Protocol<PublishedCopy, [Marked; 0]> for Published<J> {
     ghost use Rattle.std.specs.Prelude.{[]};
     ghost use Rattle.published_view.specs.Rules.{IsPublished};
 
@@ -37,22 +38,44 @@ impl<J: Naming> Protocol<PublishedCopy, [Happened; 0]> for Published<J> {
     ghost first = { [] };
 }
 
-/// All that is published is seen.
-pub struct Sees<J> {
+/// What is published is seen, and asked something, or nothing.
+pub struct Sees<J, Q> {
+    of: PhantomData<(J, Q)>,
+}
+
+impl<J: Naming, Q: Asks> Outcome<PublishedCopy, [Marked; 0]> for Sees<J, Q> {
+    ghost use Rattle.published_view.specs.Rules.{SeesAll};
+
+    ghost then = { SeesAll J.book J.opening Q.call };
+}
+
+/// What is shown is the same as before.
+pub struct Shown<J> {
     of: PhantomData<J>,
 }
 
-impl<J: Naming> Outcome<PublishedCopy, [Happened; 0]> for Sees<J> {
-    ghost use Rattle.published_view.specs.Rules.{SeesAll};
+impl<J: Naming> Outcome<PublishedCopy, [Marked; 0]> for Shown<J> {
+    ghost use Rattle.published_view.specs.Rules.{Shows};
 
-    ghost then = { SeesAll J.book J.opening };
+    ghost then = { Shows J.book J.opening };
 }
 
-pub type RuledReader<J> = Reader<PublishedCopy, [Happened; 0], Published<J>>;
+/// What is written is shown, for a call or none.
+pub struct Written<J, Q> {
+    of: PhantomData<(J, Q)>,
+}
 
-pub type RuledFactory<J> = Factory<PublishedCopy, [Happened; 0], Published<J>>;
+impl<J: Naming, Q: Asks> Outcome<PublishedCopy, [Marked; 0]> for Written<J, Q> {
+    ghost use Rattle.published_view.specs.Rules.{Leaves};
 
-pub type RuledWriter<J> = Writer<PublishedCopy, Operation, [Happened; 0], Published<J>>;
+    ghost then = { Leaves J.book J.opening Q.call };
+}
+
+pub type RuledReader<J> = Reader<PublishedCopy, [Marked; 0], Published<J>>;
+
+pub type RuledFactory<J> = Factory<PublishedCopy, [Marked; 0], Published<J>>;
+
+pub type RuledWriter<J> = Writer<PublishedCopy, Operation, [Marked; 0], Published<J>>;
 
 // Answers at the history of a copy.
 fn answered_at<J: Naming>(
@@ -89,32 +112,29 @@ fn answered_at<J: Naming>(
 }
 
 /// Answers at the history that is published, which is seen. Without memory it is seen all the same.
-pub fn answered<J: Naming, G: Gate>(
+pub fn answered<J: Naming, G: Gate, Q: Asks>(
     alloc: Global,
     reader: RuledReader<J>,
     gate: &G,
     place: usize,
     call: &Call<'_>,
     answer: &mut Answer,
-) -> (
-    RuledReader<J>,
-    Result<(Front<J>, Result<Sent, NoMemory>), ViewFault>,
-)
+) -> (RuledReader<J>, Result<Result<Sent, NoMemory>, ViewFault>)
+    requires asks { Q.call ≡ Some (call_in call.now) }
     requires no_change { is_change_of call.now.bytes.now ≡ false }
     requires datagram { 1400 ≤ call.now.limit }
     requires stream { call.now.limit ≤ 65535 }
     ensures { MatchResult result.1
-        (λ r. IsPast (view reader.place) r.0 × (view result.0.place ≡ r.0) × IsLegal J.opening r.0
-        × MatchResult r.1 (λ what. Replies J.opening r.0 (call_in call.now) what answer.new.bytes.items answer.new.audit.items) (λ _. (answer.new.bytes.items ≡ []) × (answer.new.audit.items ≡ [])))
+        (λ r. IsAsked J.opening (view reader.place) (Some (call_in call.now)) (view result.0.place)
+        × MatchResult r (λ what. Replies J.opening (last_at (view result.0.place)) (call_in call.now) what answer.new.bytes.items answer.new.audit.items) (λ _. (answer.new.bytes.items ≡ []) × (answer.new.audit.items ≡ [])))
         (λ e. (e ≡ ViewFault.Closed) × (view result.0.place ≡ view reader.place) × (answer.new.bytes.items ≡ []) × (answer.new.audit.items ≡ [])) }
 {
-    match reader.enter_as::<Sees<J>>() {
+    match reader.enter_as::<Sees<J, Q>>() {
         Ok(reading) => {
             gate.inside(place);
             let copy = reading.get();
             let sent = answered_at::<J>(alloc, copy, call, answer);
-            let front = copy.trail.named::<J>();
-            (reading.leave(), Ok((front, sent)))
+            (reading.leave(), Ok(sent))
         }
         Err(reader) => {
             answer.bytes.clear();
@@ -128,17 +148,17 @@ pub fn answered<J: Naming, G: Gate>(
 pub fn learnt<J: Naming>(
     reader: RuledReader<J>,
     note: &Front<J>,
-) -> (RuledReader<J>, Result<Front<J>, ViewFault>)
+) -> (RuledReader<J>, Result<(), ViewFault>)
     ensures { MatchResult result.1
-        (λ f. IsPast (view reader.place) f × IsPast note.now f × (view result.0.place ≡ f))
-        (λ e. (e ≡ ViewFault.Closed) × IsPast (view reader.place) (view result.0.place)) }
+        (λ _. IsAsked J.opening (view reader.place) None (view result.0.place) × IsPast note.now (last_at (view result.0.place)))
+        (λ e. (e ≡ ViewFault.Closed) × ((view result.0.place ≡ view reader.place) ⊎ IsAsked J.opening (view reader.place) None (view result.0.place))) }
 {
-    match reader.enter_as::<Sees<J>>() {
+    match reader.enter_as::<Sees<J, AsksNothing>>() {
         Ok(reading) => {
             let front = reading.get().trail.named::<J>();
             let reader = reading.leave();
             if note.begins(&front) {
-                (reader, Ok(front))
+                (reader, Ok(()))
             } else {
                 (reader, Err(ViewFault::Closed))
             }
@@ -154,27 +174,28 @@ pub fn publish_nothing<J: Naming, R: Wait>(
 ) -> (RuledWriter<J>, Result<(), AllocError>)
     requires { drop writer.behind writer.log.items ≡ Operation.Nothing ∷ [] }
     ensures { MatchResult result.1
-        (λ _. (result.0.desk.shown.value ≡ writer.desk.shown.value) × (drop result.0.behind result.0.log.items ≡ []))
-        (λ _. result.0.desk.shown.value ≡ writer.desk.shown.value) }
+        (λ _. (result.0.desk.shown.value ≡ writer.desk.shown.value) × (drop result.0.behind result.0.log.items ≡ []) × (view result.0.desk.place ≡ view writer.desk.place))
+        (λ _. (result.0.desk.shown.value ≡ writer.desk.shown.value) × (view result.0.desk.place ≡ view writer.desk.place)) }
 {
-    writer.publish_as::<Sees<J>, R>(rt)
+    writer.publish_as::<Shown<J>, R>(rt)
 }
 
 /// Publishes one step. It waits for readers that entered before the last step was published.
-pub fn publish_step<J: Naming, R: Wait>(
+pub fn publish_step<J: Naming, R: Wait, Q: Asks>(
     mut writer: RuledWriter<J>,
     rt: &R,
     step: Step,
 ) -> (RuledWriter<J>, Result<(), AllocError>)
     requires idle { drop writer.behind writer.log.items ≡ [] }
     requires shown { IsAfter J.book J.opening writer.desk.shown.value }
-    requires next { NextOf J.book J.opening (history_of writer.desk.shown.value) step }
+    requires next { NextOf J.book J.opening Q.call (history_of writer.desk.shown.value) step }
     ensures { MatchResult result.1
-        (λ _. (result.0.desk.shown.value ≡ stepped writer.desk.shown.value step) × (drop result.0.behind result.0.log.items ≡ []) × IsAfter J.book J.opening result.0.desk.shown.value)
-        (λ _. result.0.desk.shown.value ≡ writer.desk.shown.value) }
+        (λ _. (result.0.desk.shown.value ≡ stepped writer.desk.shown.value step) × (drop result.0.behind result.0.log.items ≡ []) × IsAfter J.book J.opening result.0.desk.shown.value
+        × (view result.0.desk.place ≡ Wrote (history_of result.0.desk.shown.value) Q.call ∷ view writer.desk.place))
+        (λ _. (result.0.desk.shown.value ≡ writer.desk.shown.value) × (view result.0.desk.place ≡ view writer.desk.place)) }
 {
     if writer.append(Operation::Makes(step)).is_err() {
         return (writer, Err(AllocError));
     }
-    writer.publish_as::<Sees<J>, R>(rt)
+    writer.publish_as::<Written<J, Q>, R>(rt)
 }

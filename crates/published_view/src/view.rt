@@ -1,9 +1,9 @@
 //! What answers in one thread, and what it learns of the writer.
-ghost use Rattle.std.specs.Prelude.{◌≡◌, ◌⊎◌, ◌≤◌, [], false, length, All, vec_len, IfOk, IfErr, OnOk, OnErr, IsErrOf};
+ghost use Rattle.std.specs.Prelude.{◌≡◌, ◌⊎◌, ◌≤◌, [], None, Some, false, length, All, vec_len, IfOk, IfErr, OnOk, OnErr, IsErrOf};
 ghost use Rattle.directory_questions.specs.Answers.{is_change_of};
-ghost use Rattle.directory_questions.specs.Verdicts.{IsLegal};
 ghost use Rattle.history_log.specs.Pasts.{IsPast};
 ghost use Rattle.slp_answer.specs.Answers.{Replies};
+ghost use Rattle.published_view.specs.Traces.{last_at, IsAsked};
 
 use crate::fault::ViewFault;
 use crate::gate::Gate;
@@ -12,7 +12,7 @@ use access_rules::Addr;
 use history_log::{Front, Naming};
 use slp_answer::{Answer, Call, Sent};
 use std::alloc::Global;
-use std::marker::Model;
+use std::marker::{Brand, Model};
 
 /// How far a writer had come. Contracts see it as the history that was published then.
 #[derive(Drop)]
@@ -32,30 +32,27 @@ impl<J: Naming> Model for Note<J> {
     ghost view = { λ n. n.front };
 }
 
-/// What answers in one thread, without waiting. Contracts see it as the history that it has seen.
+/// What answers in one thread, without waiting. Contracts see it as all that it was asked, and where, the newest first.
 #[derive(Drop)]
 pub struct LoopView<J: Naming> {
     // It is there between any two calls.
     reader: Option<RuledReader<J>>,
-    front: Front<J>,
     place: usize,
 }
 
 impl<J: Naming> Model for LoopView<J> {
-    ghost use Rattle.std.specs.Prelude.{IsSomeAnd};
-    ghost use Rattle.std.specs.Coded.{coded_list};
+    ghost use Rattle.std.specs.Prelude.{◌≡◌, [], true, is_some};
+    ghost use Rattle.std.specs.Option.{option_map_or};
     ghost use Rattle.left_right.specs.Sides.{view as view_of};
-    ghost use Rattle.directory_judge.specs.History.{History};
-    ghost use Rattle.history_log.specs.Pasts.{IsPast};
-    ghost use Rattle.history_log.specs.Events.{event_code};
+    ghost use Rattle.published_view.specs.Traces.{Trace, trace_code};
 
-    ghost Value = { History };
+    ghost Value = { Trace };
 
-    ghost coded = { coded_list event_code };
+    ghost coded = { trace_code };
 
-    ghost view = { λ l. l.front };
+    ghost view = { λ l. option_map_or (λ r. view_of r.place) l.reader [] };
 
-    ghost invariant = { λ l. IsSomeAnd l.reader (λ r. IsPast l.front (view_of r.place)) };
+    ghost invariant = { λ l. is_some l.reader ≡ true };
 }
 
 impl<J: Naming> LoopView<J> {
@@ -76,9 +73,10 @@ impl<J: Naming> LoopView<J> {
         requires no_change { is_change_of bytes.now ≡ false }
         requires datagram { 1400 ≤ limit }
         requires stream { limit ≤ 65535 }
-        ensures later { IsPast self.old self.new }
-        ensures legal { OnOk result (IsLegal J.opening self.new) }
-        ensures told { IfOk result (λ what. Replies J.opening self.new (record { own = own; moment = moment; asker = asker; bytes = bytes.now; limit = limit }) what answer.new.bytes.items answer.new.audit.items) }
+        ensures asked { OnOk result (IsAsked J.opening self.old (Some (record { own = own; moment = moment; asker = asker; bytes = bytes.now; limit = limit })) self.new) }
+        ensures told { IfOk result (λ what. Replies J.opening (last_at self.new) (record { own = own; moment = moment; asker = asker; bytes = bytes.now; limit = limit }) what answer.new.bytes.items answer.new.audit.items) }
+        ensures untold { OnErr result ((self.new ≡ self.old) ⊎ IsAsked J.opening self.old (Some (record { own = own; moment = moment; asker = asker; bytes = bytes.now; limit = limit })) self.new) }
+        ensures later { IsPast (last_at self.old) (last_at self.new) }
         ensures no_reply { OnErr result (answer.new.bytes.items ≡ []) }
         ensures no_line { OnErr result (answer.new.audit.items ≡ []) }
         ensures closed { IsErrOf result ViewFault.Closed → self.new ≡ self.old }
@@ -92,24 +90,25 @@ impl<J: Naming> LoopView<J> {
             limit,
         };
         let reader = self.reader.take().unwrap();
-        let (reader, entered) = answered(alloc, reader, gate, self.place, &call, answer);
+        let (reader, entered) = answered::<J, G, Brand>(
+            alloc, reader, gate, self.place, &call, answer,
+        );
         self.reader = Some(reader);
-        let (front, sent) = entered?;
-        self.front = front;
+        let sent = entered?;
         Ok(sent?)
     }
 
     /// Sees no less than the note from now on. It is an entry without an answer.
     pub fn learn(&mut self, note: &Note<J>) -> Result<(), ViewFault>
-        ensures later { IsPast self.old self.new }
-        ensures learnt { OnOk result (IsPast note.now self.new) }
-        ensures refused { IfErr result (λ e. (e ≡ ViewFault.Closed) × (self.new ≡ self.old)) }
+        ensures looked { (self.new ≡ self.old) ⊎ IsAsked J.opening self.old None self.new }
+        ensures later { IsPast (last_at self.old) (last_at self.new) }
+        ensures learnt { OnOk result (IsPast note.now (last_at self.new)) }
+        ensures refused { IfErr result (λ e. e ≡ ViewFault.Closed) }
     {
         let reader = self.reader.take().unwrap();
         let (reader, learnt) = learnt(reader, &note.front);
         self.reader = Some(reader);
-        self.front = learnt?;
-        Ok(())
+        learnt
     }
 }
 
@@ -117,10 +116,8 @@ impl<J: Naming> LoopView<J> {
 pub(crate) fn loops_of<J: Naming>(
     alloc: Global,
     from: &RuledFactory<J>,
-    front: &Front<J>,
     loops: usize,
 ) -> Result<Vec<LoopView<J>>, ViewFault>
-    requires { front.now ≡ [] }
     ensures count { IfOk result (λ v. vec_len v ≡ loops) }
     ensures loops { IfOk result (λ v. All (λ l. l ≡ []) v.items) }
     ensures faults { IfErr result (λ e. (e ≡ ViewFault.NoMemory) ⊎ (e ≡ ViewFault.NoPlace)) }
@@ -132,7 +129,6 @@ pub(crate) fn loops_of<J: Naming>(
         };
         let one = LoopView {
             reader: Some(reader),
-            front: front.again(),
             place,
         };
         if all.push(one).is_err() {

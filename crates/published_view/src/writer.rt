@@ -1,16 +1,20 @@
 //! The writer: what changes the directory, and publishes it.
-ghost use Rattle.std.specs.Prelude.{◌≡◌, ◌⊎◌, ◌↔◌, [], ◌∷◌, true, false, IsOkAnd, IfOk, IfErr, OnOk, OnErr, IsErrOf, Some};
+ghost use Rattle.std.specs.Prelude.{◌≡◌, ◌⊎◌, ◌↔◌, [], ◌∷◌, true, false, IsOkAnd, IfOk, IfErr, OnOk, OnErr, IsErrOf, None, Some};
 ghost use Rattle.directory_judge.specs.Contents.{content};
 ghost use Rattle.directory_judge.specs.History.{now};
 ghost use Rattle.directory_questions.specs.Answers.{is_change_of};
 ghost use Rattle.directory_questions.specs.Verdicts.{IsLegal};
+ghost use Rattle.directory_state.specs.Events.{call_anywhere};
 ghost use Rattle.directory_state.specs.Folds.{StandsFor};
 ghost use Rattle.history_log.specs.Events.{history_in};
-ghost use Rattle.published_view.specs.Changes.{IsChanged, at_history, event_or_sweep, reload_at, sweep_at};
+ghost use Rattle.directory_runs.specs.Changes.{IsChanged, reload_at, sweep_at};
+ghost use Rattle.published_view.specs.Changes.{event_or_sweep, written_at};
 ghost use Rattle.published_view.specs.Rules.{NextOf};
+ghost use Rattle.published_view.specs.Traces.{IsWritten};
 
 use crate::copies::{PublishedCopy, Step};
 use crate::fault::ViewFault;
+use crate::ghosts::{Asks, AsksNothing};
 use crate::rule::{RuledWriter, publish_step};
 use crate::view::Note;
 use access_rules::{Addr, Rules};
@@ -22,7 +26,7 @@ use std::alloc::Global;
 use std::marker::{Brand, Model};
 use std::sync::{Arc, Wait};
 
-/// What changes the directory. Contracts see the history that it published, and whether it is shut: once a publish
+/// What changes the directory. Contracts see the history that it published, by which calls, and whether it is shut: once a publish
 /// was refused, it makes no change any more, and `change`, `sweep` and `reload` answer `Closed`. A change may wait, at its publish,
 /// for readers that entered before the publish before it; readers never wait.
 pub struct DirectoryWriter<J: Naming, R: Wait + Drop> {
@@ -38,6 +42,8 @@ pub struct DirectoryWriter<J: Naming, R: Wait + Drop> {
 
 impl<J: Naming, R: Wait + Drop> Model for DirectoryWriter<J, R> {
     ghost use Rattle.std.specs.Prelude.{◌≡◌, [], false, drop, IsSomeAnd};
+    ghost use Rattle.std.specs.Option.{option_map_or};
+    ghost use Rattle.left_right.specs.Sides.{view as view_of};
     ghost use Rattle.published_view.specs.Changes.{Writing, writing_code};
     ghost use Rattle.published_view.specs.Rules.{IsAfter, history_of};
 
@@ -45,7 +51,7 @@ impl<J: Naming, R: Wait + Drop> Model for DirectoryWriter<J, R> {
 
     ghost coded = { writing_code };
 
-    ghost view = { λ w. record { history = history_of w.own; is_shut = w.shut } };
+    ghost view = { λ w. record { history = history_of w.own; trace = option_map_or (λ x. view_of x.desk.place) w.writer []; is_shut = w.shut } };
 
     ghost invariant = { λ w. IsSomeAnd w.writer (λ x. (w.own ≡ x.desk.shown.value) × (w.shut ≡ false → drop x.behind x.log.items ≡ [])) × IsAfter J.book J.opening w.own };
 }
@@ -88,7 +94,10 @@ impl<J: Naming, R: Wait + Drop> DirectoryWriter<J, R> {
     ) -> Result<Sent, ViewFault>
         requires { is_change_of bytes.now ≡ true }
         ensures made { IfOk result (λ what. IsChanged J.opening self.old.history moment asker bytes.now what answer.new.bytes.items answer.new.audit.items self.new.history) }
+        ensures legal { OnOk result (IsLegal J.opening self.new.history) }
+        ensures wrote { OnOk result ((self.new ≡ self.old) ⊎ (self.new ≡ written_at self.old self.new.history (Some (call_anywhere moment asker bytes.now)))) }
         ensures kept { OnErr result (self.new.history ≡ self.old.history) }
+        ensures unwritten { OnErr result (self.new.trace ≡ self.old.trace) }
         ensures no_reply { OnErr result (answer.new.bytes.items ≡ []) }
         ensures no_line { OnErr result (answer.new.audit.items ≡ []) }
         ensures open { OnOk result (self.new.is_shut ≡ false) }
@@ -101,7 +110,7 @@ impl<J: Naming, R: Wait + Drop> DirectoryWriter<J, R> {
             answer.audit.clear();
             return Err(ViewFault::Closed);
         }
-        match self.make::<Brand>(alloc, moment, asker, bytes, answer) {
+        match self.make::<Brand, Brand>(alloc, moment, asker, bytes, answer) {
             Ok(sent) => Ok(sent),
             Err(NoMemory) => {
                 answer.bytes.clear();
@@ -112,7 +121,7 @@ impl<J: Naming, R: Wait + Drop> DirectoryWriter<J, R> {
     }
 
     // Answers bytes, and publishes their change, where one is accepted. The event is the one that they ask for.
-    fn make<E: Happening>(
+    fn make<E: Happening, Q: Asks>(
         &mut self,
         alloc: Global,
         moment: u32,
@@ -123,26 +132,32 @@ impl<J: Naming, R: Wait + Drop> DirectoryWriter<J, R> {
         requires change { is_change_of bytes.now ≡ true }
         requires open { self.old.is_shut ≡ false }
         requires event { E.event ≡ event_or_sweep J.opening self.old.history moment asker bytes.now }
+        requires asks { Q.call ≡ Some (call_anywhere moment asker bytes.now) }
         ensures made { IfOk result (λ what. IsChanged J.opening self.old.history moment asker bytes.now what answer.new.bytes.items answer.new.audit.items self.new.history) }
+        ensures legal { OnOk result (IsLegal J.opening self.new.history) }
+        ensures wrote { OnOk result ((self.new ≡ self.old) ⊎ (self.new ≡ written_at self.old self.new.history Q.call)) }
         ensures kept { OnErr result (self.new.history ≡ self.old.history) }
+        ensures unwritten { OnErr result (self.new.trace ≡ self.old.trace) }
         ensures still_open { OnOk result (self.new.is_shut ≡ false) }
     {
         let (sent, change) = acknowledge(alloc, &self.own.directory, moment, asker, bytes, answer)?;
         let Some(change) = change else {
             return Ok(sent);
         };
-        self.put_out::<E>(change)?;
+        self.put_out::<E, Q>(change)?;
         Ok(sent)
     }
 
     // Publishes a change that stands for an event, and makes it of the writer's own directory. The share for that
     // is taken before anything is in line.
-    fn put_out<E: Happening>(&mut self, change: Change) -> Result<(), NoMemory>
+    fn put_out<E: Happening, Q: Asks>(&mut self, change: Change) -> Result<(), NoMemory>
         requires open { self.old.is_shut ≡ false }
         requires legal { IsLegal J.opening (E.event ∷ self.old.history) }
+        requires written { IsWritten J.opening Q.call self.old.history (E.event ∷ self.old.history) }
         requires stands { StandsFor self.old.history (content change) E.event }
-        ensures made { OnOk result (self.new ≡ at_history (E.event ∷ self.old.history)) }
+        ensures made { OnOk result (self.new ≡ written_at self.old (E.event ∷ self.old.history) Q.call) }
         ensures kept { OnErr result (self.new.history ≡ self.old.history) }
+        ensures unwritten { OnErr result (self.new.trace ≡ self.old.trace) }
     {
         let Ok(mine) = change.share() else {
             drop(change);
@@ -157,20 +172,21 @@ impl<J: Naming, R: Wait + Drop> DirectoryWriter<J, R> {
             change: mine,
             trail: trail.again(),
         };
-        self.publish(Step { change, trail }, mine)
+        self.publish::<Q>(Step { change, trail }, mine)
     }
 
     // The two steps are alike. The second is for the writer's own directory.
-    fn publish(&mut self, step: Step, mine: Step) -> Result<(), NoMemory>
+    fn publish<Q: Asks>(&mut self, step: Step, mine: Step) -> Result<(), NoMemory>
         requires open { self.old.is_shut ≡ false }
         requires alike { content mine.change ≡ content step.change }
         requires together { mine.trail ≡ step.trail }
-        requires next { NextOf J.book J.opening self.old.history step }
-        ensures made { OnOk result (self.new ≡ at_history (history_in step.trail.seen.log)) }
+        requires next { NextOf J.book J.opening Q.call self.old.history step }
+        ensures made { OnOk result (self.new ≡ written_at self.old (history_in step.trail.seen.log) Q.call) }
         ensures kept { OnErr result (self.new.history ≡ self.old.history) }
+        ensures unwritten { OnErr result (self.new.trace ≡ self.old.trace) }
     {
         let writer = self.writer.take().unwrap();
-        let (writer, published) = publish_step(writer, &self.rt, step);
+        let (writer, published) = publish_step::<J, R, Q>(writer, &self.rt, step);
         put_back(&mut self.writer, writer, &self.rt);
         if published.is_err() {
             drop(mine);
@@ -183,8 +199,9 @@ impl<J: Naming, R: Wait + Drop> DirectoryWriter<J, R> {
 
     /// Publishes a sweep: what is dead at a moment, in seconds, is dropped, or at the clock where that is greater.
     pub fn sweep(&mut self, moment: u32) -> Result<(), ViewFault>
-        ensures made { OnOk result (self.new ≡ at_history (sweep_at (now self.old.history moment) ∷ self.old.history)) }
+        ensures made { OnOk result (self.new ≡ written_at self.old (sweep_at (now self.old.history moment) ∷ self.old.history) None) }
         ensures kept { OnErr result (self.new.history ≡ self.old.history) }
+        ensures unwritten { OnErr result (self.new.trace ≡ self.old.trace) }
         ensures closed { IsErrOf result ViewFault.Closed ↔ (self.old.is_shut ≡ true) }
         ensures stays_shut { self.old.is_shut ≡ true → self.new.is_shut ≡ true }
         ensures faults { IfErr result (λ e. (e ≡ ViewFault.NoMemory) ⊎ (e ≡ ViewFault.Closed)) }
@@ -193,15 +210,16 @@ impl<J: Naming, R: Wait + Drop> DirectoryWriter<J, R> {
             return Err(ViewFault::Closed);
         }
         let now = self.own.directory.now(moment);
-        self.put_out::<Brand>(Change::Sweep(now))?;
+        self.put_out::<Brand, AsksNothing>(Change::Sweep(now))?;
         Ok(())
     }
 
     /// Publishes a reload: from a moment on, in seconds, or from the clock on where that is greater, these rules decide. A refusal consumes
     /// them.
     pub fn reload(&mut self, alloc: Global, moment: u32, rules: Rules) -> Result<(), ViewFault>
-        ensures made { OnOk result (self.new ≡ at_history (reload_at (now self.old.history moment) rules ∷ self.old.history)) }
+        ensures made { OnOk result (self.new ≡ written_at self.old (reload_at (now self.old.history moment) rules ∷ self.old.history) None) }
         ensures kept { OnErr result (self.new.history ≡ self.old.history) }
+        ensures unwritten { OnErr result (self.new.trace ≡ self.old.trace) }
         ensures closed { IsErrOf result ViewFault.Closed ↔ (self.old.is_shut ≡ true) }
         ensures stays_shut { self.old.is_shut ≡ true → self.new.is_shut ≡ true }
         ensures faults { IfErr result (λ e. (e ≡ ViewFault.NoMemory) ⊎ (e ≡ ViewFault.Closed)) }
@@ -212,7 +230,7 @@ impl<J: Naming, R: Wait + Drop> DirectoryWriter<J, R> {
         }
         let rules = Arc::new(alloc, rules)?;
         let now = self.own.directory.now(moment);
-        self.put_out::<Brand>(Change::Reload(now, rules))?;
+        self.put_out::<Brand, AsksNothing>(Change::Reload(now, rules))?;
         Ok(())
     }
 

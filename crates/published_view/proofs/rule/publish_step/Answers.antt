@@ -1,14 +1,13 @@
 use Rattle.std.proofs.Common.{◌≡◌, ◌∷◌, [], ◌++◌, List, fold, false, sym, ap, ◌∙◌, subst, Result, Ok, Err}
 use Rattle.std.specs.Prelude.{MatchResult}
 use Rattle.std.specs.Result.{is_err}
-use Rattle.history_log.specs.Pasts.{IsPast}
 use Rattle.published_view.specs.declared.copies.PublishedCopy.{PublishedCopy}
 use Rattle.published_view.specs.declared.copies.Step.{Step}
 use Rattle.published_view.specs.declared.copies.Operation.{Operation}
 use Rattle.published_view.specs.declared.copies.Operation.TheVariants.{Makes}
 use Rattle.published_view.specs.Steps.{stepped, operated}
-use Rattle.published_view.specs.Rules.{IsAfter, NextOf, history_of}
-use Rattle.published_view.proofs.Turns.{enters, goes_on, longer_by_one}
+use Rattle.published_view.specs.Rules.{NextOf, history_of}
+use Rattle.published_view.proofs.Turns.{leaves}
 use Rattle.published_view.proofs.rule.publish_step.Goals as goal
 
 appended : {A B : Type 0} (r : Result A B) (P : Type 0) (Q : B → Type 0) → false ≡ is_err r → MatchResult r (λ _. P) Q → P
@@ -24,6 +23,5 @@ publish_as-requires g c next is =
     let same : x ≡ c.args.writer.desk.shown.value = ap (λ d. d.shown.value) c.append.ensures.desk in
     let pending = appended c.append.result _ _ c.if-is_err.ensures.value c.append.ensures.pending in
     let here : next ≡ stepped x s = is ∙ ap (λ (more : List Operation). fold operated x more) (pending ∙ ap (λ (more : List Operation). more ++ Makes s ∷ []) c.requires.idle) in
-    let owed : NextOf book opening (history_of x) s = subst (λ (k : PublishedCopy). NextOf book opening (history_of k) s) (sym same) c.requires.next in
-    let up : IsPast (history_of x) (history_of next) = subst (λ (k : PublishedCopy). IsPast (history_of x) (history_of k)) (sym here) (longer_by_one book opening x s owed) in
-    enters book opening _ _ x next (λ h. subst (λ (k : PublishedCopy). IsAfter book opening k) (sym here) (goes_on book opening x s h owed)) up
+    let owed : NextOf book opening g.Q.Asks.call (history_of x) s = subst (λ (k : PublishedCopy). NextOf book opening g.Q.Asks.call (history_of k) s) (sym same) c.requires.next in
+    leaves book opening _ _ g.Q.Asks.call x next s owed here

@@ -1,14 +1,18 @@
-use Rattle.std.proofs.Common.{◌∷◌, ap, ◌∙◌}
+use Rattle.std.proofs.Common.{◌∷◌, None, ap, ◌∙◌}
 use Rattle.std.specs.Prelude.{ℕ}
-use Rattle.published_view.specs.Changes.{at_history, sweep_at}
-use Rattle.published_view.proofs.Writers.{acts_at, published, sweep_is_legal}
+use Rattle.directory_runs.specs.Changes.{sweep_at}
+use Rattle.published_view.specs.Changes.{written_at}
+use Rattle.published_view.proofs.Writers.{acts_at, published, sweep_is_legal, sweep_is_written}
 use Rattle.published_view.proofs.writer.DirectoryWriter.sweep.Goals as goal
 
 pub put_out-requires-clause-legal : goal.put_out-requires-clause-legal
 put_out-requires-clause-legal g c = sweep_is_legal c.self.inside.own c.args.self.now.history c.self.invariant.1 (ap published c.self.view_is) c.args.moment c.now-now.result c.now-now.ensures
 
+pub put_out-requires-clause-written : goal.put_out-requires-clause-written
+put_out-requires-clause-written g c = sweep_is_written c.self.inside.own c.args.self.now.history c.self.invariant.1 (ap published c.self.view_is) c.args.moment c.now-now.result c.now-now.ensures
+
 pub returns-clause-made : goal.returns-clause-made
 returns-clause-made g c =
     let h = c.args.self.now.history in
     let at = acts_at c.self.inside.own h c.self.invariant.1 (ap published c.self.view_is) c.args.moment c.now-now.result c.now-now.ensures in
-    c.in_ok-put_out.ensures.made ∙ ap (λ (n : ℕ). at_history (sweep_at n ∷ h)) at
+    c.in_ok-put_out.ensures.made ∙ ap (λ (n : ℕ). written_at c.args.self.now (sweep_at n ∷ h) None) at
