@@ -1,5 +1,5 @@
 -- What a desk does with a message.
-use Rattle.std.specs.Prelude.{◌≡◌, ℕ, nat_lt, Bool, true, false, ◌||◌, List, length, Result, Ok, Err, IfOk, OnErr}
+use Rattle.std.specs.Prelude.{◌≡◌, ◌⊎◌, ℕ, nat_lt, Bool, true, false, ◌||◌, List, length, Result, Ok, Err, Some, None, IfOk, OnErr, OnOk}
 use Rattle.slp_text.specs.declared.faults.NoMemory.{NoMemory}
 use Rattle.slp_headers.specs.Headers.{heading_of}
 use Rattle.access_rules.specs.Deciding.{no_rules}
@@ -7,18 +7,20 @@ use Rattle.directory_judge.specs.History.{History}
 use Rattle.directory_questions.specs.Answers.{is_change_of}
 use Rattle.directory_questions.specs.Calls.{Opening, Call}
 use Rattle.directory_questions.specs.Outcomes.{refusal_outcome}
+use Rattle.directory_questions.specs.Verdicts.{IsLegal}
 use Rattle.slp_answer.specs.Answers.{Replies, line_of}
 use Rattle.slp_answer.specs.declared.answer.Answer.{Answer}
 use Rattle.slp_answer.specs.declared.answer.Sent.{Sent}
 use Rattle.history_log.specs.Pasts.{IsPast}
-use Rattle.published_view.specs.Changes.{IsChanged}
+use Rattle.directory_runs.specs.Changes.{IsChanged}
+use Rattle.published_view.specs.Traces.{Trace, last_at, IsAsked}
 use Rattle.slp_loops.specs.Serving.{Ticks}
 
--- a desk between two messages: the address to which they come, its clock, the history that it has seen, whether it sees what its last change published, and whether a line waits to be written out
+-- a desk between two messages: the address to which they come, its clock, what it was asked and where, the newest first, whether it sees what its last change published, and whether a line waits to be written out
 pub record Standing (M : Type 0) : Type 0 where
   pub own : ℕ
   pub moments : M
-  pub view : History
+  pub view : Trace
   pub told : Bool
   pub is_unsettled : Bool
 
@@ -27,21 +29,25 @@ abbrev pub told_line : ℕ → List ℕ → Result Sent NoMemory → Answer → 
 told_line asker message (Ok _) answer = answer.audit.items
 told_line asker message (Err _) answer = line_of no_rules asker (heading_of message) (refusal_outcome (heading_of message))
 
--- bytes that ask for a change were answered at some history, and what is seen goes on from the history after them, where that was told
+-- bytes that ask for a change were answered at a legal history, and what is seen goes on from the history after them, where that was told
 pub record IsServedChange (o : Opening) (c : Call) (what : Sent) (answer : Answer) (is_told : Bool) (seen : History) : Type 0 where
   pub before : History
   pub after : History
+  pub legal : IsLegal o after
   pub changed : IsChanged o before c.moment c.asker c.bytes what answer.bytes.items answer.audit.items after
   pub told : is_told ≡ true → IsPast after seen
 
 module _ {M : Type 0} (o : Opening) (may : Ticks M) where
-  -- At a moment that its clock may answer, it answers a question at the history that it then sees, and a change at some history. It forgets nothing that it saw, and the line of the message waits to be written out.
+  -- At a moment that its clock may answer, it answers a question at the published history that it then sees, and a change at some history. It forgets nothing that it saw, and the line of the message waits to be written out.
   pub record DeskSteps (before : Standing M) (asker : ℕ) (message : List ℕ) (limit : ℕ) (outcome : Result Sent NoMemory) (answer : Answer) (after : Standing M) : Type 0 where
     pub moment : ℕ
     pub ticked : may before.moments moment after.moments
-    pub later : IsPast before.view after.view
-    pub asked : is_change_of message ≡ false → IfOk outcome (λ what. Replies o after.view (record { own = before.own; moment = moment; asker = asker; bytes = message; limit = limit }) what answer.bytes.items answer.audit.items)
-    pub changed : is_change_of message ≡ true → IfOk outcome (λ what. IsServedChange o (record { own = before.own; moment = moment; asker = asker; bytes = message; limit = limit }) what answer after.told after.view)
+    pub later : IsPast (last_at before.view) (last_at after.view)
+    pub asked : is_change_of message ≡ false → OnOk outcome (IsAsked o before.view (Some (record { own = before.own; moment = moment; asker = asker; bytes = message; limit = limit })) after.view)
+    pub replied : is_change_of message ≡ false → IfOk outcome (λ what. Replies o (last_at after.view) (record { own = before.own; moment = moment; asker = asker; bytes = message; limit = limit }) what answer.bytes.items answer.audit.items)
+    pub untold : is_change_of message ≡ false → OnErr outcome ((after.view ≡ before.view) ⊎ IsAsked o before.view (Some (record { own = before.own; moment = moment; asker = asker; bytes = message; limit = limit })) after.view)
+    pub looked : is_change_of message ≡ true → (after.view ≡ before.view) ⊎ IsAsked o before.view None after.view
+    pub changed : is_change_of message ≡ true → IfOk outcome (λ what. IsServedChange o (record { own = before.own; moment = moment; asker = asker; bytes = message; limit = limit }) what answer after.told (last_at after.view))
     pub unasked : is_change_of message ≡ false → after.told ≡ before.told
     pub refused : OnErr outcome (after.told ≡ before.told)
     pub own : after.own ≡ before.own

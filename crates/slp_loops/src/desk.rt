@@ -1,9 +1,11 @@
 //! The desk: what serves the messages of one address.
-ghost use Rattle.std.specs.Prelude.{◌≡◌, ◌≤◌, ◌||◌, true, false, nat_lt, length, IfOk, OnErr};
+ghost use Rattle.std.specs.Prelude.{◌≡◌, ◌⊎◌, ◌≤◌, ◌||◌, true, false, nat_lt, length, None, Some, IfOk, OnErr, OnOk};
 ghost use Rattle.directory_questions.specs.Answers.{is_change_of};
 ghost use Rattle.directory_questions.specs.Calls.{call_in};
+ghost use Rattle.directory_questions.specs.Verdicts.{IsLegal};
 ghost use Rattle.history_log.specs.Pasts.{IsPast};
-ghost use Rattle.published_view.specs.Changes.{IsChanged};
+ghost use Rattle.directory_runs.specs.Changes.{IsChanged};
+ghost use Rattle.published_view.specs.Traces.{last_at, IsAsked};
 ghost use Rattle.slp_answer.specs.Answers.{Replies};
 ghost use Rattle.slp_loops.specs.Desks.{IsServedChange};
 
@@ -55,6 +57,7 @@ fn change_and_note<J: Naming, Q: Wait + Drop>(
 ) -> Result<(Sent, Result<Note<J>, ViewFault>), ViewFault>
     requires { is_change_of call.now.bytes.now ≡ true }
     ensures made { IfOk result (λ p. IsChanged J.opening writer.old.history call.now.moment call.now.asker call.now.bytes.now p.0 answer.new.bytes.items answer.new.audit.items writer.new.history) }
+    ensures legal { OnOk result (IsLegal J.opening writer.new.history) }
     ensures noted { IfOk result (λ p. IfOk p.1 (λ n. n ≡ writer.new.history)) }
 {
     let sent = writer.change(alloc, call.moment, call.asker, call.bytes, answer)?;
@@ -105,8 +108,9 @@ impl<'r, 's, J: Naming, R: Wait, M: Moments + Drop, G: Gate, W: Write> Desk<'r, 
     // Has the writer make a change, gives its lock back, and then sees what it published.
     fn change(&mut self, call: &Call<'_>, answer: &mut Answer) -> Result<Sent, ViewFault>
         requires { is_change_of call.now.bytes.now ≡ true }
-        ensures later { IsPast self.old.view self.new.view }
-        ensures served { IfOk result (λ what. IsServedChange J.opening (call_in call.now) what answer.new self.new.told self.new.view) }
+        ensures later { IsPast (last_at self.old.view) (last_at self.new.view) }
+        ensures looked { (self.new.view ≡ self.old.view) ⊎ IsAsked J.opening self.old.view None self.new.view }
+        ensures served { IfOk result (λ what. IsServedChange J.opening (call_in call.now) what answer.new self.new.told (last_at self.new.view)) }
         ensures refused { OnErr result (self.new.told ≡ self.old.told) }
         ensures kept { self.new ≡ record self.old { view = self.new.view; told = self.new.told } }
     {
@@ -125,9 +129,12 @@ impl<'r, 's, J: Naming, R: Wait, M: Moments + Drop, G: Gate, W: Write> Desk<'r, 
     fn answer(&mut self, call: &Call<'_>, answer: &mut Answer) -> Result<Sent, ViewFault>
         requires least { 1400 ≤ call.now.limit }
         requires most { call.now.limit ≤ 65535 }
-        ensures later { IsPast self.old.view self.new.view }
-        ensures asked { is_change_of call.now.bytes.now ≡ false → IfOk result (λ what. Replies J.opening self.new.view (call_in call.now) what answer.new.bytes.items answer.new.audit.items) }
-        ensures served { is_change_of call.now.bytes.now ≡ true → IfOk result (λ what. IsServedChange J.opening (call_in call.now) what answer.new self.new.told self.new.view) }
+        ensures later { IsPast (last_at self.old.view) (last_at self.new.view) }
+        ensures asked { is_change_of call.now.bytes.now ≡ false → OnOk result (IsAsked J.opening self.old.view (Some (call_in call.now)) self.new.view) }
+        ensures replied { is_change_of call.now.bytes.now ≡ false → IfOk result (λ what. Replies J.opening (last_at self.new.view) (call_in call.now) what answer.new.bytes.items answer.new.audit.items) }
+        ensures untold { is_change_of call.now.bytes.now ≡ false → OnErr result ((self.new.view ≡ self.old.view) ⊎ IsAsked J.opening self.old.view (Some (call_in call.now)) self.new.view) }
+        ensures looked { is_change_of call.now.bytes.now ≡ true → (self.new.view ≡ self.old.view) ⊎ IsAsked J.opening self.old.view None self.new.view }
+        ensures served { is_change_of call.now.bytes.now ≡ true → IfOk result (λ what. IsServedChange J.opening (call_in call.now) what answer.new self.new.told (last_at self.new.view)) }
         ensures refused { OnErr result (self.new.told ≡ self.old.told) }
         ensures unasked { is_change_of call.now.bytes.now ≡ false → self.new.told ≡ self.old.told }
         ensures kept { self.new ≡ record self.old { view = self.new.view; told = self.new.told } }
