@@ -9,11 +9,12 @@
 # make uninstall   takes away what make install put, and leaves /etc/slpda alone: seconds
 # make test        the gate, which proves and tries all from nothing: an hour or more, on 4 processors
 # make wrong       tries the wrong bodies beside the gate, or CRATE=slp_text those of one crate: 90 minutes; needs python3
+# make scripts     tries the tools of contrib/, make install and make/build over files and stand-ins alone: seconds; needs python3
 # make bench       counts what a message costs, and measures the server: minutes, once make build is done; needs valgrind, python3, cc
 # make refusals    refuses each request for memory of the programs in turn: minutes, once make build is done; needs python3
 # make hostile     sends the server ten million broken messages, or count=N, and asks whether anyone else noticed: minutes; needs make build, python3
 # What is proved is kept in crates/*/out: a second call proves what changed since, and what stands on it. All that builds needs python3.
-.PHONY: help try build demo run day install uninstall test wrong bench refusals hostile
+.PHONY: help try build demo run day install uninstall test wrong scripts bench refusals hostile
 .DEFAULT_GOAL := help
 
 script := examples/printer.script
@@ -88,6 +89,9 @@ test:
 
 wrong:
 	@wrong/try $(CRATE)
+
+scripts:
+	@contrib/try
 
 bench:
 	@bench/instructions bin/slpreplay
