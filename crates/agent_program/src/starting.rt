@@ -11,7 +11,7 @@ use crate::threads::{Job, serve};
 use published_view::{Gate, LoopView, Naming, Opened, open};
 use site_config::Config;
 use site_opening::StartFault;
-use slp_loops::{AgentLoop, Desk, Moments, Shared, WallClock};
+use slp_loops::{AgentLoop, Desk, Moments, Shared, SharedOutput, WallClock};
 use std::alloc::Global;
 use std::io::{Read, Write};
 use std::marker::Brand;
@@ -29,7 +29,8 @@ pub struct Ends<'s, G: Gate, I: Read, W: Write> {
     pub gate: &'s G,
 }
 
-type AgentDesk<'r, 's, J, R, G, W> = Desk<'r, 's, J, R, WallClock<'r, R>, G, W>;
+type AgentDesk<'r, 's, J, R, G, W> =
+    Desk<'r, 's, J, R, WallClock<'r, R>, G, SharedOutput<'r, 's, R, W>>;
 
 type AgentJob<'r, 's, J, R, G, W> = Job<AgentDesk<'r, 's, J, R, G, W>, Sweeping<'r, 's, J, R>>;
 

@@ -14,17 +14,18 @@ use Rattle.directory_runs.specs.Turns.{Telling, Turn, Deed, AreDone, AreTurns, I
 use Rattle.directory_runs.proofs.Turns.{is_a_run}
 use Rattle.published_view.specs.Traces.{Trace, last_at}
 use Rattle.slp_loops.specs.Desks.{DeskSteps, Standing}
+use Rattle.slp_loops.specs.Logging.{Logs}
 use Rattle.slp_loops.specs.Serving.{Ticks}
 use Rattle.desk_runs.specs.Sessions.{DeskStep, asked_by, call_at, telling_of, AreDeskSteps, AreTurnsOf, HasSeen, IsTurnOf}
 
-module _ {M : Type 0} (o : Opening) (may : Ticks M) where
-  is_telling : (s : DeskStep M) (moment : ℕ) (b : Bool) (r : Result Sent NoMemory) → is_change_of s.message ≡ b → AreBytes s.message
+module _ {M L : Type 0} (o : Opening) (may : Ticks M) (writes : Logs L) where
+  is_telling : (s : DeskStep M L) (moment : ℕ) (b : Bool) (r : Result Sent NoMemory) → is_change_of s.message ≡ b → AreBytes s.message
       → (is_change_of s.message ≡ false → IfOk r (λ what. Replies o (last_at s.after.view) (call_at s moment) what s.answer.bytes.items s.answer.audit.items)) → IsTelling o (last_at s.after.view) (telling_of s moment b r)
   is_telling s moment true r is bytes replied = tt
   is_telling s moment false (Err e) is bytes replied = tt
   is_telling s moment false (Ok what) is bytes replied = (bytes, is, replied is)
 
-  turns_by : (ss : List (DeskStep M)) → AreDeskSteps o may ss → (ts : List Turn) × AreTurns o ts × (last_turn ts ≡ last_at (asked_by ss)) × AreTurnsOf o may ss ts
+  turns_by : (ss : List (DeskStep M L)) → AreDeskSteps o may writes ss → (ts : List Turn) × AreTurns o ts × (last_turn ts ≡ last_at (asked_by ss)) × AreTurnsOf o may ss ts
   turns_by [] are = ([], tt, refl, refl)
   turns_by (s ∷ ss) are =
       let below = turns_by ss are.3 in
@@ -37,7 +38,7 @@ module _ {M : Type 0} (o : Opening) (may : Ticks M) where
         (record { moment = d.moment; ticked = d.ticked; seen = refl; told = refl }, below.3),
       )
 
-  module _ (deeds : List Deed) (h : History) (done : AreDone o deeds h) (number : ℕ) (desks : ℕ → List (DeskStep M)) (each : (i : ℕ) → i < number → AreDeskSteps o may (desks i) × HasSeen (desks i) h) where
+  module _ (deeds : List Deed) (h : History) (done : AreDone o deeds h) (number : ℕ) (desks : ℕ → List (DeskStep M L)) (each : (i : ℕ) → i < number → AreDeskSteps o may writes (desks i) × HasSeen (desks i) h) where
     abbrev AreOf : ℕ → List Turn → Type 0
     AreOf i ts = AreTurns o ts × (last_turn ts ≡ last_at (asked_by (desks i))) × AreTurnsOf o may (desks i) ts
 

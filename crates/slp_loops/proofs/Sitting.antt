@@ -1,13 +1,13 @@
 -- What is known of streams that sit there.
-use Rattle.std.proofs.Common.{◌≡◌, ◌≢◌, ℕ, ◌+◌, ◌<◌, ◌≤◌, List, Option, Some, None, length, refl, sym, ap, ◌∙◌, inl, inr, arith}
+use Rattle.std.proofs.Common.{◌≡◌, ◌≢◌, ℕ, ◌+◌, ◌<◌, ◌≤◌, nat_lt, Bool, true, false, if◌then◌else◌, List, Option, Some, None, length, refl, sym, ap, ◌∙◌, inl, inr, arith}
 use Rattle.std.specs.Prelude.{◌⊎◌, IfNone, IsSome, OnSome}
 use Rattle.std.specs.Option.{option_map}
 use Rattle.std.proofs.Math.ListN.{get_or-map}
-use Rattle.std.proofs.lemmas.Bool.{cases_eq}
+use Rattle.std.proofs.lemmas.Bool.{cases_eq, ltb-true, ltb-false}
 use Rattle.std.proofs.lemmas.Option.{none-some, same_Some}
 use Rattle.slab.specs.Slab.{Slab, Updates, get, slab_len, with_value}
 use Rattle.slab.proofs.SlabLemmas.{ContainsKey-within, Updates-with_value}
-use Rattle.slp_loops.specs.Holding.{HasNoOther, KeepsOthers, NoneSits, moment_of}
+use Rattle.slp_loops.specs.Holding.{HasNoOther, IsStillest, KeepsOthers, NoneSits, moment_of, stiller}
 use Rattle.slp_loops.specs.Sitting.{moments}
 use Rattle.slp_loops.specs.declared.streams.Peer.{Peer}
 
@@ -91,3 +91,63 @@ moved_sits stay now looked before after moved some late none key at is = elim (m
   | inl was ↦ none key at was
   | inr here ↦ omega (arith, here, late, some)
 ]
+
+-- what was found among the keys below one
+pub record Found (moved : List (Option ℕ)) (below : ℕ) (found : ℕ × Option ℕ) : Type 0 where
+  pub none : (key at : ℕ) → key < below → moment_of moved key ≡ Some at → (first : ℕ) × (found.1 ≡ Some first) × (first ≤ at)
+  pub is : (first : ℕ) → found.1 ≡ Some first → moment_of moved found.0 ≡ Some first
+
+module _ (moved : List (Option ℕ)) (key : ℕ) where
+  -- a key below the next one
+  last : (k : ℕ) → k < key + 1 → (k < key) ⊎ (k ≡ key)
+  last k lt = elim (cases_eq k key) [
+    | inl same ↦ inr same
+    | inr differs ↦ inl (omega (arith, lt, differs))
+  ]
+
+  at_last : (k n at : ℕ) → k ≡ key → moment_of moved key ≡ Some n → moment_of moved k ≡ Some at → n ≡ at
+  at_last k n at same is at_is = same_Some n at (sym is ∙ (ap (moment_of moved) (sym same) ∙ at_is))
+
+  -- one with a key is stiller, or not
+  one_of : (found n m : ℕ) (b : Bool) → nat_lt n m ≡ b → moment_of moved key ≡ Some n → Found moved key (found, Some m) → Found moved (key + 1) (if b then (key, Some n) else (found, Some m))
+  one_of found n m true less is before = record {
+    none = λ k at lt at_is. elim (last k lt) [
+      | inl lower ↦
+          let f = before.none k at lower at_is in
+          (n, refl, omega (arith, ltb-true n m less, same_Some m f.0 f.1, f.2))
+      | inr same ↦ (n, refl, omega (arith, at_last k n at same is at_is))
+    ];
+    is = λ first f. is ∙ f;
+  }
+  one_of found n m false less is before = record {
+    none = λ k at lt at_is. elim (last k lt) [
+      | inl lower ↦ before.none k at lower at_is
+      | inr same ↦ (m, refl, omega (arith, ltb-false n m less, at_last k n at same is at_is))
+    ];
+    is = before.is;
+  }
+
+  more : (o : Option ℕ) (found : ℕ) (least : Option ℕ) → moment_of moved key ≡ o → Found moved key (found, least) → Found moved (key + 1) (stiller (found, least) key o)
+  more None found least is before = record {
+    none = λ k at lt at_is. elim (last k lt) [
+      | inl lower ↦ before.none k at lower at_is
+      | inr same ↦ absurd (none-some at (sym is ∙ (ap (moment_of moved) (sym same) ∙ at_is)))
+    ];
+    is = before.is;
+  }
+  more (Some n) found None is before = record {
+    none = λ k at lt at_is. elim (last k lt) [
+      | inl lower ↦ let f = before.none k at lower at_is in absurd (none-some f.0 f.1)
+      | inr same ↦ (n, refl, omega (arith, at_last k n at same is at_is))
+    ];
+    is = λ first f. is ∙ f;
+  }
+  more (Some n) found (Some m) is before = one_of found n m (nat_lt n m) refl is before
+
+  -- one key more
+  pub found_more : (found : ℕ × Option ℕ) → Found moved key found → Found moved (key + 1) (stiller found key (moment_of moved key))
+  found_more found before = more (moment_of moved key) found.0 found.1 refl before
+
+-- no stream sits there longer than the stillest, so none sits there for as long where that does not
+pub none_longer : (moved : List (Option ℕ)) (found now stay : ℕ) → IsStillest found moved → ((at : ℕ) → moment_of moved found ≡ Some at → now < at + stay) → NoneSits stay now moved
+none_longer moved found now stay stillest fresh = λ key at is. let f = stillest key at is in omega (arith, fresh f.0 f.1, f.2)

@@ -1,5 +1,5 @@
 -- What a desk does with a message.
-use Rattle.std.specs.Prelude.{◌≡◌, ◌⊎◌, ℕ, nat_lt, Bool, true, false, ◌||◌, List, length, Result, Ok, Err, Some, None, IfOk, OnErr, OnOk}
+use Rattle.std.specs.Prelude.{◌≡◌, ◌⊎◌, ℕ, Bool, true, false, List, Result, Ok, Err, Some, None, IfOk, OnErr, OnOk}
 use Rattle.slp_text.specs.declared.faults.NoMemory.{NoMemory}
 use Rattle.slp_headers.specs.Headers.{heading_of}
 use Rattle.access_rules.specs.Deciding.{no_rules}
@@ -14,15 +14,16 @@ use Rattle.slp_answer.specs.declared.answer.Sent.{Sent}
 use Rattle.history_log.specs.Pasts.{IsPast}
 use Rattle.directory_runs.specs.Changes.{IsChanged}
 use Rattle.published_view.specs.Traces.{Trace, last_at, IsAsked}
+use Rattle.slp_loops.specs.Logging.{Logging, Logs, Lined}
 use Rattle.slp_loops.specs.Serving.{Ticks}
 
--- a desk between two messages: the address to which they come, its clock, what it was asked and where, the newest first, whether it sees what its last change published, and whether a line waits to be written out
-pub record Standing (M : Type 0) : Type 0 where
+-- a desk between two messages: the address to which they come, its clock, what it was asked and where, the newest first, whether it sees what its last change published, and its lines
+pub record Standing (M L : Type 0) : Type 0 where
   pub own : ℕ
   pub moments : M
   pub view : Trace
   pub told : Bool
-  pub is_unsettled : Bool
+  pub lines : Logging L
 
 -- the line of a message: that of its answer, or of a refusal where no memory was found
 abbrev pub told_line : ℕ → List ℕ → Result Sent NoMemory → Answer → List ℕ
@@ -37,9 +38,9 @@ pub record IsServedChange (o : Opening) (c : Call) (what : Sent) (answer : Answe
   pub changed : IsChanged o before c.moment c.asker c.bytes what answer.bytes.items answer.audit.items after
   pub told : is_told ≡ true → IsPast after seen
 
-module _ {M : Type 0} (o : Opening) (may : Ticks M) where
-  -- At a moment that its clock may answer, it answers a question at the published history that it then sees, and a change at some history. It forgets nothing that it saw, and the line of the message waits to be written out.
-  pub record DeskSteps (before : Standing M) (asker : ℕ) (message : List ℕ) (limit : ℕ) (outcome : Result Sent NoMemory) (answer : Answer) (after : Standing M) : Type 0 where
+module _ {M L : Type 0} (o : Opening) (may : Ticks M) (writes : Logs L) where
+  -- At a moment that its clock may answer, it answers a question at the published history that it then sees, and a change at some history. It forgets nothing that it saw, and the line of the message, whole, waits behind those that do, or is out with them.
+  pub record DeskSteps (before : Standing M L) (asker : ℕ) (message : List ℕ) (limit : ℕ) (outcome : Result Sent NoMemory) (answer : Answer) (after : Standing M L) : Type 0 where
     pub moment : ℕ
     pub ticked : may before.moments moment after.moments
     pub later : IsPast (last_at before.view) (last_at after.view)
@@ -51,4 +52,4 @@ module _ {M : Type 0} (o : Opening) (may : Ticks M) where
     pub unasked : is_change_of message ≡ false → after.told ≡ before.told
     pub refused : OnErr outcome (after.told ≡ before.told)
     pub own : after.own ≡ before.own
-    pub unsettled : after.is_unsettled ≡ (before.is_unsettled || nat_lt 0 (length (told_line asker message outcome answer)))
+    pub lined : Lined writes before.lines (told_line asker message outcome answer) after.lines

@@ -1,5 +1,6 @@
 ghost use Rattle.std.specs.Prelude.{◌≡◌, ◌≤◌, ◌<◌, ◌↔◌, length, slice_get, Some, IfOk, IfErr, IsTrue};
 ghost use Rattle.slp_loops.specs.Holding.{NoneSits, longest_stay};
+ghost use Rattle.slp_loops.specs.Turning.{Reaches};
 ghost use Rattle.slp_loops.specs.declared.fault.LoopFault.TheVariants.{Io as Failing};
 
 use crate::clock::{Moments, SteadyClock};
@@ -9,7 +10,7 @@ use crate::serve::Serve;
 use crate::streams::{LISTENER, Streams};
 use access_rules::Addr;
 use mio::net::{TcpListener, UdpSocket};
-use mio::{Events, Interest, Poll, Registry};
+use mio::{Events, Interest, Poll, Registry, Token};
 use site_config::Config;
 use std::alloc::Global;
 use std::io;
@@ -25,28 +26,42 @@ const LONGEST_WAIT: u64 = 500;
 /// How many events one wait gives.
 const EVENTS: usize = 256;
 
+// Serves the socket of an event.
+#[tactic(auto, using(crate::proofs::Reaching::reach_none))]
+fn serve_event<S: Serve>(
+    registry: &Registry,
+    token: Token,
+    datagrams: &mut Datagrams<UdpSocket>,
+    streams: &mut Streams,
+    server: &mut S,
+) -> Result<(), LoopFault>
+    ensures limit { streams.new.limit ≡ streams.old.limit }
+    ensures served { Reaches S.steps S.settles server.old server.new }
+{
+    if token == DATAGRAMS {
+        datagrams.serve_event(registry, server)
+    } else if token == LISTENER {
+        streams.accept(registry)
+    } else {
+        streams.advance(registry, token.0, server)
+    }
+}
+
 // Serves each socket that is ready. Want of memory is answered once all are served: an event that is
 // left out is not reported again.
 fn serve_events<S: Serve>(
     registry: &Registry,
     events: &Events,
-    datagrams: &mut Datagrams,
+    datagrams: &mut Datagrams<UdpSocket>,
     streams: &mut Streams,
     server: &mut S,
 ) -> Result<(), LoopFault>
-    ensures { streams.new.limit ≡ streams.old.limit }
+    ensures limit { streams.new.limit ≡ streams.old.limit }
+    ensures served { Reaches S.steps S.settles server.old server.new }
 {
     let mut outcome = Ok(());
     for event in events.iter() {
-        let token = event.token();
-        let served = if token == DATAGRAMS {
-            datagrams.serve(registry, server)
-        } else if token == LISTENER {
-            streams.accept(registry)
-        } else {
-            streams.advance(registry, token.0, server)
-        };
-        match served {
+        match serve_event(registry, event.token(), datagrams, streams, server) {
             Ok(()) => {}
             Err(LoopFault::Io) => return Err(LoopFault::Io),
             Err(fault) => outcome = Err(fault),
@@ -67,17 +82,17 @@ fn is_lost(told: Result<(), LoopFault>) -> bool
 pub struct AgentLoop<S: Serve + Drop> {
     poll: Poll,
     events: Events,
-    datagrams: Datagrams,
+    datagrams: Datagrams<UdpSocket>,
     streams: Streams,
     server: S,
 }
 
 impl<S: Serve + Drop> Model for AgentLoop<S> {
-    ghost use Rattle.slp_loops.specs.Holding.{Held};
+    ghost use Rattle.slp_loops.specs.Holding.{Looping};
 
-    ghost Value = { Held };
+    ghost Value = { Looping S };
 
-    ghost view = { λ l. l.streams };
+    ghost view = { λ l. record { limit = l.streams.limit; held = l.streams.held; moment = l.streams.moment; moved = l.streams.moved; server = l.server } };
 }
 
 // What a loop has beside its server.
@@ -85,7 +100,7 @@ impl<S: Serve + Drop> Model for AgentLoop<S> {
 struct Parts {
     poll: Poll,
     events: Events,
-    datagrams: Datagrams,
+    datagrams: Datagrams<UdpSocket>,
     streams: Streams,
 }
 
@@ -124,7 +139,7 @@ fn datagrams_at<N: Net>(
     alloc: Global,
     registry: &Registry,
     address: SocketAddr,
-) -> Result<Datagrams, LoopFault> {
+) -> Result<Datagrams<UdpSocket>, LoopFault> {
     let socket = receive(net, registry, address)?;
     Ok(Datagrams::new(alloc, socket)?)
 }
@@ -136,7 +151,7 @@ fn sockets_at<N: Net>(
     registry: &Registry,
     address: SocketAddr,
     connections: usize,
-) -> Result<(Datagrams, Streams), LoopFault>
+) -> Result<(Datagrams<UdpSocket>, Streams), LoopFault>
     ensures limit { IfOk result (λ p. p.1.limit ≡ connections) }
     ensures held { IfOk result (λ p. p.1.held ≡ 0) }
 {
@@ -204,6 +219,7 @@ impl<S: Serve + Drop> AgentLoop<S> {
         requires { place < length config.now.listen }
         ensures limit { IfOk result (λ l. l.limit ≡ config.now.connections) }
         ensures held { IfOk result (λ l. l.held ≡ 0) }
+        ensures server { IfOk result (λ l. l.server ≡ server) }
     {
         let (own, port) = listened_at(config, place);
         let address = SocketAddr::from((Ipv4Addr::from_bits(own.0), port));
@@ -248,6 +264,7 @@ impl<S: Serve + Drop> AgentLoop<S> {
     pub fn turn<M: Moments>(&mut self, steady: &mut M) -> Result<(), LoopFault>
         ensures limit { self.new.limit ≡ self.old.limit }
         ensures none { NoneSits longest_stay self.new.moment self.new.moved }
+        ensures served { Reaches S.steps S.settles self.old.server self.new.server }
     {
         let told = self.serve_ready(steady);
         self.streams.close_still();
@@ -255,8 +272,10 @@ impl<S: Serve + Drop> AgentLoop<S> {
     }
 
     // Waits, and serves what is ready.
+    #[tactic(auto, using(crate::proofs::Reaching::reach_settled))]
     fn serve_ready<M: Moments>(&mut self, steady: &mut M) -> Result<(), LoopFault>
-        ensures { self.new.limit ≡ self.old.limit }
+        ensures limit { self.new.limit ≡ self.old.limit }
+        ensures served { Reaches S.steps S.settles self.old.server self.new.server }
     {
         self.server.settle();
         let wait = Duration::from_millis(LONGEST_WAIT);
@@ -278,6 +297,7 @@ impl<S: Serve + Drop> AgentLoop<S> {
     fn take_turns<R: Wait + Clock>(&mut self, rt: &R, stop: &AtomicBool) -> Result<(), LoopFault>
         ensures limit { self.new.limit ≡ self.old.limit }
         ensures fault { IfErr result (λ e. e ≡ Failing) }
+        ensures served { Reaches S.steps S.settles self.old.server self.new.server }
     {
         let mut steady = SteadyClock::new(rt);
         for _ in rt.forever() {
@@ -296,6 +316,7 @@ impl<S: Serve + Drop> AgentLoop<S> {
     pub fn run<R: Wait + Clock>(&mut self, rt: &R, stop: &AtomicBool) -> Result<(), LoopFault>
         ensures limit { self.new.limit ≡ self.old.limit }
         ensures fault { IfErr result (λ e. e ≡ Failing) }
+        ensures served { Reaches S.steps S.settles self.old.server self.new.server }
     {
         let told = self.take_turns(rt, stop);
         self.server.settle();

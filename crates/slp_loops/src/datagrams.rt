@@ -1,23 +1,28 @@
-ghost use Rattle.std.specs.Prelude.{◌≤◌, ◌↔◌, vec_len, IsErr};
-ghost use Rattle.std_io.specs.IoError.{raw_os_error};
-ghost use Rattle.slp_loops.specs.Sockets.{IsLost};
+//! The datagrams of a loop: they are received, served and answered together.
+ghost use Rattle.std.specs.Prelude.{◌≡◌, ◌≤◌, ℕ, [], ◌++◌, take, map, length, List, Option, IfOk};
+ghost use Rattle.std.specs.declared.io.Error.{Error};
+ghost use Rattle.slp_loops.specs.Ports.{Happening, Came, Left, Runs, ServedFor, AreAnswered, IsRound, Serves, Says, IsThrough, owed, pausing, in_all};
+ghost use Rattle.slp_loops.specs.Ports as spec;
+ghost use Rattle.slp_loops.specs.Serving.{IsServed};
+ghost use Rattle.slp_loops.specs.Exchanging.{datagram, datagrams, back, back_by, dues, all_dues, received_into, Stopped};
 
+use crate::exchange::{Back, Exchange, Rest};
 use crate::fault::{LoopFault, is_socket_lost};
+use crate::port::Port;
 use crate::serve::Serve;
 use access_rules::Addr;
 use mio::net::UdpSocket;
 use mio::{Interest, Registry, Token};
-use slp_answer::{Answer, Sent, refused_reply};
+use slp_answer::refused_reply;
 use std::alloc::{AllocError, Global};
 use std::io::{self, ErrorKind};
-use std::net::{Ipv4Addr, SocketAddr};
+use std::marker::Model;
+use std::net::SocketAddr;
 
 /// The token of the socket.
 pub const DATAGRAMS: Token = Token(0xffff_ffff_ffff_fffe);
 
-/// The bytes that one datagram may bring, and those that one may take.
-const LONGEST_DATAGRAM: usize = 65_535;
-
+/// The bytes that one datagram may take back.
 const LONGEST_REPLY: usize = 1_400;
 
 /// How many datagrams are received before the first is served, and served before the first answer is
@@ -28,41 +33,9 @@ const TOGETHER: usize = 16;
 /// reported again, so that the streams get their turn.
 const ROUNDS: usize = 8;
 
-/// A datagram, and what is answered.
-#[derive(Drop)]
-struct Exchange {
-    buffer: Vec<u8>,
-    // How many bytes of the buffer have come.
-    length: usize,
-    from: SocketAddr,
-    answer: Answer,
-    is_answered: bool,
-    ghost within: { length ≤ vec_len buffer },
-}
-
-/// What a socket has after a receive.
-#[derive(Clone, Copy)]
-enum Rest {
-    /// Nothing: an event tells when more comes.
-    Nothing,
-    /// Perhaps a datagram.
-    More,
-    /// Perhaps one that could not be received now, of which no event tells.
-    Later,
-}
-
-/// A socket of datagrams, with what serving takes.
-#[derive(Drop)]
-pub struct Datagrams {
-    socket: UdpSocket,
-    exchanges: Vec<Exchange>,
-    // Whether a datagram may wait that no event will report.
-    receives_again: bool,
-}
-
 // What a socket has after a failed receive, unless the socket itself is of no use any more.
 fn rest_after(error: &io::Error) -> Result<Rest, LoopFault>
-    ensures { IsErr result ↔ IsLost (raw_os_error error.now) }
+    ensures { Says error.now result }
 {
     if is_socket_lost(error) {
         return Err(LoopFault::Io);
@@ -74,109 +47,218 @@ fn rest_after(error: &io::Error) -> Result<Rest, LoopFault>
     }
 }
 
-impl Exchange {
-    fn new(alloc: Global) -> Result<Exchange, AllocError> {
-        Ok(Exchange {
-            buffer: vec![in alloc; 0; LONGEST_DATAGRAM]?,
-            length: 0,
-            from: SocketAddr::from((Ipv4Addr::UNSPECIFIED, 0)),
-            answer: Answer::new(alloc),
-            is_answered: false,
-        })
+// Sends these bytes, where there are any.
+fn hand<P: Port>(port: &mut P, bytes: &[u8], peer: SocketAddr)
+    ensures { Runs P.may port.old (map Left (owed peer bytes.now)) port.new }
+{
+    if !bytes.is_empty() {
+        port.send(bytes, peer);
     }
+}
 
+// Who asks by a datagram from there.
+fn asker_of(peer: SocketAddr) -> Option<Addr>
+    ensures { result ≡ spec.asker_of peer }
+{
+    match peer {
+        SocketAddr::V4(v4) => Some(Addr(v4.ip().to_bits())),
+        SocketAddr::V6(_) => None,
+    }
+}
+
+impl Exchange {
     // Takes the next datagram.
-    fn receive(&mut self, socket: &UdpSocket) -> io::Result<()> {
-        let (length, from) = socket.recv_from(self.buffer.as_mut_slice())?;
+    fn receive<P: Port>(&mut self, port: &mut P) -> io::Result<()>
+        ensures { P.may port.old (received_into result self.new) port.new }
+    {
+        let (length, from) = port.receive(self.buffer.as_mut_slice())?;
         self.length = length;
         self.from = from;
         Ok(())
     }
 
-    // Makes the answer. One for which there is no memory is sent at once.
-    fn serve<S: Serve>(&mut self, socket: &UdpSocket, server: &mut S) {
-        self.is_answered = false;
-        let SocketAddr::V4(v4) = self.from else {
-            return;
-        };
-        let asker = Addr(v4.ip().to_bits());
+    // Serves it for its asker, and answers what goes back.
+    fn ask<S: Serve>(&mut self, asker: Addr, server: &mut S) -> Back
+        ensures kept { datagram self.new ≡ datagram self.old }
+        ensures served { IsServed S.steps asker 1400 server.old (datagram self.old).bytes (back_by result (datagram self.old).bytes self.new.answer.bytes.items) server.new }
+    {
         let message = &self.buffer[..self.length];
         match server.serve(asker, message, LONGEST_REPLY, &mut self.answer) {
-            Ok(Sent::Bytes(_)) => self.is_answered = true,
-            Ok(Sent::Silence) => {}
-            Err(_) => {
-                let reply = refused_reply(message);
-                let bytes = reply.as_slice();
-                if !bytes.is_empty() {
-                    let _ = socket.send_to(bytes, self.from);
-                }
-            }
+            Ok(_) => Back::Answered,
+            Err(_) => Back::Refused,
         }
     }
 
-    // Sends the answer. One that the system does not take now is dropped: datagrams may be lost, and
-    // their senders ask again.
-    fn send(&self, socket: &UdpSocket) {
-        if self.is_answered {
-            let _ = socket.send_to(self.answer.bytes.as_slice(), self.from);
+    // Serves it, where its sender may ask.
+    fn serve<S: Serve>(&mut self, server: &mut S)
+        ensures kept { datagram self.new ≡ datagram self.old }
+        ensures served { ServedFor S.steps (spec.asker_of self.old.from) server.old (datagram self.old).bytes (back self.new) server.new }
+    {
+        let Some(asker) = asker_of(self.from) else {
+            self.back = Back::Nothing;
+            return;
+        };
+        self.back = self.ask(asker, server);
+    }
+
+    // Sends what goes back.
+    fn send<P: Port>(&self, port: &mut P)
+        ensures { Runs P.may port.old (map Left (dues self.now)) port.new }
+    {
+        match self.back {
+            Back::Nothing => {}
+            Back::Answered => hand(port, self.answer.bytes.as_slice(), self.from),
+            Back::Refused => {
+                let reply = refused_reply(&self.buffer[..self.length]);
+                hand(port, reply.as_slice(), self.from);
+            }
         }
     }
 }
 
-impl Datagrams {
-    pub fn new(alloc: Global, socket: UdpSocket) -> Result<Datagrams, AllocError> {
+// Takes datagrams, one for each exchange: how many, and what the socket has then.
+fn receive_all<P: Port>(
+    exchanges: &mut [Exchange],
+    port: &mut P,
+) -> (usize, Result<Rest, LoopFault>)
+    ensures within { result.0 ≤ length exchanges.new }
+    ensures received { (pause : Option Error) × Runs P.may port.old (map Came (datagrams (take result.0 exchanges.new)) ++ pausing pause) port.new × Stopped result.0 (length exchanges.new) result.1 pause }
+{
+    let mut count = 0;
+    for exchange in exchanges.iter_mut() {
+        if let Err(e) = exchange.receive(port) {
+            return (count, rest_after(&e));
+        }
+        count += 1;
+    }
+    (count, Ok(Rest::More))
+}
+
+// Serves those that were received, in their order.
+fn serve_all<S: Serve>(exchanges: &mut [Exchange], server: &mut S)
+    ensures { AreAnswered S.steps server.old (datagrams exchanges.old) (all_dues exchanges.new) server.new }
+{
+    for exchange in exchanges.iter_mut() {
+        exchange.serve(server);
+    }
+}
+
+// Sends what goes back for each, in their order.
+fn send_all<P: Port>(exchanges: &[Exchange], port: &mut P)
+    ensures { Runs P.may port.old (map Left (all_dues exchanges.now)) port.new }
+{
+    for exchange in exchanges {
+        exchange.send(port);
+    }
+}
+
+// Receives as many as there are exchanges, at most, and answers them. The lines of all are out before the first answer is.
+fn serve_round<P: Port, S: Serve>(
+    exchanges: &mut [Exchange],
+    port: &mut P,
+    server: &mut S,
+) -> Result<Rest, LoopFault>
+    requires { length exchanges.old ≡ 16 }
+    ensures { (hs : List Happening) × Runs P.may port.old hs port.new × IsRound S.steps S.settles server.old hs server.new × IsThrough 16 result hs }
+{
+    let (count, told) = receive_all(exchanges, port);
+    let front = &mut exchanges[..count];
+    serve_all(front, server);
+    server.settle();
+    send_all(front, port);
+    told
+}
+
+// Whether no more are to be received now.
+fn is_over(told: Result<Rest, LoopFault>) -> bool
+    ensures { result ≡ spec.is_over told }
+{
+    match told {
+        Ok(Rest::More) => false,
+        Ok(Rest::Nothing | Rest::Later) | Err(_) => true,
+    }
+}
+
+/// A socket of datagrams, with what serving takes. Contracts see the socket.
+#[derive(Drop)]
+pub struct Datagrams<P: Port + Drop> {
+    port: P,
+    exchanges: Vec<Exchange>,
+    // Whether a datagram may wait that no event will report.
+    receives_again: bool,
+}
+
+impl<P: Port + Drop> Model for Datagrams<P> {
+    ghost use Rattle.std.specs.Prelude.{◌≡◌, length};
+
+    ghost Value = { P };
+
+    ghost view = { λ d. d.port };
+
+    ghost invariant = { λ d. length d.exchanges.items ≡ 16 };
+}
+
+impl<P: Port + Drop> Datagrams<P> {
+    pub fn new(alloc: Global, port: P) -> Result<Datagrams<P>, AllocError>
+        ensures { IfOk result (λ d. d ≡ port) }
+    {
         let mut exchanges = Vec::with_capacity(alloc, TOGETHER)?;
         for _ in 0..TOGETHER {
             exchanges.push(Exchange::new(alloc)?)?;
         }
         Ok(Datagrams {
-            socket,
+            port,
             exchanges,
             receives_again: false,
         })
     }
 
-    // Takes datagrams, one for each exchange: how many, and what the socket has then.
-    fn receive(&mut self) -> (usize, Result<Rest, LoopFault>) {
-        for (count, exchange) in self.exchanges.iter_mut().enumerate() {
-            if let Err(e) = exchange.receive(&self.socket) {
-                return (count, rest_after(&e));
+    // Receives as many as there are exchanges, at most, and answers them: what the socket has then.
+    fn serve_some<S: Serve>(&mut self, server: &mut S) -> Result<Rest, LoopFault>
+        ensures { (hs : List Happening) × Runs P.may self.old hs self.new × IsRound S.steps S.settles server.old hs server.new × IsThrough 16 result hs }
+    {
+        serve_round(self.exchanges.as_mut_slice(), &mut self.port, server)
+    }
+
+    /// Serves what has come, a bounded number at most: what the socket has then, or `Io` where the socket itself failed.
+    pub fn serve<S: Serve>(&mut self, server: &mut S) -> Result<Rest, LoopFault>
+        ensures { (rounds : List (List Happening)) × Runs P.may self.old (in_all rounds) self.new × Serves S.steps S.settles server.old rounds server.new × IsThrough 128 result (in_all rounds) }
+    {
+        for _ in 0..ROUNDS {
+            let told = self.serve_some(server);
+            if is_over(told) {
+                return told;
             }
         }
-        (self.exchanges.len(), Ok(Rest::More))
+        Ok(Rest::More)
+    }
+}
+
+impl Datagrams<UdpSocket> {
+    // Has what is left reported again, or notes that no event will report it.
+    fn note(
+        &mut self,
+        told: Result<Rest, LoopFault>,
+        registry: &Registry,
+    ) -> Result<(), LoopFault> {
+        let rest = told?;
+        self.receives_again = rest == Rest::Later;
+        if rest == Rest::More {
+            registry.reregister(&mut self.port, DATAGRAMS, Interest::READABLE)?;
+        }
+        Ok(())
     }
 
-    // Answers those that were received, in their order.
-    fn answer<S: Serve>(&mut self, count: usize, server: &mut S) {
-        for exchange in self.exchanges.iter_mut().take(count) {
-            exchange.serve(&self.socket, server);
-        }
-        for exchange in self.exchanges.iter().take(count) {
-            exchange.send(&self.socket);
-        }
-    }
-
-    /// Serves what has come. `Io` where the socket itself failed.
-    pub fn serve<S: Serve>(
+    /// Serves what has come, which is reported again where there may be more. `Io` where the socket itself failed.
+    pub fn serve_event<S: Serve>(
         &mut self,
         registry: &Registry,
         server: &mut S,
-    ) -> Result<(), LoopFault> {
-        self.receives_again = false;
-        for _ in 0..ROUNDS {
-            let (count, rest) = self.receive();
-            self.answer(count, server);
-            match rest? {
-                Rest::More => {}
-                Rest::Nothing => return Ok(()),
-                Rest::Later => {
-                    self.receives_again = true;
-                    return Ok(());
-                }
-            }
-        }
-        registry.reregister(&mut self.socket, DATAGRAMS, Interest::READABLE)?;
-        Ok(())
+    ) -> Result<(), LoopFault>
+        ensures { (rounds : List (List Happening)) × Serves S.steps S.settles server.old rounds server.new }
+    {
+        let told = self.serve(server);
+        self.note(told, registry)
     }
 
     /// Serves what could not be received at the last try.
@@ -184,9 +266,11 @@ impl Datagrams {
         &mut self,
         registry: &Registry,
         server: &mut S,
-    ) -> Result<(), LoopFault> {
+    ) -> Result<(), LoopFault>
+        ensures { (rounds : List (List Happening)) × Serves S.steps S.settles server.old rounds server.new }
+    {
         if self.receives_again {
-            self.serve(registry, server)
+            self.serve_event(registry, server)
         } else {
             Ok(())
         }

@@ -1,5 +1,5 @@
 //! The desk: what serves the messages of one address.
-ghost use Rattle.std.specs.Prelude.{◌≡◌, ◌⊎◌, ◌≤◌, ◌||◌, true, false, nat_lt, length, None, Some, IfOk, OnErr, OnOk};
+ghost use Rattle.std.specs.Prelude.{◌≡◌, ◌⊎◌, ◌≤◌, [], true, false, None, Some, IfOk, OnErr, OnOk};
 ghost use Rattle.directory_questions.specs.Answers.{is_change_of};
 ghost use Rattle.directory_questions.specs.Calls.{call_in};
 ghost use Rattle.directory_questions.specs.Verdicts.{IsLegal};
@@ -10,6 +10,7 @@ ghost use Rattle.slp_answer.specs.Answers.{Replies};
 ghost use Rattle.slp_loops.specs.Desks.{IsServedChange};
 
 use crate::clock::Moments;
+use crate::log::{Lines, Log, SharedOutput};
 use crate::serve::Serve;
 use access_rules::Addr;
 use published_view::{DirectoryWriter, Gate, LoopView, Naming, Note, ViewFault};
@@ -29,23 +30,21 @@ pub struct Shared<'r, 's, J: Naming, R: Wait, G: Gate, W: Write> {
     pub output: &'s Mutex<W>,
 }
 
-/// Serves messages: questions from what is published, without waiting for it, and changes under the writer's lock. It
-/// writes the line of each that is judged, whole and once, to an output that threads share.
+/// Serves messages: questions from what is published, without waiting for it, and changes under the writer's lock. The line of
+/// each that is judged goes to its log, whole and once: it waits there until the desk settles.
 #[derive(Drop)]
-pub struct Desk<'r, 's, J: Naming, R: Wait, M: Moments + Drop, G: Gate, W: Write> {
+pub struct Desk<'r, 's, J: Naming, R: Wait, M: Moments + Drop, G: Gate, L: Log + Drop> {
     rt: &'r R,
     alloc: Global,
     view: LoopView<J>,
     writer: &'s Mutex<DirectoryWriter<J, &'r R>>,
     gate: &'s G,
-    output: &'s Mutex<W>,
+    lines: Lines<L>,
     /// The address of the directory to which the messages come.
     pub own: Addr,
     pub moments: M,
     /// Whether this desk sees what the last change that it answered published, and all that was published before. At first it is set.
     pub told: bool,
-    // Whether a line was written since the last time that the output was flushed.
-    is_unsettled: bool,
 }
 
 // What came of a change, and how far its writer then was.
@@ -64,47 +63,55 @@ fn change_and_note<J: Naming, Q: Wait + Drop>(
     Ok((sent, writer.note()))
 }
 
-impl<'r, 's, J: Naming, R: Wait, M: Moments + Drop, G: Gate, W: Write> Desk<'r, 's, J, R, M, G, W> {
+impl<'r, 's, J: Naming, R: Wait, M: Moments + Drop, G: Gate, W: Write> Desk<
+    'r,
+    's,
+    J,
+    R,
+    M,
+    G,
+    SharedOutput<'r, 's, R, W>,
+> {
     /// A desk for messages that come to an address of the directory. Takes no memory.
     pub fn new(
         view: LoopView<J>,
         shared: &Shared<'r, 's, J, R, G, W>,
         own: Addr,
         moments: M,
-    ) -> Desk<'r, 's, J, R, M, G, W>
+    ) -> Desk<'r, 's, J, R, M, G, SharedOutput<'r, 's, R, W>>
         ensures own { result.own ≡ own }
         ensures moments { result.moments ≡ moments }
         ensures view { result.view ≡ view }
         ensures told { result.told ≡ true }
-        ensures settled { result.is_unsettled ≡ false }
+        ensures settled { result.lines.waiting ≡ [] }
     {
+        let log = SharedOutput {
+            rt: shared.rt,
+            output: shared.output,
+        };
         Desk {
             rt: shared.rt,
             alloc: shared.alloc,
             view,
             writer: shared.writer,
             gate: shared.gate,
-            output: shared.output,
+            lines: Lines::new(shared.alloc, log),
             own,
             moments,
             told: true,
-            is_unsettled: false,
         }
     }
+}
 
-    // Writes a line. A failing write is ignored: what is answered does not depend on who reads the lines.
-    fn tell(&mut self, line: &[u8])
-        ensures kept { self.new ≡ record self.old { is_unsettled = self.new.is_unsettled } }
-        ensures unsettled { self.new.is_unsettled ≡ (self.old.is_unsettled || nat_lt 0 (length line.now)) }
-    {
-        if line.is_empty() {
-            return;
-        }
-        let mut output = self.output.lock(self.rt);
-        let _ = output.write_all(line);
-        self.is_unsettled = true;
-    }
-
+impl<'r, 's, J: Naming, R: Wait, M: Moments + Drop, G: Gate, L: Log + Drop> Desk<
+    'r,
+    's,
+    J,
+    R,
+    M,
+    G,
+    L,
+> {
     // Has the writer make a change, gives its lock back, and then sees what it published.
     fn change(&mut self, call: &Call<'_>, answer: &mut Answer) -> Result<Sent, ViewFault>
         requires { is_change_of call.now.bytes.now ≡ true }
@@ -155,17 +162,18 @@ impl<'r, 's, J: Naming, R: Wait, M: Moments + Drop, G: Gate, W: Write> Desk<'r, 
     }
 }
 
-impl<'r, 's, J: Naming, R: Wait, M: Moments + Drop, G: Gate, W: Write> Serve
-    for Desk<'r, 's, J, R, M, G, W> {
-    ghost use Rattle.std.specs.Prelude.{◌≡◌, false};
+impl<'r, 's, J: Naming, R: Wait, M: Moments + Drop, G: Gate, L: Log + Drop> Serve
+    for Desk<'r, 's, J, R, M, G, L> {
+    ghost use Rattle.std.specs.Prelude.{◌≡◌};
     ghost use Rattle.slp_loops.specs.Desks.{DeskSteps};
+    ghost use Rattle.slp_loops.specs.Logging.{IsOut};
 
-    ghost steps = { λ before asker message limit outcome answer after. DeskSteps J.opening M.may
-        (record { own = before.own; moments = before.moments; view = before.view; told = before.told; is_unsettled = before.is_unsettled })
+    ghost steps = { λ before asker message limit outcome answer after. DeskSteps J.opening M.may L.writes
+        (record { own = before.own; moments = before.moments; view = before.view; told = before.told; lines = before.lines })
         asker message limit outcome answer
-        (record { own = after.own; moments = after.moments; view = after.view; told = after.told; is_unsettled = after.is_unsettled }) };
+        (record { own = after.own; moments = after.moments; view = after.view; told = after.told; lines = after.lines }) };
 
-    ghost settles = { λ before after. after ≡ record before { is_unsettled = false } };
+    ghost settles = { λ before after. (after ≡ record before { lines = after.lines }) × IsOut L.writes before.lines after.lines };
 
     fn serve(
         &mut self,
@@ -183,24 +191,18 @@ impl<'r, 's, J: Naming, R: Wait, M: Moments + Drop, G: Gate, W: Write> Serve
         };
         match self.answer(&call, answer) {
             Ok(sent) => {
-                self.tell(answer.audit.as_slice());
+                self.lines.push(answer.audit.as_slice());
                 Ok(sent)
             }
             Err(_) => {
                 let line = refused_line(message, asker);
-                self.tell(line.as_str().as_bytes());
+                self.lines.push(line.as_str().as_bytes());
                 Err(NoMemory)
             }
         }
     }
 
     fn settle(&mut self) {
-        if !self.is_unsettled {
-            return;
-        }
-        let mut output = self.output.lock(self.rt);
-        let _ = output.flush();
-        drop(output);
-        self.is_unsettled = false;
+        self.lines.settle();
     }
 }

@@ -27,7 +27,7 @@ pub trait Serve {
         requires most { limit ≤ 65535 }
         ensures { steps self.old asker message.now limit result answer.new self.new };
 
-    /// Its loop waits next: what was told of the messages so far is to be out before.
+    /// What was told of the messages so far is to be out when it returns: their answers leave next, or its loop waits.
     fn settle(&mut self)
         ensures { settles self.old self.new };
 }

@@ -1,7 +1,12 @@
-ghost use Rattle.std.specs.Prelude.{◌≡◌, ◌⊎◌, ◌≤◌, ◌<◌, ◌+◌, ◌↔◌, ℕ, Some, IfOk, IsTrue};
+ghost use Rattle.std.specs.Prelude.{◌≡◌, ◌⊎◌, ◌≤◌, ◌<◌, ◌+◌, ◌↔◌, ℕ, [], false, Some, IfOk, IsTrue, IsFalse};
 ghost use Rattle.slab.specs.Slab.{slab_len};
-ghost use Rattle.slp_loops.specs.Holding.{HasNoOther, KeepsOthers, NoneSits, least_stay, longest_stay, moment_of};
+ghost use Rattle.slp_loops.specs.Holding.{HasNoOther, IsStillest, KeepsOthers, NoneSits, least_stay, longest_stay, moment_of};
+ghost use Rattle.slp_loops.specs.Holding as holding;
 ghost use Rattle.slp_loops.specs.Sitting.{moments};
+ghost use Rattle.slp_loops.specs.Streaming.{Goes};
+ghost use Rattle.slp_loops.specs.Streaming as spec;
+ghost use Rattle.slp_loops.specs.Turning.{Reaches};
+ghost use Rattle.slp_loops.specs.declared.connection.Stage.TheVariants.{Reading as Begun};
 
 use crate::connection::{Connection, Next};
 use crate::fault::{LoopFault, is_socket_lost};
@@ -12,7 +17,7 @@ use mio::{Interest, Registry, Token};
 use slab::Slab;
 use std::alloc::{AllocError, Global};
 use std::io;
-use std::io::ErrorKind;
+use std::io::{ErrorKind, Read, Write};
 use std::marker::Model;
 use std::net::SocketAddr;
 
@@ -40,29 +45,55 @@ struct Peer {
     moved: u32,
 }
 
-// Reads, serves and writes until the stream is blocked. `More` where it is not yet.
-fn take_steps<S: Serve>(
+// What is answered where a stream ends its turn after a read and a write.
+fn end_of(read: Next, written: Next) -> Option<Next>
+    ensures { result ≡ spec.end_of read written }
+{
+    match (read, written) {
+        (_, Next::Closed) => Some(Next::Closed),
+        (Next::Blocked, Next::Blocked) => Some(Next::Blocked),
+        _ => None,
+    }
+}
+
+// Reads, serves and writes until the stream is blocked. `More` where it is not yet. What was told of the messages is out before
+// their replies are written.
+fn take_steps<T: Read + Write, S: Serve>(
     connection: &mut Connection,
-    stream: &mut TcpStream,
+    stream: &mut T,
     server: &mut S,
-) -> Result<Next, LoopFault> {
+) -> Result<Next, LoopFault>
+    ensures { Goes S.steps S.settles 16 (record { brings = T.remaining stream.old; taken = T.contents stream.old; link = connection.old; server = server.old })
+        result (record { brings = T.remaining stream.new; taken = T.contents stream.new; link = connection.new; server = server.new }) }
+{
     for _ in 0..STEPS_AT_ONCE {
         let read = connection.on_readable(stream, server)?;
+        server.settle();
         let written = connection.on_writable(stream)?;
-        if written == Next::Closed {
-            return Ok(Next::Closed);
-        }
-        if read == Next::Blocked && written == Next::Blocked {
-            return Ok(Next::Blocked);
+        if let Some(next) = end_of(read, written) {
+            return Ok(next);
         }
     }
     Ok(Next::More)
 }
 
 impl Peer {
+    // A stream that came at a moment.
+    fn new(alloc: Global, stream: TcpStream, asker: Addr, now: u32) -> Peer
+        ensures connection { result.connection ≡ record { asker = asker; unserved = []; waiting = []; stage = Begun; moved = false } }
+        ensures moved { result.moved ≡ now }
+    {
+        Peer {
+            stream,
+            connection: Connection::new(alloc, asker),
+            moved: now,
+        }
+    }
+
     // Lets the stream go on at a moment, and notes where it moved.
     fn advance<S: Serve>(&mut self, server: &mut S, now: u32) -> Result<Next, LoopFault>
-        ensures { (self.new.moved ≡ self.old.moved) ⊎ (self.new.moved ≡ now) }
+        ensures moved { (self.new.moved ≡ self.old.moved) ⊎ (self.new.moved ≡ now) }
+        ensures served { Reaches S.steps S.settles server.old server.new }
     {
         let told = take_steps(&mut self.connection, &mut self.stream, server);
         if self.connection.has_moved() {
@@ -140,6 +171,7 @@ impl Streams {
     // Closes the stream that has sat there longest, where that is 60 seconds, and answers whether there is a place now.
     fn give_place(&mut self) -> bool
         ensures room { IsTrue result → self.new.held < self.new.limit }
+        ensures gives { IsFalse result → NoneSits least_stay self.new.moment self.new.moved }
         ensures kept { KeepsOthers least_stay self.old.moment self.old.moved self.new.moved }
         ensures only { HasNoOther self.old.moved self.new.moved }
         ensures limit { self.new.limit ≡ self.old.limit }
@@ -184,12 +216,9 @@ impl Streams {
         }
         // Without it a short reply may wait; where it is refused, it is only slower.
         let _ = stream.set_nodelay(true);
-        let connection = Connection::new(self.alloc, Addr(v4.ip().to_bits()));
-        self.peers.insert_reserved(Peer {
-            stream,
-            connection,
-            moved: self.moment,
-        });
+        let asker = Addr(v4.ip().to_bits());
+        let peer = Peer::new(self.alloc, stream, asker, self.moment);
+        self.peers.insert_reserved(peer);
     }
 
     /// Accepts what waits. `Io` where the listener itself failed.
@@ -237,7 +266,8 @@ impl Streams {
         key: usize,
         server: &mut S,
     ) -> Result<(), LoopFault>
-        ensures { self.new.limit ≡ self.old.limit }
+        ensures limit { self.new.limit ≡ self.old.limit }
+        ensures served { Reaches S.steps S.settles server.old server.new }
     {
         match advance_at(&mut self.peers, server, registry, key, self.moment) {
             Ok(Next::Closed) => {
@@ -271,6 +301,7 @@ fn moved_at(peers: &Slab<Peer>, key: usize) -> Option<u32>
 fn close_where_still(peers: &mut Slab<Peer>, key: usize, now: u32, stay: u32) -> bool
     requires { 0 < stay }
     ensures closed { (at : ℕ) → moment_of (moments peers.new) key ≡ Some at → now < at + stay }
+    ensures same { IsFalse result → peers.new ≡ peers.old }
     ensures kept { KeepsOthers stay now (moments peers.old) (moments peers.new) }
     ensures only { HasNoOther (moments peers.old) (moments peers.new) }
     ensures room { IsTrue result → slab_len peers.new + 1 ≡ slab_len peers.old }
@@ -300,18 +331,32 @@ fn close_all_still(peers: &mut Slab<Peer>, now: u32)
     }
 }
 
-// The key of the stream that has sat there longest; 0 where there is none.
-fn stillest(peers: &Slab<Peer>) -> usize {
-    let (mut found, mut least) = (0, u32::MAX);
-    for (key, peer) in peers.iter() {
-        if peer.moved < least {
-            (found, least) = (key, peer.moved);
-        }
+// The stiller of two streams: the one that was found, and since when it sits there, and one with a key.
+fn stiller(found: (usize, Option<u32>), key: usize, moved: Option<u32>) -> (usize, Option<u32>)
+    ensures { result ≡ holding.stiller found key moved }
+{
+    let Some(at) = moved else {
+        return found;
+    };
+    match found.1 {
+        Some(first) if at >= first => found,
+        _ => (key, Some(at)),
     }
-    found
+}
+
+// The key of the stream that has sat there longest; 0 where there is none.
+fn stillest(peers: &Slab<Peer>) -> usize
+    ensures { IsStillest result (moments peers.now) }
+{
+    let mut found = (0, None);
+    for key in 0..peers.capacity() {
+        found = stiller(found, key, moved_at(peers, key));
+    }
+    found.0
 }
 
 // Lets the connection with this key go on, at a moment.
+#[tactic(auto, using(crate::proofs::Reaching::reach_none))]
 fn advance_at<S: Serve>(
     peers: &mut Slab<Peer>,
     server: &mut S,
@@ -322,6 +367,7 @@ fn advance_at<S: Serve>(
     ensures len { slab_len peers.new ≡ slab_len peers.old }
     ensures capacity { peers.new.capacity ≡ peers.old.capacity }
     ensures moved { (k at : ℕ) → moment_of (moments peers.new) k ≡ Some at → (moment_of (moments peers.old) k ≡ Some at) ⊎ (at ≡ now) }
+    ensures served { Reaches S.steps S.settles server.old server.new }
 {
     let Some(peer) = peers.get_mut(key) else {
         return Ok(Next::Blocked);

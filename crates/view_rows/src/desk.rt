@@ -5,7 +5,7 @@ use access_rules::Addr;
 use expiry_sweep::{Schedule, Sweeper};
 use published_view::{DirectoryWriter, LoopView, Naming, OpenGate};
 use slp_answer::Answer;
-use slp_loops::{Desk, Moments, Serve, Shared};
+use slp_loops::{Desk, Moments, Serve, Shared, SharedOutput};
 use std::alloc::Global;
 use std::io::{self, Write};
 use std::sync::{Mutex, Wait};
@@ -37,7 +37,7 @@ struct Counter<'r, 's, J: Naming, R: Wait> {
     rt: &'r R,
     alloc: Global,
     held: &'s Held<'r, J, R>,
-    desk: Desk<'r, 's, J, R, Still, OpenGate, Vec<u8>>,
+    desk: Desk<'r, 's, J, R, Still, OpenGate, SharedOutput<'r, 's, R, Vec<u8>>>,
     sweeper: Sweeper,
     asker: Addr,
     answer: Answer,
@@ -78,6 +78,7 @@ impl<'r, 's, J: Naming, R: Wait> Counter<'r, 's, J, R> {
             return writeln!(out, "! 2");
         }
         print_reply(out, self.answer.bytes.as_slice())?;
+        self.desk.settle();
         let mut output = self.held.output.lock(self.rt);
         out.write_all(output.as_slice())?;
         output.clear();

@@ -1,4 +1,4 @@
-use Rattle.std.proofs.Common.{◌<◌, ℕ, ap, arith}
+use Rattle.std.proofs.Common.{◌<◌, ap, arith}
 use Rattle.slp_loops.specs.Holding.{Held, longest_stay}
 use Rattle.slp_loops.proofs.Sitting.{insertion_sits}
 use Rattle.slp_loops.proofs.streams.Streams.admit.Goals as goal
@@ -10,5 +10,5 @@ invariant_of-self c =
       omega (arith, put.len, room, ap (λ (h : Held). h.held) c.self.view_is, ap (λ (h : Held). h.limit) c.self.view_is),
       omega (arith, put.capacity, c.self.invariant.1),
       c.self.invariant.2,
-      insertion_sits c.self.inside.peers c.insert_reserved.new.self c.insert_reserved.result longest_stay c.self.inside.looked _ (omega arith) c.self.invariant.2 put.updates c.self.invariant.3,
+      insertion_sits c.self.inside.peers c.insert_reserved.new.self c.insert_reserved.result longest_stay c.self.inside.looked c.new-peer.result (omega arith) (omega (arith, c.self.invariant.2, c.new-peer.ensures.moved)) put.updates c.self.invariant.3,
     )

@@ -1,7 +1,9 @@
-use Rattle.std.proofs.Common.{arith}
-use Rattle.slp_loops.specs.Holding.{longest_stay}
+use Rattle.std.proofs.Common.{sym, ap, ◌∙◌, subst, arith}
+use Rattle.slab.specs.Slab.{Slab}
+use Rattle.slp_loops.specs.Holding.{NoneSits, least_stay, longest_stay, moment_of}
 use Rattle.slp_loops.specs.Sitting.{moments}
-use Rattle.slp_loops.proofs.Sitting.{sits_less}
+use Rattle.slp_loops.specs.declared.streams.Peer.{Peer}
+use Rattle.slp_loops.proofs.Sitting.{sits_less, none_longer}
 use Rattle.slp_loops.proofs.streams.Streams.give_place.Goals as goal
 
 pub invariant_of-self : goal.invariant_of-self
@@ -12,3 +14,9 @@ invariant_of-self c =
       c.self.invariant.2,
       sits_less longest_stay c.self.inside.looked (moments c.self.inside.peers) (moments c.close_where_still.new.peers) closed.only c.self.invariant.3,
     )
+
+pub returns-clause-gives : goal.returns-clause-gives
+returns-clause-gives c = λ no.
+    let closed = c.close_where_still.ensures in
+    subst (λ (p : Slab Peer). NoneSits least_stay c.self.inside.moment (moments p)) (sym (closed.same no))
+    (none_longer (moments c.self.inside.peers) c.stillest-key.result c.self.inside.moment least_stay c.stillest-key.ensures (λ at is. closed.closed at (ap (λ (p : Slab Peer). moment_of (moments p) c.stillest-key.result) (closed.same no) ∙ is)))
