@@ -13,7 +13,7 @@ use site_check::check_run;
 use std::alloc::Global;
 use std::fs::File;
 use std::io::{self, BufRead, BufReader, ErrorKind, Read, Write};
-use std::net::{Ipv4Addr, Net, SocketAddr, TcpListener, TcpStream};
+use std::net::{Ipv4Addr, Net, SocketAddr, TcpListener, TcpStream, UdpSocket};
 use std::rt::Files;
 use std::sync::Wait;
 use std::sync::atomic::{AtomicU64, Ordering};
@@ -74,6 +74,7 @@ pub(crate) struct Scene<'r, R> {
     streams: Vec<TcpStream>,
     sent: Vec<Sent>,
     answers: Answers,
+    held: Option<UdpSocket>,
     taken: Option<TcpListener>,
     files: Vec<File>,
     block: Option<Block>,
@@ -116,6 +117,7 @@ where
             streams: Vec::new(alloc),
             sent: Vec::new(alloc),
             answers: Answers::none(alloc),
+            held: None,
             taken: None,
             files: Vec::new(alloc),
             block: None,
@@ -185,14 +187,33 @@ where
         }
     }
 
-    // Closes the valve once all lines are out, sends a datagram whose line the agent then can't write out, and waits until it waits there.
+    // Closes the valve once all lines are out, sends a datagram whose line the agent then can't write out, and waits until it waits
+    // there. No reply may leave before.
     fn hold(&mut self, text: &str, out: &mut Vec<u8>) -> io::Result<()> {
         self.props.valve.close(self.rt);
-        self.udp(text, out)?;
-        if self.props.valve.is_reached(self.rt) {
-            Ok(())
-        } else {
-            out.write_all(b"(not held)\n")
+        let message = self.message(text)?;
+        let socket = socket(self.rt, self.place.from, QUIET)?;
+        socket.send_to(message.as_slice(), self.peer())?;
+        if !self.props.valve.is_reached(self.rt) {
+            out.write_all(b"(not held)\n")?;
+        }
+        if receive(self.alloc, &socket).is_ok() {
+            out.write_all(b"(answered)\n")?;
+        }
+        self.held = Some(socket);
+        Ok(())
+    }
+
+    // Opens the valve, and prints the reply to the datagram that was held.
+    fn release(&mut self, out: &mut Vec<u8>) -> io::Result<()> {
+        self.props.valve.open();
+        let Some(socket) = self.held.take() else {
+            return Ok(());
+        };
+        socket.set_read_timeout(Some(Duration::from_millis(self.wait())))?;
+        match receive(self.alloc, &socket) {
+            Ok((reply, _)) => self.print_reply(reply.as_slice(), out),
+            Err(_) => self.print_no_reply(out),
         }
     }
 
@@ -527,10 +548,7 @@ where
             AgentRow::Udp => self.udp(rest, out),
             AgentRow::Quiet => self.quiet(rest, out),
             AgentRow::Hold => self.hold(rest, out),
-            AgentRow::Release => {
-                self.props.valve.open();
-                Ok(())
-            }
+            AgentRow::Release => self.release(out),
             AgentRow::Log => self.log(out),
             AgentRow::Console(end) => {
                 self.type_in(rest, end);
