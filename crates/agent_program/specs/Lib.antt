@@ -1,2 +1,6 @@
+pub mod Consoles
+pub mod Jobs
 pub mod Openings
 pub mod Statuses
+pub mod Watching
+pub mod Words

@@ -1,94 +1,41 @@
 //! The words on standard input.
-ghost use Rattle.std.specs.Prelude.{◌≡◌, ◌≤◌, length, IfOk, OnOk};
+ghost use Rattle.std.specs.Prelude.{◌≡◌, ◌⊎◌, ◌∷◌, ⊤, Result, IfOk, OnOk, OnErr};
 ghost use Rattle.std.specs.Io.KnownBytes.{Appends};
+ghost use Rattle.access_rules.specs.Deciding.{number};
 ghost use Rattle.agent_program.specs.Statuses.{reload_text, sweep_text};
+ghost use Rattle.directory_judge.specs.History.{now};
+ghost use Rattle.directory_runs.specs.Changes.{reload_at, sweep_at};
+ghost use Rattle.published_view.specs.Changes.{written_at};
+ghost use Rattle.published_view.specs.declared.fault.ViewFault.{ViewFault};
 
 use crate::threads::Task;
+use crate::words::{Act, Input, Word, hear};
 use access_rules::{RuleFault, Rules};
+use arrayvec::ArrayVec;
 use published_view::{DirectoryWriter, Naming, ViewFault};
 use site_opening::{StartFault, rules_at};
 use site_reports::print_rules;
-use slp_loops::{Moments, WallClock};
+use slp_loops::{Log, Moments, WallClock};
 use slp_text::Text;
 use std::alloc::Global;
-use std::io::{self, ErrorKind, Read, Write};
+use std::io::{self, Write};
 use std::rt::Files;
 use std::sync::atomic::{AtomicBool, Ordering};
 use std::sync::{Mutex, Wait};
 use std::time::Clock;
 
-/// The bytes of a line that are kept: more than any word has.
-const LONGEST_WORD: usize = 16;
+/// No text of a reload is longer.
+const LONGEST_TEXT: usize = 64;
 
-/// The bytes that one read asks for.
-const CHUNK: usize = 256;
-
-/// What a line asks for.
-#[derive(Clone, Copy, Debug, PartialEq, Eq)]
-enum Word {
-    Reload,
-    Sweep,
-    Stop,
-    Unknown,
-}
-
-/// What reads the words and acts on them: the writer and the output, which it shares with the loops, the rule file and the clock.
+/// What acts on words: the writer, which it shares with the loops, the output, the rule file and the clock. Contracts see the output.
 #[derive(Drop)]
-pub(crate) struct Console<'r, 's, J: Naming, R: Wait + Clock, I: Read, W: Write> {
+pub(crate) struct Console<'r, 's, J: Naming, R: Wait + Clock, L: Log + Drop> {
     pub rt: &'r R,
     pub alloc: Global,
     pub writer: &'s Mutex<DirectoryWriter<J, &'r R>>,
-    pub output: &'s Mutex<W>,
+    pub output: L,
     pub rules: Option<&'s Text>,
     pub clock: WallClock<'r, R>,
-    pub input: &'s Mutex<I>,
-}
-
-/// A line that is begun. Of a long one only the beginning is kept, and its length.
-#[derive(Drop)]
-struct Line {
-    bytes: [u8; LONGEST_WORD],
-    length: usize,
-}
-
-impl Line {
-    fn new() -> Line {
-        Line {
-            bytes: [0; LONGEST_WORD],
-            length: 0,
-        }
-    }
-
-    fn push(&mut self, byte: u8) {
-        if self.length < LONGEST_WORD {
-            self.bytes[self.length] = byte;
-        }
-        self.length = self.length.saturating_add(1);
-    }
-
-    fn clear(&mut self) {
-        self.length = 0;
-    }
-
-    fn is_empty(&self) -> bool {
-        self.length == 0
-    }
-
-    // What the line asks for.
-    fn word(&self) -> Word {
-        let Some(line) = self.bytes.get(..self.length) else {
-            return Word::Unknown;
-        };
-        if line == b"reload".as_slice() {
-            Word::Reload
-        } else if line == b"sweep".as_slice() {
-            Word::Sweep
-        } else if line == b"stop".as_slice() {
-            Word::Stop
-        } else {
-            Word::Unknown
-        }
-    }
 }
 
 // Prints what came of a reload: how many rules decide from now on, or why the old ones stay.
@@ -115,119 +62,129 @@ fn sweep_line(told: Result<(), ViewFault>) -> &'static str
     }
 }
 
-impl<'r, 's, J, R, I, W> Console<'r, 's, J, R, I, W>
+// Lets these rules decide from now on, and answers how many there are.
+fn put_rules<J: Naming, Q: Wait + Drop>(
+    writer: &mut DirectoryWriter<J, Q>,
+    alloc: Global,
+    moment: u32,
+    rules: Rules,
+) -> Result<usize, StartFault>
+    ensures put { IfOk result (λ count. (count ≡ number rules) × (writer.new ≡ written_at writer.old (reload_at (now writer.old.history moment) rules ∷ writer.old.history) None)) }
+    ensures kept { OnErr result (writer.new.history ≡ writer.old.history) }
+{
+    let number = rules.len();
+    match writer.reload(alloc, moment, rules) {
+        Ok(()) => Ok(number),
+        Err(_) => Err(StartFault::NoMemory),
+    }
+}
+
+// Drops what has expired, and answers what is printed of it.
+fn sweep_and_tell<J: Naming, Q: Wait + Drop>(
+    writer: &mut DirectoryWriter<J, Q>,
+    moment: u32,
+) -> &'static str
+    ensures { (told : Result (Unit {0}) ViewFault) × (result.now ≡ sweep_text told)
+        × OnOk told (writer.new ≡ written_at writer.old (sweep_at (now writer.old.history moment) ∷ writer.old.history) None) × OnErr told (writer.new.history ≡ writer.old.history) }
+{
+    sweep_line(writer.sweep(moment))
+}
+
+impl<'r, 's, J, R, L> Console<'r, 's, J, R, L>
 where
     J: Naming,
     R: Files + Wait + Clock,
-    I: Read,
-    W: Write,
+    L: Log + Drop,
 {
-    // Prints a line, which is out at once. A failing write is ignored, as for every line of an agent.
-    fn print(&self, line: &str) {
-        let mut output = self.output.lock(self.rt);
-        let _ = output.write_all(line.as_bytes());
-        let _ = output.flush();
-    }
-
     // Lets these rules decide from now on, and answers how many there are.
-    fn put(&mut self, rules: Rules) -> Result<usize, StartFault> {
-        let number = rules.len();
+    fn put(&mut self, rules: Rules) -> Result<usize, StartFault>
+        ensures { self.new.output ≡ self.old.output }
+    {
         let moment = self.clock.now();
         let mut writer = self.writer.lock(self.rt);
-        match writer.reload(self.alloc, moment, rules) {
-            Ok(()) => Ok(number),
-            Err(_) => Err(StartFault::NoMemory),
-        }
+        put_rules(&mut *writer, self.alloc, moment, rules)
     }
 
-    // Reads the rule file again. Its rules decide from now on, unless they are refused.
-    fn reload(&mut self) {
-        let told = match rules_at(self.rt, self.alloc, self.rules) {
+    // Reads the rule file again. Its rules decide from then on, unless they are refused.
+    fn read_rules(&mut self) -> Result<usize, StartFault>
+        ensures { self.new.output ≡ self.old.output }
+    {
+        match rules_at(self.rt, self.alloc, self.rules) {
             Ok(rules) => self.put(rules),
             Err(fault) => Err(fault),
-        };
-        let mut output = self.output.lock(self.rt);
-        let _ = print_reload(told, &mut *output);
-        let _ = output.flush();
+        }
     }
 
-    // Drops what has expired.
-    fn sweep(&mut self) {
+    // Prints what came of a reload.
+    fn tell(&mut self, told: Result<usize, StartFault>)
+        ensures { (self.new.output ≡ self.old.output) ⊎ L.writes self.old.output (reload_text told) self.new.output }
+    {
+        let mut text = ArrayVec::<u8, LONGEST_TEXT>::new();
+        if print_reload(told, &mut text).is_ok() {
+            self.output.write(text.as_slice());
+        }
+    }
+
+    // Drops what has expired, and answers what is printed of it.
+    fn sweep(&mut self) -> &'static str
+        ensures { (self.new.output ≡ self.old.output) × ((told : Result (Unit {0}) ViewFault) × (result.now ≡ sweep_text told)) }
+    {
         let moment = self.clock.now();
         let mut writer = self.writer.lock(self.rt);
-        let told = writer.sweep(moment);
-        drop(writer);
-        self.print(sweep_line(told));
+        sweep_and_tell(&mut *writer, moment)
     }
+}
 
-    // Does what a line asks for, and answers whether it is not `stop`.
+impl<'r, 's, J, R, L> Act for Console<'r, 's, J, R, L>
+where
+    J: Naming,
+    R: Files + Wait + Clock,
+    L: Log + Drop,
+{
+    ghost use Rattle.std.specs.Prelude.{◌≡◌};
+    ghost use Rattle.agent_program.specs.Consoles.{Prints, goes_on};
+
+    ghost acts = { λ before word told after. (told ≡ goes_on word) × Prints L.writes word before.output after.output };
+
     fn act(&mut self, word: Word) -> bool {
         match word {
-            Word::Reload => self.reload(),
-            Word::Sweep => self.sweep(),
-            Word::Unknown => self.print("! command\n"),
-            Word::Stop => return false,
-        }
-        true
-    }
-
-    // Takes bytes that were read, and answers whether no line of them is `stop`.
-    fn take(&mut self, line: &mut Line, piece: &[u8]) -> bool {
-        for byte in piece {
-            if *byte != b'\n' {
-                line.push(*byte);
-                continue;
+            Word::Reload => {
+                let told = self.read_rules();
+                self.tell(told);
+                true
             }
-            let word = line.word();
-            line.clear();
-            if !self.act(word) {
-                return false;
+            Word::Sweep => {
+                let line = self.sweep();
+                self.output.write(line.as_bytes());
+                true
             }
-        }
-        true
-    }
-
-    // Takes what comes next.
-    fn read(&self, chunk: &mut [u8]) -> io::Result<usize>
-        ensures { IfOk result (λ count. count ≤ length chunk.new) }
-    {
-        self.input.lock(self.rt).read(chunk)
-    }
-
-    // Acts on each line until `stop` or the end of input, which stops too, as does a read that fails. A line
-    // without its end is one.
-    fn act_on_lines(&mut self) {
-        let mut line = Line::new();
-        let mut chunk = [0; CHUNK];
-        for _ in 0..u64::MAX {
-            match self.read(&mut chunk) {
-                Ok(0) => break,
-                Ok(count) => {
-                    if !self.take(&mut line, &chunk[..count]) {
-                        return;
-                    }
-                }
-                Err(e) if e.kind() == ErrorKind::Interrupted => {}
-                Err(_) => break,
+            Word::Unknown => {
+                self.output.write(b"! command\n");
+                true
             }
-        }
-        if !line.is_empty() {
-            self.act(line.word());
+            Word::Stop => false,
         }
     }
 }
 
-impl<'r, 's, J, R, I, W> Task for Console<'r, 's, J, R, I, W>
+/// A console and the input of its words.
+#[derive(Drop)]
+pub(crate) struct Operator<'r, 's, J: Naming, R: Wait + Clock, L: Log + Drop, I: Input + Drop> {
+    pub console: Console<'r, 's, J, R, L>,
+    pub input: I,
+}
+
+impl<'r, 's, J, R, L, I> Task for Operator<'r, 's, J, R, L, I>
 where
     J: Naming,
     R: Files + Wait + Clock,
-    I: Read,
-    W: Write,
+    L: Log + Drop,
+    I: Input + Drop,
 {
     // Says that the agent is ready, acts on each line until one is `stop` or the input ends, and sets the flag.
     fn run(&mut self, stop: &AtomicBool) {
-        self.print("ready\n");
-        self.act_on_lines();
+        self.console.output.write(b"ready\n");
+        hear(self.console.rt, &mut self.input, &mut self.console);
         stop.store(true, Ordering::SeqCst);
     }
 }

@@ -8,6 +8,8 @@ mod program;
 mod starting;
 mod sweeping;
 mod threads;
+mod watching;
+mod words;
 
 pub use program::agent_run;
 pub use starting::{Ends, start_loops};

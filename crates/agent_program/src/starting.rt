@@ -1,17 +1,19 @@
 //! How a server starts: what its configuration names is opened, each of its addresses has a loop, and each loop a thread.
-ghost use Rattle.std.specs.Prelude.{◌≡◌, ◌<◌, ◌+◌, length, vec_len, slice_get, Some, IfOk};
+ghost use Rattle.std.specs.Prelude.{◌≡◌, ◌<◌, length, vec_len, slice_get, slice_index_or, Some, IfOk};
 ghost use Rattle.std.specs.Arc.{arc_value};
 ghost use Rattle.std.specs.Option.{option_map};
+ghost use Rattle.agent_program.specs.Jobs.{AreJobs, IsLoop};
 
-use crate::console::Console;
+use crate::console::{Console, Operator};
 use crate::fault::loop_fault;
 use crate::opening::{Beginning, begun};
 use crate::sweeping::Sweeping;
 use crate::threads::{Job, serve};
+use crate::words::SharedInput;
 use published_view::{Gate, LoopView, Naming, Opened, open};
 use site_config::Config;
 use site_opening::StartFault;
-use slp_loops::{AgentLoop, Desk, Moments, Shared, SharedOutput, WallClock};
+use slp_loops::{AgentLoop, Desk, LoopFault, Moments, Shared, SharedOutput, WallClock};
 use std::alloc::Global;
 use std::io::{Read, Write};
 use std::marker::Brand;
@@ -29,8 +31,15 @@ pub struct Ends<'s, G: Gate, I: Read, W: Write> {
     pub gate: &'s G,
 }
 
-type AgentDesk<'r, 's, J, R, G, W> =
-    Desk<'r, 's, J, R, WallClock<'r, R>, G, SharedOutput<'r, 's, R, W>>;
+type AgentDesk<'r, 's, J, R, G, W> = Desk<
+    'r,
+    's,
+    J,
+    R,
+    WallClock<'r, R>,
+    G,
+    SharedOutput<'r, 's, R, W>,
+>;
 
 type AgentJob<'r, 's, J, R, G, W> = Job<AgentDesk<'r, 's, J, R, G, W>, Sweeping<'r, 's, J, R>>;
 
@@ -53,6 +62,25 @@ where
     Desk::new(view, shared, own, WallClock::new(shared.rt))
 }
 
+// What serves at one of the addresses of a configuration: its desk has the address at which it listens.
+fn agent_at<'r, 's, J, R, G, W>(
+    config: &Config,
+    place: usize,
+    view: LoopView<J>,
+    shared: &Shared<'r, 's, J, R, G, W>,
+) -> Result<AgentLoop<AgentDesk<'r, 's, J, R, G, W>>, LoopFault>
+where
+    J: Naming,
+    R: Wait + Clock + Net,
+    G: Gate,
+    W: Write,
+    requires { place < length config.now.listen }
+    ensures { IfOk result (λ l. option_map (λ place. place.0) (slice_get config.now.listen place) ≡ Some l.server.own) }
+{
+    let desk = desk_at(config, place, view, shared);
+    AgentLoop::new(shared.rt, shared.alloc, config, place, desk)
+}
+
 // The loop at one of the addresses of a configuration.
 fn loop_at<'r, 's, J, R, G, W>(
     config: &Config,
@@ -66,9 +94,9 @@ where
     G: Gate,
     W: Write,
     requires { place < length config.now.listen }
+    ensures { IfOk result (λ job. IsLoop (λ d. d.own) job (slice_index_or config.now.listen place (0, 0))) }
 {
-    let desk = desk_at(config, place, view, shared);
-    match AgentLoop::new(shared.rt, shared.alloc, config, place, desk) {
+    match agent_at(config, place, view, shared) {
         Ok(agent) => Ok(Job::Serve(agent)),
         Err(fault) => Err(loop_fault(fault)),
     }
@@ -86,11 +114,12 @@ where
     G: Gate,
     W: Write,
     requires { vec_len views ≡ length config.now.listen }
-    ensures { IfOk result (λ jobs. vec_len jobs ≡ length config.now.listen + 1) }
+    ensures { IfOk result (λ jobs. AreJobs (λ d. d.own) (λ s. s.sweeper.interval) jobs.items config.now.listen config.now.sweep) }
 {
     let mut jobs = Vec::new(shared.alloc);
-    for (place, view) in views.into_iter().enumerate() {
-        jobs.push(loop_at(config, place, view, shared)?)?;
+    for view in views {
+        let job = loop_at(config, jobs.len(), view, shared)?;
+        jobs.push(job)?;
     }
     let sweeping = Sweeping::new(shared.rt, shared.writer, config.sweep);
     jobs.push(Job::Other(sweeping))?;
@@ -117,12 +146,18 @@ where
         rt: shared.rt,
         alloc: shared.alloc,
         writer: shared.writer,
-        output: shared.output,
+        output: SharedOutput {
+            rt: shared.rt,
+            output: shared.output,
+        },
         rules: config.rules.as_ref(),
         clock: WallClock::new(shared.rt),
+    };
+    let input = SharedInput {
+        rt: shared.rt,
         input,
     };
-    serve(shared.rt, shared.alloc, jobs, console)
+    serve(shared.rt, shared.alloc, jobs, Operator { console, input })
 }
 
 // Serves from a directory that is opened by a name.

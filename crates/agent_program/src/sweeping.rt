@@ -1,5 +1,9 @@
 //! What sweeps beside the loops.
+ghost use Rattle.std.specs.Prelude.{◌≡◌, ℕ};
+ghost use Rattle.expiry_sweep.specs.Schedules.{timing_after};
+
 use crate::threads::Task;
+use crate::watching::{Watch, sweep_on};
 use expiry_sweep::{Schedule, Sweeper};
 use published_view::{DirectoryWriter, Naming};
 use slp_loops::{Moments, WallClock};
@@ -7,11 +11,6 @@ use std::sync::atomic::{AtomicBool, Ordering};
 use std::sync::{Mutex, Wait};
 use std::thread;
 use std::time::{Clock, Duration};
-
-/// How long one nap lasts, in milliseconds, and how many there are between two looks at the clock: a second.
-const NAP: u64 = 200;
-
-const NAPS: u32 = 5;
 
 /// Turns a sweeper once a second.
 #[derive(Drop)]
@@ -28,7 +27,9 @@ impl<'r, 's, J: Naming, R: Wait + Clock> Sweeping<'r, 's, J, R> {
         rt: &'r R,
         writer: &'s Mutex<DirectoryWriter<J, &'r R>>,
         interval: u32,
-    ) -> Sweeping<'r, 's, J, R> {
+    ) -> Sweeping<'r, 's, J, R>
+        ensures { (moment : ℕ) × (result.sweeper ≡ record { interval = interval; last = moment }) }
+    {
         let mut clock = WallClock::new(rt);
         let schedule = Schedule::new(interval, clock.now());
         Sweeping {
@@ -39,28 +40,36 @@ impl<'r, 's, J: Naming, R: Wait + Clock> Sweeping<'r, 's, J, R> {
         }
     }
 
-    // Sleeps for a second, or until the flag is set. Answers whether it is not.
-    fn sleep(&self, stop: &AtomicBool) -> bool {
-        for _ in 0..NAPS {
-            if stop.load(Ordering::SeqCst) {
-                return false;
-            }
-            thread::sleep(self.rt, Duration::from_millis(NAP));
-        }
-        true
+    // Sweeps where it is due. A sweep that is refused is left out: the next one drops the same and more.
+    fn sweep(&mut self)
+        ensures { (moment : ℕ) × (self.new.sweeper ≡ timing_after self.old.sweeper moment) }
+    {
+        let now = self.clock.now();
+        let _ = self.sweeper.turn(self.rt, now, self.writer);
+    }
+}
+
+impl<'r, 's, J: Naming, R: Wait + Clock> Watch for Sweeping<'r, 's, J, R> {
+    ghost use Rattle.std.specs.Prelude.{⊤};
+
+    // No clause follows a flag, a clock or what lies under a lock.
+    ghost may = { λ before deed after. ⊤ };
+
+    fn is_over(&mut self, stop: &AtomicBool) -> bool {
+        stop.load(Ordering::SeqCst)
+    }
+
+    fn nap(&mut self, millis: u64) {
+        thread::sleep(self.rt, Duration::from_millis(millis));
+    }
+
+    fn turn(&mut self) {
+        self.sweep();
     }
 }
 
 impl<'r, 's, J: Naming, R: Wait + Clock> Task for Sweeping<'r, 's, J, R> {
-    // A sweep that is refused is left out: the next one drops the same and more.
     fn run(&mut self, stop: &AtomicBool) {
-        let rt = self.rt;
-        for _ in rt.forever() {
-            if !self.sleep(stop) {
-                return;
-            }
-            let now = self.clock.now();
-            let _ = self.sweeper.turn(rt, now, self.writer);
-        }
+        sweep_on(self.rt, self, stop);
     }
 }

@@ -1,6 +1,10 @@
-use Rattle.std.proofs.Common.{◌≡◌, ◌+◌, length, vec_len}
+use Rattle.std.proofs.Common.{◌≡◌, ◌+◌, take, vec_len}
+use Rattle.agent_program.specs.Jobs.{AreLoops}
 use Rattle.agent_program.proofs.starting.jobs_at.Given as goal
 
--- there is a job for each view that was taken
-abbrev pub invariant-loop-place : goal.invariant-loop-place
-invariant-loop-place g l = (vec_len l.jobs ≡ l.place-iterator.count) × (l.place-iterator.count + length l.place-iterator.iter.rest.items ≡ vec_len l.fn.views)
+-- there is a loop for each view that was taken
+abbrev pub invariant-loop-view : goal.invariant-loop-view
+invariant-loop-view g l = record {
+  count : vec_len l.jobs + l.view-iterator.rest.len ≡ vec_len l.fn.views;
+  loops : AreLoops (λ d. d.own) l.jobs.items (take (vec_len l.jobs) l.fn.config.listen);
+}
