@@ -1,1 +1,2 @@
 pub mod HiddenRules
+pub mod Written

@@ -1,2 +1,4 @@
 pub mod Checks
 pub mod Hiding
+pub mod Lines
+pub mod RuleWarnings

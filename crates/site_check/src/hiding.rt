@@ -37,7 +37,8 @@ fn is_from_all(wide: &Rule, narrow: &Rule) -> bool
     are_inside(narrow.from.as_slice(), wide.from.as_slice())
 }
 
-fn is_same(a: Action, b: Action) -> bool
+/// Whether two actions are one.
+pub(crate) fn is_same(a: Action, b: Action) -> bool
     ensures { result ≡ action_eq a b }
 {
     match a {

@@ -1,0 +1,75 @@
+-- What is surely not meant with the rules and the hide tables of a site.
+use Rattle.std.specs.Prelude.{ℕ, ◌+◌, Bool, true, ◌&&◌, ◌||◌, List, [], ◌∷◌, ◌++◌, find, length, take, Option, Some, None, if◌then◌else◌}
+use Rattle.std.specs.List.{enumerate_from, flat_map, list_any}
+use Rattle.std.specs.Option.{option_map_or}
+use Rattle.slp_text.specs.Words.{bytes_eq}
+use Rattle.service_url.specs.Types.{covers}
+use Rattle.access_rules.specs.Deciding.{SiteRules, action_eq, hides_in, rules_in}
+use Rattle.access_rules.specs.declared.hide.Hide.{Hide}
+use Rattle.access_rules.specs.declared.rule.Action.TheVariants.{Register}
+use Rattle.access_rules.specs.declared.rule.Rule.{Rule}
+use Rattle.site_check.specs.Hiding.{hides}
+use Rattle.site_check.specs.Lines.{Place, At, File, Hidden, NoRules, NoScope, NoType, warning_line}
+use Rattle.site_check.specs.declared.problem.Numbered.TheVariants as numbered
+
+-- the first of some earlier rules that hides one, by its number and its name
+abbrev pub hidden_lines : Place → Rule → List Rule → List ℕ
+hidden_lines place rule earlier =
+    option_map_or (λ other. warning_line place (Hidden other.0 other.1.name)) (find (λ other. hides other.1 rule) (enumerate_from 1 earlier)) []
+
+-- a scope that a site does not have
+abbrev pub scope_line : Place → List (List ℕ) → List ℕ → List ℕ
+scope_line place scopes scope = if list_any (λ s. bytes_eq s scope) scopes then [] else warning_line place (NoScope scope)
+
+-- each scope that a rule or a hide table names, and the site does not have
+abbrev pub scope_lines : Place → List (List ℕ) → Option (List (List ℕ)) → List ℕ
+scope_lines place scopes None = []
+scope_lines place scopes (Some named) = flat_map (scope_line place scopes) named
+
+-- two types have one in common; no type named is every type
+abbrev pub meets : Option (List ℕ) → Option (List ℕ) → Bool
+meets None b = true
+meets (Some a) None = true
+meets (Some a) (Some b) = covers a b || covers b a
+
+-- a rule lets someone register some type that one of this type is about
+abbrev pub lets_stand : Option (List ℕ) → Rule → Bool
+lets_stand kind rule = rule.allow && action_eq rule.action Register && meets rule.kind kind
+
+abbrev pub may_stand : List Rule → Option (List ℕ) → Bool
+may_stand rules kind = list_any (lets_stand kind) rules
+
+-- a type that no rule lets anyone register
+abbrev pub kind_line : Place → List Rule → Option (List ℕ) → List ℕ
+kind_line place rules None = []
+kind_line place rules (Some kind) = if may_stand rules (Some kind) then [] else warning_line place (NoType kind)
+
+-- the same of a rule, which may itself be about registering
+abbrev pub rule_kind_line : Place → List Rule → Rule → List ℕ
+rule_kind_line place rules rule = if action_eq rule.action Register then [] else kind_line place rules rule.kind
+
+-- a rule with its index among these
+abbrev pub rule_lines : List ℕ → List Rule → List (List ℕ) → ℕ × Rule → List ℕ
+rule_lines file rules scopes indexed =
+    let rule = indexed.1 in
+    let place = At file (numbered.Rule (indexed.0 + 1)) (Some rule.name) in
+    hidden_lines place rule (take indexed.0 rules) ++ scope_lines place scopes rule.scopes ++ rule_kind_line place rules rule
+
+-- a hide table with its index, which comes after these rules
+abbrev pub hide_lines : List ℕ → List Rule → List (List ℕ) → ℕ × Hide → List ℕ
+hide_lines file rules scopes indexed =
+    let hide = indexed.1 in
+    let place = At file (numbered.Hide (length rules + indexed.0 + 1)) (Some hide.name) in
+    scope_lines place scopes hide.scopes ++ kind_line place rules hide.kind
+
+-- that there are no rules
+abbrev pub absence_line : List ℕ → List Rule → List ℕ
+absence_line file [] = warning_line (File file) NoRules
+absence_line file (rule ∷ rules) = []
+
+-- rule after rule, then hide table after hide table
+abbrev pub warnings_of_rules : List ℕ → SiteRules → List (List ℕ) → List ℕ
+warnings_of_rules file site scopes =
+    absence_line file (rules_in site)
+    ++ flat_map (rule_lines file (rules_in site) scopes) (enumerate_from 0 (rules_in site))
+    ++ flat_map (hide_lines file (rules_in site) scopes) (enumerate_from 0 (hides_in site))
