@@ -1,11 +1,11 @@
 -- What is written of a list, element by element.
-use Rattle.std.proofs.Common.{◌≡◌, ◌+◌, ◌++◌, [], ◌∷◌, ◌<◌, ◌≤◌, ℕ, suc, Bool, true, false, List, Option, Some, None, Result, Ok, Err, OnOk, length, zero-add, take, drop, get_or, add-one, sym, ap, ◌∙◌, arith}
+use Rattle.std.proofs.Common.{◌≡◌, ◌+◌, ◌++◌, [], ◌∷◌, ◌<◌, ◌≤◌, ℕ, suc, Bool, true, false, List, Option, Some, None, Result, Ok, Err, OnOk, length, zero-add, map, take, drop, get_or, add-one, sym, ap, ◌∙◌, arith}
 use Rattle.std.specs.Prelude.{find, flat_map}
 use Rattle.std.specs.List.{enumerate_from}
 use Rattle.std.specs.Io.KnownBytes.{Appends}
 use Rattle.std.proofs.KnownBytes.{Appends-trans}
 use Rattle.std.proofs.Math.Seq.{take-suc, drop-cons}
-use Rattle.std.proofs.lemmas.List.{drop_all, flat_map_more, take_all}
+use Rattle.std.proofs.lemmas.List.{drop_all, flat_map_more, get_or-map, length-map, take_all}
 use Rattle.std.proofs.lemmas.List.FromFn.{length-enumerate_from, get_or-enumerate_from}
 
 -- what is written of one element more
@@ -52,3 +52,14 @@ found_nowhere p n xs i past = rw (drop_all i (enumerate_from n xs) (omega (arith
 pub written_after : {E : Type 0} (r : Result (Unit {0}) E) (old mid new : Option (List ℕ)) (before after : List ℕ) → Appends old mid before → OnOk r (Appends mid new after) → OnOk r (Appends old new (before ++ after))
 written_after (Ok x) old mid new before after h k = Appends-trans old mid new before after h k
 written_after (Err e) old mid new before after h k = tt
+
+-- ---- an element of a list, seen as another
+
+pub mapped_within : {X Y : Type 0} (f : X → Y) (xs : List X) (i : ℕ) → i < length xs → i < length (map f xs)
+mapped_within f xs i within = rw (length-map xs f) within
+
+pub mapped_past : {X Y : Type 0} (f : X → Y) (xs : List X) (i : ℕ) → length xs ≤ i → length (map f xs) ≤ i
+mapped_past f xs i past = rw (length-map xs f) past
+
+pub mapped_at : {X Y : Type 0} (f : X → Y) (xs : List X) (i : ℕ) (x : X) → i < length xs → x ≡ get_or xs i x → f x ≡ get_or (map f xs) i (f x)
+mapped_at f xs i x within is = ap f is ∙ sym (get_or-map f xs i x (f x) within)

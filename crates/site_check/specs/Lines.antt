@@ -12,6 +12,10 @@ use Rattle.site_check.specs.declared.problem.Problem.TheVariants as lent_problem
 use Rattle.site_check.specs.declared.problem.Warning.{Warning as WarningLent}
 use Rattle.site_check.specs.declared.problem.Warning.TheVariants as lent_warning
 
+-- the bytes of the longest configuration, rule file or template
+abbrev pub longest_text : ℕ
+longest_text = 1048576
+
 -- ---- where
 
 -- a file, one of its lines, or a rule or a hide table of it, which may have a name

@@ -1,4 +1,13 @@
 //! Which keys of a configuration are at fault.
+ghost use Rattle.std.specs.Prelude.{◌≡◌, ◌≤◌, OnOk, flat_map, length};
+ghost use Rattle.std.specs.Io.KnownBytes.{Appends};
+ghost use Rattle.toml.specs.Errors.{IsMemory, span_start};
+ghost use Rattle.toml.specs.View.{table_view, view};
+ghost use Rattle.access_rules.specs.Tables as tables;
+ghost use Rattle.site_config.specs.Tables.{members_in};
+ghost use Rattle.site_check.specs.ConfigFaults.{IsKeyFault, config_lines, config_table_lines, key_fault, key_line, key_refusal, key_text, unknown_line};
+ghost use Rattle.site_check.specs.NotToml.{AppendsStopped, Stop, not_toml_line};
+
 use crate::fault::CheckFault;
 use crate::problem::{FileText, LONGEST_TEXT, Place, Problem, line_at, report};
 use site_config::{ConfigFault, keys};
@@ -29,7 +38,9 @@ const CONFIG_KEYS: [ConfigKey; 7] = [
 ];
 
 impl ConfigKey {
-    fn text(self) -> &'static str {
+    fn text(self) -> &'static str
+        ensures { result.now ≡ key_text self }
+    {
         match self {
             ConfigKey::Scopes => "scopes",
             ConfigKey::Listen => "listen",
@@ -42,7 +53,9 @@ impl ConfigKey {
     }
 
     // What a value that is refused is not.
-    fn refusal(self) -> &'static str {
+    fn refusal(self) -> &'static str
+        ensures { result.now ≡ key_refusal self }
+    {
         match self {
             ConfigKey::Scopes => "not a list of 1 to 16 scopes in at most 1024 bytes",
             ConfigKey::Listen => "not an array of 1 to 8 distinct texts \"a.b.c.d:port\"",
@@ -55,7 +68,10 @@ impl ConfigKey {
     }
 
     // Why the value of the key is refused.
-    fn fault(self, alloc: Global, table: &Value) -> Option<ConfigFault> {
+    #[tactic(auto, using(crate::proofs::Readings::fault_read))]
+    fn fault(self, alloc: Global, table: &Value) -> Option<ConfigFault>
+        ensures { IsKeyFault result (key_fault self (members_in (view table.now))) }
+    {
         match self {
             ConfigKey::Scopes => keys::scopes(alloc, table).err(),
             ConfigKey::Listen => keys::listen(alloc, table).err(),
@@ -74,7 +90,9 @@ impl ConfigKey {
         file: &str,
         table: &Value,
         writer: &mut W,
-    ) -> Result<(), CheckFault> {
+    ) -> Result<(), CheckFault>
+        ensures { OnOk result (Appends (W.contents writer.old) (W.contents writer.new) (key_line file.now (members_in (view table.now)) self)) }
+    {
         let problem = match self.fault(alloc, table) {
             None => return Ok(()),
             Some(ConfigFault::NoMemory) => return Err(CheckFault::NoMemory),
@@ -88,14 +106,50 @@ impl ConfigKey {
     }
 }
 
-// Writes the keys of a table that no configuration has.
-fn explain_unknown<W: Write>(file: &str, table: &Table, writer: &mut W) -> io::Result<()> {
-    for key in table.keys() {
-        if !keys::is_known(key.as_str()) {
-            report(Place::File(file), Problem::UnknownKey(key.as_str()), writer)?;
-        }
+// Writes what is wrong with the values of some keys.
+fn explain_keys<W: Write>(
+    alloc: Global,
+    file: &str,
+    keys: &[ConfigKey],
+    table: &Value,
+    writer: &mut W,
+) -> Result<(), CheckFault>
+    ensures { OnOk result (Appends (W.contents writer.old) (W.contents writer.new) (flat_map (key_line file.now (members_in (view table.now))) keys.now)) }
+{
+    for key in keys {
+        key.explain(alloc, file, table, writer)?;
     }
     Ok(())
+}
+
+// Writes a key that no configuration has.
+fn explain_unknown<W: Write>(file: &str, key: &str, writer: &mut W) -> io::Result<()>
+    ensures { OnOk result (Appends (W.contents writer.old) (W.contents writer.new) (unknown_line file.now key.now)) }
+{
+    if keys::is_known(key) {
+        return Ok(());
+    }
+    report(Place::File(file), Problem::UnknownKey(key), writer)
+}
+
+// Writes the keys of a table that no configuration has.
+fn explain_others<W: Write>(file: &str, table: &Table, writer: &mut W) -> io::Result<()>
+    ensures { OnOk result (Appends (W.contents writer.old) (W.contents writer.new) (flat_map (unknown_line file.now) (tables.keys_of (table_view table.now)))) }
+{
+    for key in table.keys() {
+        explain_unknown(file, key.as_str(), writer)?;
+    }
+    Ok(())
+}
+
+// The same of a value that may be a table.
+fn explain_others_in<W: Write>(file: &str, table: &Value, writer: &mut W) -> io::Result<()>
+    ensures { OnOk result (Appends (W.contents writer.old) (W.contents writer.new) (flat_map (unknown_line file.now) (tables.keys_of (members_in (view table.now))))) }
+{
+    match table.as_table() {
+        Some(table) => explain_others(file, table, writer),
+        None => Ok(()),
+    }
 }
 
 // Writes what is wrong with a table as a configuration.
@@ -104,13 +158,11 @@ fn explain_table<W: Write>(
     file: &str,
     table: &Value,
     writer: &mut W,
-) -> Result<(), CheckFault> {
-    for key in CONFIG_KEYS {
-        key.explain(alloc, file, table, writer)?;
-    }
-    if let Some(table) = table.as_table() {
-        explain_unknown(file, table, writer)?;
-    }
+) -> Result<(), CheckFault>
+    ensures { OnOk result (Appends (W.contents writer.old) (W.contents writer.new) (config_table_lines file.now (members_in (view table.now)))) }
+{
+    explain_keys(alloc, file, &CONFIG_KEYS, table, writer)?;
+    explain_others_in(file, table, writer)?;
     Ok(())
 }
 
@@ -119,7 +171,10 @@ pub(crate) fn explain_toml<W: Write>(
     file: FileText<'_>,
     fault: &toml::de::Error,
     writer: &mut W,
-) -> Result<(), CheckFault> {
+) -> Result<(), CheckFault>
+    ensures written { OnOk result ((stop : Stop) × (stop.place ≡ span_start fault.now) × Appends (W.contents writer.old) (W.contents writer.new) (not_toml_line file.entry.path.now file.entry.text.now stop)) }
+    ensures text { OnOk result (¬ IsMemory fault.now) }
+{
     let Some(span) = fault.span() else {
         return Err(CheckFault::NoMemory);
     };
@@ -133,7 +188,9 @@ pub(crate) fn explain_config<W: Write>(
     alloc: Global,
     file: FileText<'_>,
     writer: &mut W,
-) -> Result<(), CheckFault> {
+) -> Result<(), CheckFault>
+    ensures { OnOk result (AppendsStopped (W.contents writer.old) (W.contents writer.new) file.entry.text.now (config_lines file.entry.path.now file.entry.text.now)) }
+{
     if file.text.len() > LONGEST_TEXT {
         report(Place::File(file.path), Problem::TooLong, writer)?;
         return Ok(());

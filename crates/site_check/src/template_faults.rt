@@ -1,4 +1,8 @@
 //! At which line a template is at fault, and with what.
+ghost use Rattle.std.specs.Prelude.{◌≡◌, OnOk};
+ghost use Rattle.std.specs.Io.KnownBytes.{Appends};
+ghost use Rattle.site_check.specs.TemplateFaults.{refusal_text, template_lines};
+
 use crate::fault::CheckFault;
 use crate::problem::{FileText, LONGEST_TEXT, Place, Problem, report};
 use srv_template::{Part, faulty_part};
@@ -6,7 +10,9 @@ use std::alloc::Global;
 use std::io::Write;
 
 // What is wrong where a template stops at a part.
-fn refusal(part: Part) -> &'static str {
+fn refusal(part: Part) -> &'static str
+    ensures { result.now ≡ refusal_text part }
+{
     match part {
         Part::ServiceType => "expected template-type=TYPE",
         Part::Version => "expected template-version=",
@@ -22,7 +28,9 @@ pub(crate) fn explain_template<W: Write>(
     file: FileText<'_>,
     line: usize,
     writer: &mut W,
-) -> Result<(), CheckFault> {
+) -> Result<(), CheckFault>
+    ensures { OnOk result (Appends (W.contents writer.old) (W.contents writer.new) (template_lines file.entry.path.now file.entry.text.now line)) }
+{
     if file.text.len() > LONGEST_TEXT {
         report(Place::File(file.path), Problem::TooLong, writer)?;
     } else if let Some(part) = faulty_part(alloc, file.text)? {
