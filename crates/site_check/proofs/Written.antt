@@ -63,3 +63,9 @@ mapped_past f xs i past = rw (length-map xs f) past
 
 pub mapped_at : {X Y : Type 0} (f : X → Y) (xs : List X) (i : ℕ) (x : X) → i < length xs → x ≡ get_or xs i x → f x ≡ get_or (map f xs) i (f x)
 mapped_at f xs i x within is = ap f is ∙ sym (get_or-map f xs i x (f x) within)
+
+-- ---- the elements before an index
+
+pub taken_more : {X : Type 0} (xs : List X) (i : ℕ) (x : X) → i < length xs → x ≡ get_or xs i x → take i xs ++ x ∷ [] ≡ take (i + 1) xs
+taken_more xs i x within is =
+    ap (λ y. take i xs ++ y ∷ []) is ∙ sym (take-suc xs i x within) ∙ ap (λ (j : ℕ). take j xs) (sym (add-one i))

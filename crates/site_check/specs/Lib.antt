@@ -5,4 +5,5 @@ pub mod Lines
 pub mod NotToml
 pub mod RuleFaults
 pub mod RuleWarnings
+pub mod SiteLines
 pub mod TemplateFaults

@@ -13,4 +13,4 @@ mod template_faults;
 mod warnings;
 
 pub use hiding::hides;
-pub use program::check_run;
+pub use program::{check_run, unread_words};

@@ -49,8 +49,8 @@ fn lets_stand(rule: &Rule, kind: Option<&ServiceType>) -> bool
     rule.allow && is_same(rule.action, Action::Register) && meets(rule.kind.as_ref(), kind)
 }
 
-/// Whether some rule lets someone register some type that a rule of this one is about.
-pub(crate) fn may_stand(rules: &[Rule], kind: Option<&ServiceType>) -> bool
+// Whether some rule lets someone register some type that a rule of this one is about.
+fn may_stand(rules: &[Rule], kind: Option<&ServiceType>) -> bool
     ensures { result ≡ spec.may_stand rules.now (option_copied kind.entry) }
 {
     rules.iter().any(|rule| lets_stand(rule, kind))
@@ -103,8 +103,8 @@ fn warn_of_scopes<W: Write>(
     }
 }
 
-// Writes that no rule lets anyone register a service of a type, where that is so.
-fn warn_of_kind<W: Write>(
+/// Writes that no rule lets anyone register a service of a type, where that is so.
+pub(crate) fn warn_of_kind<W: Write>(
     place: Place<'_>,
     kind: Option<&ServiceType>,
     rules: &[Rule],

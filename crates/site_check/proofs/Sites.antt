@@ -1,0 +1,118 @@
+-- What is written of the files of a site.
+use Rattle.std.proofs.Common.{◌≡◌, ◌≢◌, ◌++◌, ◌∷◌, [], ℕ, List, map, Option, Result, Ok, Err, IfOk, OnOk, refl, sym, ap, ◌∙◌, append_assoc, append-nil, subst, arith}
+use Rattle.std.specs.FinMap as fin
+use Rattle.std.specs.Io.KnownBytes.{Appends}
+use Rattle.std.proofs.KnownBytes.{Appends-trans}
+use Rattle.std.proofs.lemmas.List.{map-append}
+use Rattle.std.specs.Result.{result_ok}
+use Rattle.access_rules.specs.Deciding.{SiteRules}
+use Rattle.access_rules.specs.RuleFiles.{rules_in_text}
+use Rattle.srv_template.specs.Conformity.{SiteTemplates}
+use Rattle.site_config.specs.Configurations.{IsFault, config_of}
+use Rattle.site_config.specs.declared.config.Config.{Config}
+use Rattle.site_config.specs.declared.fault.ConfigFault.{ConfigFault}
+use Rattle.site_config.specs.declared.fault.ConfigFault.TheVariants as fault
+use Rattle.site_opening.specs.declared.files.FileFault.{FileFault}
+use Rattle.site_opening.specs.declared.files.FileFault.TheVariants.{NoMemory}
+use Rattle.site_check.specs.ConfigFaults.{config_lines}
+use Rattle.site_check.specs.NotToml.{AppendsStopped}
+use Rattle.site_check.specs.SiteLines.{AppendsSite, AreNamed, AreRead, ReadTemplate, ReadToml, SiteReads, StopsWithin, each_template_lines, file_lines, named_lines, named_rule_lines, named_rules, rule_text_lines, rules_read, site_lines, template_text_lines, templates_read, unread_line}
+
+-- the rules of a text that was read are those of the file
+pub rules_of_text : {E : Type 0} (r : Result (Option SiteRules) E) (path : List ℕ) (scopes : List (List ℕ)) (text : List ℕ) (old new : Option (List ℕ))
+    → IfOk r (λ rules. (rules ≡ result_ok (rules_in_text text)) × AppendsStopped old new text (rule_text_lines path scopes text))
+    → IfOk r (λ rules. (f : ReadToml) × StopsWithin f × (rules ≡ rules_read f.read) × Appends old new (file_lines path (λ t. rule_text_lines path scopes t f.stop) f.read))
+rules_of_text (Ok rules) path scopes text old new h = (record { read = Ok text; stop = h.1.0 }, h.1.1, h.0, h.1.2)
+rules_of_text (Err e) path scopes text old new h = tt
+
+-- the templates after some files
+abbrev pub templates_after : SiteTemplates → List ReadTemplate → SiteTemplates
+templates_after templates [] = templates
+templates_after templates (f ∷ fs) = templates_after (templates_read templates f.read) fs
+
+templates_after-more : (templates : SiteTemplates) (fs : List ReadTemplate) (f : ReadTemplate) → templates_after templates (fs ++ f ∷ []) ≡ templates_read (templates_after templates fs) f.read
+templates_after-more templates [] f = refl
+templates_after-more templates (g ∷ fs) f = templates_after-more (templates_read templates g.read) fs f
+
+-- what is written of one file more
+lines-more : (rules : Option SiteRules) (templates : SiteTemplates) (fs : List ReadTemplate) (f : ReadTemplate)
+    → each_template_lines rules templates fs ++ file_lines f.path (template_text_lines f.path rules (templates_after templates fs)) f.read ≡ each_template_lines rules templates (fs ++ f ∷ [])
+lines-more rules templates [] f = sym (append-nil _)
+lines-more rules templates (g ∷ fs) f =
+    append_assoc (file_lines g.path (template_text_lines g.path rules templates) g.read) (each_template_lines rules (templates_read templates g.read) fs) (file_lines f.path (template_text_lines f.path rules (templates_after templates (g ∷ fs))) f.read)
+    ∙ ap (λ ls. file_lines g.path (template_text_lines g.path rules templates) g.read ++ ls) (lines-more rules (templates_read templates g.read) fs f)
+
+-- the templates in these files were looked at
+abbrev pub AreLookedAt : Option SiteRules → List (List ℕ) → SiteTemplates → Option (List ℕ) → Option (List ℕ) → Type 0
+AreLookedAt rules paths templates old new =
+    (fs : List ReadTemplate) × (map (λ f. f.path) fs ≡ paths) × (templates ≡ templates_after fin.empty fs) × Appends old new (each_template_lines rules fin.empty fs)
+
+-- one more is looked at
+pub look_on : (rules : Option SiteRules) (paths : List (List ℕ)) (templates : SiteTemplates) (old mid new : Option (List ℕ)) (f : ReadTemplate)
+    → AreLookedAt rules paths templates old mid → Appends mid new (file_lines f.path (template_text_lines f.path rules templates) f.read)
+    → AreLookedAt rules (paths ++ f.path ∷ []) (templates_read templates f.read) old new
+look_on rules paths templates old mid new f h told = (
+  h.0 ++ f ∷ [],
+  map-append (λ f. f.path) h.0 (f ∷ []) ∙ ap (λ ps. ps ++ f.path ∷ []) h.1,
+  ap (λ ts. templates_read ts f.read) h.2 ∙ sym (templates_after-more fin.empty h.0 f),
+  subst (Appends old new) (lines-more rules fin.empty h.0 f) (Appends-trans old mid new (each_template_lines rules fin.empty h.0) _ h.3 (subst (λ ts. Appends mid new (file_lines f.path (template_text_lines f.path rules ts) f.read)) h.2 told)),
+)
+
+-- ---- the site
+
+-- the rules were looked at, then the templates
+pub named_told : {E : Type 0} (r : Result (Unit {0}) E) (path : List ℕ) (config : Config) (rules : Option SiteRules) (old mid new : Option (List ℕ))
+    → (f : ReadToml) × StopsWithin f × (rules ≡ named_rules config.rules f) × Appends old mid (named_rule_lines path config.scopes config.rules f)
+    → OnOk r ((read : List ReadTemplate) × (map (λ t. t.path) read ≡ config.templates) × Appends mid new (each_template_lines rules fin.empty read))
+    → OnOk r ((s : SiteReads) × AreNamed s config × Appends old new (named_lines path s config))
+named_told (Ok x) path config rules old mid new h k = (
+  record { config = h.0; rules = h.0; templates = k.0 },
+  record { rules = h.1; templates = k.1 },
+  Appends-trans old mid new _ _ h.3 (subst (λ rs. Appends mid new (each_template_lines rs fin.empty k.0)) h.2 k.2),
+)
+named_told (Err e) path config rules old mid new h k = tt
+
+-- the configuration is taken
+pub config_told : {E : Type 0} (r : Result (Unit {0}) E) (path text : List ℕ) (config : Config) (old new : Option (List ℕ)) → config_of text ≡ Ok config
+    → OnOk r ((s : SiteReads) × AreNamed s config × Appends old new (named_lines path s config))
+    → OnOk r ((s : SiteReads) × (s.config.read ≡ Ok text) × AreRead s × Appends old new (site_lines path s))
+config_told (Ok x) path text config old new is h =
+    let named : AreNamed (record { config = record { read = Ok text; stop = record { place = 0; message = [] } }; rules = h.0.rules; templates = h.0.templates }) config =
+    record { rules = h.1.rules; templates = h.1.templates } in (
+      record { config = record { read = Ok text; stop = record { place = 0; message = [] } }; rules = h.0.rules; templates = h.0.templates },
+      refl,
+      record { config = omega arith; named = rw is named },
+      rw is h.2,
+    )
+config_told (Err e) path text config old new is h = tt
+
+-- a fault that says something of the text
+fault_is : (e : ConfigFault) (read : Result Config ConfigFault) → IsFault e read → e ≢ fault.NoMemory → read ≡ Err e
+fault_is fault.NoMemory read h text = absurd (text refl)
+fault_is fault.Toml read h text = h
+fault_is fault.Missing read h text = h
+fault_is fault.Range read h text = h
+
+-- the configuration is refused
+pub config_refused : {E : Type 0} (r : Result (Unit {0}) E) (path text : List ℕ) (e : ConfigFault) (old new : Option (List ℕ)) → IsFault e (config_of text) → OnOk r (e ≢ fault.NoMemory)
+    → OnOk r (AppendsStopped old new text (config_lines path text))
+    → OnOk r ((s : SiteReads) × (s.config.read ≡ Ok text) × AreRead s × Appends old new (site_lines path s))
+config_refused (Ok x) path text e old new told known h =
+    let is = fault_is e (config_of text) told known in (
+      record { config = record { read = Ok text; stop = h.0 }; rules = record { read = Err NoMemory; stop = h.0 }; templates = [] },
+      refl,
+      record { config = h.1; named = rw is tt },
+      rw is h.2,
+    )
+config_refused (Err x) path text e old new told known h = tt
+
+-- the configuration is not read
+pub site_unread : {E : Type 0} (r : Result (Unit {0}) E) (path : List ℕ) (e : FileFault) (old new : Option (List ℕ)) → OnOk r (Appends old new (unread_line path e)) → OnOk r (AppendsSite old new (site_lines path))
+site_unread (Ok x) path e old new h =
+    let unread : ReadToml = record { read = Err e; stop = record { place = 0; message = [] } } in
+    (record { config = unread; rules = unread; templates = [] }, record { config = tt; named = tt }, h)
+site_unread (Err x) path e old new h = tt
+
+-- what is written after the lines of a site
+pub then_written : (old mid new : Option (List ℕ)) (lines : SiteReads → List ℕ) (last : List ℕ) → AppendsSite old mid lines → Appends mid new last → AppendsSite old new (λ s. lines s ++ last)
+then_written old mid new lines last h told = (h.0, h.1, Appends-trans old mid new (lines h.0) last h.2 told)
