@@ -4,12 +4,7 @@
 use std::env;
 use std::io::{self, BufWriter, Write};
 use std::process::ExitCode;
-use tool_program::tool_run;
-
-/// The status where no memory is found before anything is asked.
-const NO_MEMORY: u8 = 4;
-/// The status of wrong usage, where an argument is not text.
-const USAGE: u8 = 64;
+use tool_program::{tool_run, unread_words};
 
 // The words without the program's own name.
 fn words(rt: &HostRuntime) -> io::Result<Vec<String>> {
@@ -22,12 +17,8 @@ fn words(rt: &HostRuntime) -> io::Result<Vec<String>> {
 
 // Prints why nothing is asked: words that are not all text, or no memory for what comes first.
 fn refuse(rt: &HostRuntime, fault: &io::Error) -> ExitCode {
-    let (line, status) = if fault.kind() == io::ErrorKind::InvalidData {
-        (b"usage: slptool HOST:PORT COMMAND\n".as_slice(), USAGE)
-    } else {
-        (b"! memory\n".as_slice(), NO_MEMORY)
-    };
-    let _ = io::writer(rt).write_all(line);
+    let (status, line) = unread_words(fault);
+    let _ = io::writer(rt).write_all(line.as_bytes());
     ExitCode::from(status)
 }
 

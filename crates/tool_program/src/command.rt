@@ -1,4 +1,11 @@
 //! What the words of a call ask for.
+ghost use Rattle.std.specs.Prelude.{◌≡◌, codes, map, string_bytes, MatchResult};
+ghost use Rattle.std.specs.Option.{option_map};
+ghost use Rattle.agent_clients.specs.Requests.{request_header, IsSpelled, IsUnbuilt};
+ghost use Rattle.slp_messages.specs.Views as view;
+ghost use Rattle.tool_program.specs.Commands.{asked, command_in, message_of, registered, registration_of, three_of, IsRequest};
+ghost use Rattle.tool_program.specs.Commands as spec;
+
 use access_rules::number;
 use agent_clients::{
     ClientFault, RequestHeader, attribute_request, registration, service_request, type_request,
@@ -35,40 +42,66 @@ pub(crate) enum Command<'a> {
 }
 
 /// The header of the tool's requests, which are in English.
-pub(crate) fn header_with(xid: u16) -> RequestHeader<'static> {
+pub(crate) fn header_with(xid: u16) -> RequestHeader<'static>
+    ensures xid { result.xid ≡ xid }
+    ensures language { result.language.now ≡ codes "en" }
+{
     RequestHeader {
         xid,
         language: "en",
     }
 }
 
-// The word at a place, or an empty one.
-fn word_or_empty<'a>(words: &'a [String], place: usize) -> &'a str {
-    match words.get(place) {
-        Some(word) => word.as_str(),
-        None => "",
-    }
-}
-
-// The registration that these words describe: URL, type, scopes, lifetime, and attributes if there are any.
-fn registration_in(words: &[String]) -> Option<RegistrationView<'_>> {
-    if words.len() < 4 || words.len() > 5 {
-        return None;
-    }
-    let lifetime = number(words[3].as_bytes())?;
+// The registration that these words describe.
+fn described<'a>(
+    url: &'a str,
+    kind: &'a str,
+    scopes: &'a str,
+    lifetime: &str,
+    attributes: &'a str,
+) -> Option<RegistrationView<'a>>
+    ensures { option_map view.registration_in result ≡ registered url.now kind.now scopes.now lifetime.now attributes.now }
+{
+    let lifetime = number(lifetime.as_bytes())?;
+    let entry = EntryView {
+        lifetime: u16::try_from(lifetime).ok()?,
+        url,
+    };
     Some(RegistrationView {
-        entry: EntryView {
-            lifetime: u16::try_from(lifetime).ok()?,
-            url: words[0].as_str(),
-        },
-        kind: words[1].as_str(),
-        scopes: words[2].as_str(),
-        attributes: word_or_empty(words, 4),
+        entry,
+        kind,
+        scopes,
+        attributes,
     })
 }
 
+// The registration that these words describe: URL, type, scopes, lifetime, and attributes if there are any.
+fn registration_in(words: &[String]) -> Option<RegistrationView<'_>>
+    ensures { option_map view.registration_in result ≡ registration_of (map string_bytes words.now) }
+{
+    match words {
+        [url, kind, scopes, lifetime] => described(
+            url.as_str(),
+            kind.as_str(),
+            scopes.as_str(),
+            lifetime.as_str(),
+            "",
+        ),
+        [url, kind, scopes, lifetime, attributes] => described(
+            url.as_str(),
+            kind.as_str(),
+            scopes.as_str(),
+            lifetime.as_str(),
+            attributes.as_str(),
+        ),
+        _ => None,
+    }
+}
+
 // The two or three words that a command has after its name, the third one empty where it is left out.
-fn three_in(words: &[String]) -> Option<(&str, &str, &str)> {
+fn three_in(words: &[String]) -> Option<(&str, &str, &str)>
+    ensures { option_map (λ t. (t.0.now, t.1.now, t.2.now)) result ≡ three_of (map string_bytes words.now) }
+{
     match words {
         [first, second] => Some((first.as_str(), second.as_str(), "")),
         [first, second, third] => Some((first.as_str(), second.as_str(), third.as_str())),
@@ -77,7 +110,9 @@ fn three_in(words: &[String]) -> Option<(&str, &str, &str)> {
 }
 
 // The scopes, and the authority if one is named, of a question about types.
-fn types_in(words: &[String]) -> Option<Command<'_>> {
+fn types_in(words: &[String]) -> Option<Command<'_>>
+    ensures { option_map asked result ≡ spec.types_of (map string_bytes words.now) }
+{
     match words {
         [scopes] => Some(Command::Types {
             scopes: scopes.as_str(),
@@ -92,10 +127,10 @@ fn types_in(words: &[String]) -> Option<Command<'_>> {
 }
 
 // The command of this name with two words or three.
-fn command_of_three<'a>(
-    name: &str,
-    (first, scopes, third): (&'a str, &'a str, &'a str),
-) -> Option<Command<'a>> {
+fn command_of_three<'a>(name: &str, words: (&'a str, &'a str, &'a str)) -> Option<Command<'a>>
+    ensures { option_map asked result ≡ spec.command_of_three name.now (words.entry.0.now, words.entry.1.now, words.entry.2.now) }
+{
+    let (first, scopes, third) = words;
     if name == "find" {
         Some(Command::Find {
             kind: first,
@@ -121,7 +156,9 @@ fn command_of_three<'a>(
 
 impl<'a> Command<'a> {
     /// The command that words are, after the agent's address; `None` where they are none.
-    pub(crate) fn of(words: &'a [String]) -> Option<Command<'a>> {
+    pub(crate) fn of(words: &'a [String]) -> Option<Command<'a>>
+        ensures { option_map asked result ≡ command_in (map string_bytes words.now) }
+    {
         let (name, words) = words.split_first()?;
         let name = name.as_str();
         if name == "register" {
@@ -140,7 +177,9 @@ impl<'a> Command<'a> {
         &self,
         alloc: Global,
         header: &RequestHeader<'_>,
-    ) -> Result<Vec<u8>, ClientFault> {
+    ) -> Result<Vec<u8>, ClientFault>
+        ensures { let m = message_of (λ fresh. request_header fresh header.now) (asked self.now) in MatchResult result (λ v. IsSpelled m v.items) (IsUnbuilt m) }
+    {
         match self {
             Command::Find {
                 kind,
@@ -167,7 +206,9 @@ impl<'a> Command<'a> {
 
 /// The message that asks for what words say, as the tool sends it with this number: `None` where they are no
 /// command, or it can't be spelled.
-pub fn request_of(alloc: Global, xid: u16, words: &[String]) -> Option<Vec<u8>> {
+pub fn request_of(alloc: Global, xid: u16, words: &[String]) -> Option<Vec<u8>>
+    ensures { IsRequest xid (command_in (map string_bytes words.now)) (option_map (λ v. v.items) result) }
+{
     let command = Command::of(words)?;
     command.request(alloc, &header_with(xid)).ok()
 }

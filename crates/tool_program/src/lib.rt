@@ -6,4 +6,4 @@ mod printing;
 mod program;
 
 pub use command::request_of;
-pub use program::tool_run;
+pub use program::{tool_run, unread_words};

@@ -52,26 +52,49 @@ fn print_urls<W: Write>(entries: &[UrlEntry], writer: &mut W) -> io::Result<()>
 
 // Prints a text and the end of its line.
 fn print_line<W: Write>(text: &str, writer: &mut W) -> io::Result<()>
-    ensures { OnOk result (Appends (W.contents writer.old) (W.contents writer.new) (flat_map spec.shown_byte text.now ++ line_feed ∷ [])) }
+    ensures { OnOk result (Appends (W.contents writer.old) (W.contents writer.new) (spec.text_line text.now)) }
 {
     print_text(text, writer)?;
     writer.write_all(b"\n")
 }
 
-// Prints each part of a list on a line; of an empty list nothing.
-fn print_list<W: Write>(list: &str, writer: &mut W) -> io::Result<()> {
-    if list.is_empty() {
-        return Ok(());
+// Prints a byte of a list, of which each part ends a line.
+fn print_listed<W: Write>(byte: u8, writer: &mut W) -> io::Result<()>
+    ensures { OnOk result (Appends (W.contents writer.old) (W.contents writer.new) (spec.listed_byte byte)) }
+{
+    if byte == b',' {
+        writer.write_all(b"\n")
+    } else {
+        print_byte(byte, writer)
     }
-    for part in list.split(',') {
-        print_line(part, writer)?;
+}
+
+// Prints the bytes of a list, but not the end of its last line.
+fn print_parts<W: Write>(list: &str, writer: &mut W) -> io::Result<()>
+    ensures { OnOk result (Appends (W.contents writer.old) (W.contents writer.new) (flat_map spec.listed_byte list.now)) }
+{
+    for byte in list.as_bytes() {
+        print_listed(*byte, writer)?;
     }
     Ok(())
 }
 
+// Prints each part of a list on a line; of an empty list nothing.
+fn print_list<W: Write>(list: &str, writer: &mut W) -> io::Result<()>
+    ensures { OnOk result (Appends (W.contents writer.old) (W.contents writer.new) (spec.list_lines list.now)) }
+{
+    if list.is_empty() {
+        return Ok(());
+    }
+    print_parts(list, writer)?;
+    writer.write_all(b"\n")
+}
+
 /// Prints what a reply holds: a line for each URL or type, one for attributes or for a directory agent, and
 /// `ok` for an acknowledgement.
-pub(crate) fn print_items<W: Write>(items: &Items, writer: &mut W) -> io::Result<()> {
+pub(crate) fn print_items<W: Write>(items: &Items, writer: &mut W) -> io::Result<()>
+    ensures { OnOk result (Appends (W.contents writer.old) (W.contents writer.new) (spec.items_text items.now)) }
+{
     match items {
         Items::Urls(entries) => print_urls(entries.as_slice(), writer),
         Items::Types(list) => print_list(list.as_str(), writer),

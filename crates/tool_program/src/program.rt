@@ -1,5 +1,10 @@
-ghost use Rattle.std.specs.Prelude.{◌≤◌, length};
+ghost use Rattle.std.specs.Prelude.{◌≡◌, ◌≤◌, None, Some, length, map, string_bytes, OnOk};
+ghost use Rattle.std.specs.Io.KnownBytes.{Appends, IsAtEnd};
+ghost use Rattle.std.specs.IoError.{error_kind};
+ghost use Rattle.std.specs.Option.{option_map};
 ghost use Rattle.agent_clients.specs.Keeping.{IsRegistration};
+ghost use Rattle.tool_program.specs.Calls.{call_in, call_of, peer_of, unread, usage_text};
+ghost use Rattle.tool_program.specs.Calls as spec;
 
 use crate::command::{Command, header_with};
 use crate::printing::{fault_status, print_fault, print_items};
@@ -7,7 +12,7 @@ use access_rules::Addr;
 use agent_clients::{ClientFault, ServiceAgent, ask, keep_alive, registration};
 use std::alloc::Global;
 use std::io::{self, ErrorKind, Read, Write};
-use std::net::{Ipv4Addr, Net, SocketAddr, TcpStream};
+use std::net::{Ipv4Addr, Net, SocketAddr, SocketAddrV4, TcpStream};
 use std::sync::atomic::{AtomicBool, Ordering};
 use std::sync::{Arc, Wait};
 use std::thread;
@@ -17,34 +22,58 @@ use std::time::{Clock, SystemTime, UNIX_EPOCH};
 /// The status of a call with words that are not understood.
 const USAGE: u8 = 64;
 
+/// How the tool is called.
+const USAGE_LINE: &str = "usage: slptool HOST:PORT COMMAND\n";
+
+/// The status where no memory is found before anything is asked.
+const NO_MEMORY: u8 = 4;
+
 /// The status of a call whose output failed.
 const UNWRITTEN: u8 = 1;
 
 /// The bytes that one read of the input asks for.
 const CHUNK: usize = 256;
 
-// The number of the request: the seconds since 1970 modulo 65,536, and 1 where that is 0 or can't be read.
+// The number of a request that is sent so many seconds after 1970: they modulo 65,536, and 1 where that is 0.
+fn xid_of(seconds: u64) -> u16
+    ensures { result ≡ spec.xid_of seconds }
+{
+    match (seconds % 65_536) as u16 {
+        0 => 1,
+        xid => xid,
+    }
+}
+
+// The number of the request: by the clock, and 1 where that can't be read.
 fn xid_now<C: Clock>(clock: &C) -> u16 {
     let Ok(now) = SystemTime::now(clock) else {
         return 1;
     };
     match now.duration_since(UNIX_EPOCH) {
-        Ok(since) => ((since.as_secs() & 0xffff) as u16).max(1),
+        Ok(since) => xid_of(since.as_secs()),
         Err(_) => 1,
     }
 }
 
-// Reads input to its end, and then sets the flag.
-fn wait_for_end<I: Read>(input: &mut I, stop: &AtomicBool) {
+// Reads input to its end.
+fn read_through<I: Read>(input: &mut I) -> io::Result<()>
+    ensures { OnOk result (IsAtEnd (I.remaining input.new)) }
+{
     let mut chunk = [0; CHUNK];
     for _ in 0..u64::MAX {
         match input.read(&mut chunk) {
-            Ok(0) => break,
+            Ok(0) => return Ok(()),
             Ok(_) => {}
             Err(e) if e.kind() == ErrorKind::Interrupted => {}
-            Err(_) => break,
+            Err(e) => return Err(e),
         }
     }
+    Err(ErrorKind::Interrupted.into())
+}
+
+// Reads input to its end, and then sets the flag.
+fn wait_for_end<I: Read>(input: &mut I, stop: &AtomicBool) {
+    let _ = read_through(input);
     stop.store(true, Ordering::SeqCst);
 }
 
@@ -117,12 +146,50 @@ where
     Ok(printed)
 }
 
+// An address of IPv4 with its port.
+fn peer_at(bits: u32, port: u16) -> SocketAddr
+    ensures { peer_of result ≡ Some (bits, port) }
+{
+    SocketAddr::V4(SocketAddrV4::new(Ipv4Addr::from_bits(bits), port))
+}
+
 // The agent and the command that words name.
-fn called(words: &[String]) -> Option<(SocketAddr, Command<'_>)> {
+fn called(words: &[String]) -> Option<(SocketAddr, Command<'_>)>
+    ensures { option_map call_of result ≡ option_map (λ c. Some c) (call_in (map string_bytes words.now)) }
+{
     let (peer, words) = words.split_first()?;
     let (Addr(bits), port) = Addr::parse_with_port(peer.as_bytes())?;
-    let peer = SocketAddr::from((Ipv4Addr::from_bits(bits), port));
-    Some((peer, Command::of(words)?))
+    Some((peer_at(bits, port), Command::of(words)?))
+}
+
+/// The status and the text where a call's words can't be read: how the tool is called where one is no text, or else that
+/// there is no memory.
+pub fn unread_words(fault: &io::Error) -> (u8, &'static str)
+    ensures { (result.0, result.1.now) ≡ unread (error_kind fault.now) }
+{
+    match fault.kind() {
+        ErrorKind::InvalidData => (USAGE, USAGE_LINE),
+        _ => (NO_MEMORY, "! memory\n"),
+    }
+}
+
+// Prints how the tool is called.
+fn print_usage<W: Write>(writer: &mut W) -> io::Result<()>
+    ensures { OnOk result (Appends (W.contents writer.old) (W.contents writer.new) usage_text) }
+{
+    let written = writer.write_all(USAGE_LINE.as_bytes());
+    let flushed = writer.flush();
+    written.and(flushed)
+}
+
+// The status of a call, unless its output failed.
+fn status_after(status: u8, printed: io::Result<()>) -> u8
+    ensures { result ≡ spec.status_after status printed }
+{
+    match printed {
+        Ok(()) => status,
+        Err(_) => UNWRITTEN,
+    }
 }
 
 /// The program `slptool`: its words without its own name, its input, which `keep` alone reads, and its output.
@@ -133,18 +200,15 @@ where
     R: Net<Stream = TcpStream> + Clock + Wait + Threads,
     I: Read + Send + Drop + 'static,
     W: Write,
+    ensures usage { call_in (map string_bytes words.now) ≡ None → result ≡ 64 }
 {
     let Some(call) = called(words) else {
-        let _ = writer.write_all(b"usage: slptool HOST:PORT COMMAND\n");
-        let _ = writer.flush();
+        let _ = print_usage(writer);
         return USAGE;
     };
     let (status, printed) = match act(rt, alloc, call, reader, writer) {
         Ok(printed) => (0, printed),
         Err(fault) => (fault_status(fault), print_fault(fault, writer)),
     };
-    match printed.and_then(|()| writer.flush()) {
-        Ok(()) => status,
-        Err(_) => UNWRITTEN,
-    }
+    status_after(status, printed.and_then(|()| writer.flush()))
 }
