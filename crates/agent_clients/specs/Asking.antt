@@ -75,30 +75,50 @@ taken now stage Cut = record { answer = Ok OpenStream; stage = ByStream now }
 taken now stage (Replied (Ok items)) = record { answer = Ok Done; stage = Finished items }
 taken now stage (Replied (Err e)) = fails e
 
--- what comes of an event while the agent asks by datagrams
-abbrev pub by_datagrams : List ℕ → ℕ → Stage → Event → Stepped
-by_datagrams request now stage Tick = due_at now stage
-by_datagrams request now stage (Datagram bytes) = taken now stage (by_datagram request bytes.now)
-by_datagrams request now stage (Stream bytes) = taken now stage (by_stream request bytes.now)
-by_datagrams request now stage StreamFailed = fails fault.Io
+-- what happened, by its bytes
+pub data Happening : Type 0 where
+  -- time went by
+  Passed : Happening
+  -- a datagram came
+  Came : List ℕ → Happening
+  -- a whole message came on the stream
+  Streamed : List ℕ → Happening
+  -- the stream failed, or ended before the reply
+  Broke : Happening
+
+abbrev pub happening_of : Event → Happening
+happening_of Tick = Passed
+happening_of (Datagram bytes) = Came bytes.now
+happening_of (Stream bytes) = Streamed bytes.now
+happening_of StreamFailed = Broke
+
+-- what comes of it while the agent asks by datagrams
+abbrev pub by_datagrams : List ℕ → ℕ → Stage → Happening → Stepped
+by_datagrams request now stage Passed = due_at now stage
+by_datagrams request now stage (Came bytes) = taken now stage (by_datagram request bytes)
+by_datagrams request now stage (Streamed bytes) = taken now stage (by_stream request bytes)
+by_datagrams request now stage Broke = fails fault.Io
 
 -- while it asks on a stream, datagrams are skipped
-abbrev pub by_streams : List ℕ → ℕ → Stage → Event → Stepped
-by_streams request now stage Tick = due_at now stage
-by_streams request now stage (Datagram bytes) = due_at now stage
-by_streams request now stage (Stream bytes) = taken now stage (by_stream request bytes.now)
-by_streams request now stage StreamFailed = fails fault.Io
+abbrev pub by_streams : List ℕ → ℕ → Stage → Happening → Stepped
+by_streams request now stage Passed = due_at now stage
+by_streams request now stage (Came bytes) = due_at now stage
+by_streams request now stage (Streamed bytes) = taken now stage (by_stream request bytes)
+by_streams request now stage Broke = fails fault.Io
 
--- What is answered to an event at a moment, and how far the agent is then. What was answered at the end is answered again at each later event.
-abbrev pub stepped_from : List ℕ → ℕ → Stage → Event → Stepped
-stepped_from request now (ByDatagram start last) event = by_datagrams request now (ByDatagram start last) event
-stepped_from request now (ByStream since) event = by_streams request now (ByStream since) event
-stepped_from request now (Finished items) event = stays (Finished items)
-stepped_from request now (Failed e) event = stays (Failed e)
-stepped_from request now Unstarted event = stays Unstarted
+-- What is answered to what happened at a moment, and how far the agent is then. What was answered at the end is answered again each time later.
+abbrev pub stepped_from : List ℕ → ℕ → Stage → Happening → Stepped
+stepped_from request now (ByDatagram start last) happening = by_datagrams request now (ByDatagram start last) happening
+stepped_from request now (ByStream since) happening = by_streams request now (ByStream since) happening
+stepped_from request now (Finished items) happening = stays (Finished items)
+stepped_from request now (Failed e) happening = stays (Failed e)
+stepped_from request now Unstarted happening = stays Unstarted
+
+abbrev pub stepped_by : Asking → ℕ → Happening → Stepped
+stepped_by a now happening = stepped_from a.request now a.stage happening
 
 abbrev pub stepped : Asking → ℕ → Event → Stepped
-stepped a now event = stepped_from a.request now a.stage event
+stepped a now event = stepped_by a now (happening_of event)
 
 -- the first step: the request is sent, unless it is too long for a datagram
 abbrev pub started : ℕ → List ℕ → Stage

@@ -1,15 +1,19 @@
 //! The two clients: what a user agent asks, and what a service agent keeps registered.
 #![tactic(auto)]
 
+mod asker;
 mod asking;
 mod fault;
 mod items;
 mod keeping;
 mod leases;
+mod outside;
 mod replies;
 mod requests;
 mod service_agent;
+mod sockets;
 mod user_agent;
+mod wire;
 
 pub use asking::ask;
 pub use fault::ClientFault;
