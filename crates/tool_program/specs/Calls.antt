@@ -1,5 +1,5 @@
 -- Whom a call asks, and for what, and what it answers.
-use Rattle.std.specs.Prelude.{ℕ, ◌%◌, ◌==◌, List, [], ◌∷◌, ◌++◌, codes, Option, Some, None, Result, Ok, Err, if◌then◌else◌}
+use Rattle.std.specs.Prelude.{◌≡◌, ◌⊎◌, ℕ, ◌%◌, ◌==◌, List, [], ◌∷◌, ◌++◌, codes, Option, Some, None, Result, Ok, Err, IfOk, if◌then◌else◌}
 use Rattle.std.specs.Option.{option_map}
 use Rattle.std.specs.declared.io.Error.{Error}
 use Rattle.std.specs.declared.io.ErrorKind.{ErrorKind}
@@ -8,9 +8,17 @@ use Rattle.std.specs.declared.net.socket_addr.SocketAddr.{SocketAddr}
 use Rattle.std.specs.declared.net.socket_addr.SocketAddr.TheVariants.{V4, V6}
 use Rattle.std.specs.Net.Addr.{ipv4_bits}
 use Rattle.std.specs.Net.Socket.{v4_ip, v4_port}
+use Rattle.std.specs.Io.KnownBytes.{Appends}
 use Rattle.access_rules.specs.Addresses.{both_of, socket_of}
+use Rattle.agent_clients.specs.Requests.{IsSpelled, IsUnbuilt}
+use Rattle.agent_clients.specs.Wires.{Asks, Deed}
+use Rattle.agent_clients.specs.declared.fault.ClientFault.{ClientFault}
+use Rattle.agent_clients.specs.declared.items.Items.{Items}
+use Rattle.agent_clients.specs.declared.items.Items.TheVariants.{Acknowledged}
+use Rattle.slp_messages.specs.declared.message.Message.{Message}
 use Rattle.slp_text.specs.Ascii.{line_feed}
-use Rattle.tool_program.specs.Commands.{Asked, asked, command_in}
+use Rattle.tool_program.specs.Commands.{Asked, Keep, asked, command_in, message_of, tool_header}
+use Rattle.tool_program.specs.Printing.{fault_status, fault_text, items_text}
 use Rattle.tool_program.specs.declared.command.Command.{Command}
 
 -- an address of IPv4 and its port
@@ -40,7 +48,30 @@ abbrev pub unread : ErrorKind → ℕ × List ℕ
 unread InvalidData = (64, usage_text)
 unread _ = (4, codes "! memory" ++ line_feed ∷ [])
 
+-- ---- what is answered
+
+-- A message is asked, and comes to this: the bytes that spell it are asked by some deeds, or it can't be spelled.
+abbrev pub IsAsked : Message → Result Items ClientFault → Type 0
+IsAsked m told = ((e : ClientFault) × IsUnbuilt m e × (told ≡ Err e)) ⊎ ((bytes : List ℕ) × IsSpelled m bytes × ((ds : List Deed) × Asks bytes ds told))
+
+-- What a call comes to: its message is asked with some number. A registration that is kept is acknowledged, or fails.
+abbrev pub Answers : Asked → Result Items ClientFault → Type 0
+Answers (Keep r) told = IfOk told (λ items. items ≡ Acknowledged)
+Answers a told = (xid : ℕ) × IsAsked (message_of (tool_header xid) a) told
+
+abbrev pub told_status : Result Items ClientFault → ℕ
+told_status (Ok items) = 0
+told_status (Err e) = fault_status e
+
+abbrev pub told_text : Result Items ClientFault → List ℕ
+told_text (Ok items) = items_text items
+told_text (Err e) = fault_text e
+
 -- the status of a call, unless its output failed
 abbrev pub status_after : ℕ → Result (Unit {0}) Error → ℕ
 status_after status (Ok x) = status
 status_after status (Err e) = 1
+
+-- what a call came to is printed, and its status answered, unless its output failed
+abbrev pub IsReported : Result Items ClientFault → Option (List ℕ) → Option (List ℕ) → ℕ → Type 0
+IsReported told before after status = (status ≡ 1) ⊎ ((status ≡ told_status told) × Appends before after (told_text told))

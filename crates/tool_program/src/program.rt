@@ -1,15 +1,18 @@
-ghost use Rattle.std.specs.Prelude.{◌≡◌, ◌≤◌, None, Some, length, map, string_bytes, OnOk};
+ghost use Rattle.std.specs.Prelude.{◌≡◌, ◌≤◌, None, Some, Result, length, map, string_bytes, IfSome, OnOk};
 ghost use Rattle.std.specs.Io.KnownBytes.{Appends, IsAtEnd};
 ghost use Rattle.std.specs.IoError.{error_kind};
 ghost use Rattle.std.specs.Option.{option_map};
 ghost use Rattle.agent_clients.specs.Keeping.{IsRegistration};
-ghost use Rattle.tool_program.specs.Calls.{call_in, call_of, peer_of, unread, usage_text};
+ghost use Rattle.agent_clients.specs.declared.fault.ClientFault.{ClientFault};
+ghost use Rattle.agent_clients.specs.declared.items.Items.{Items};
+ghost use Rattle.tool_program.specs.Calls.{call_in, call_of, peer_of, told_status, told_text, unread, usage_text, Answers, IsReported};
+ghost use Rattle.tool_program.specs.Commands.{asked};
 ghost use Rattle.tool_program.specs.Calls as spec;
 
 use crate::command::{Command, header_with};
 use crate::printing::{fault_status, print_fault, print_items};
 use access_rules::Addr;
-use agent_clients::{ClientFault, ServiceAgent, ask, keep_alive, registration};
+use agent_clients::{ClientFault, Items, ServiceAgent, ask, keep_alive, registration};
 use std::alloc::Global;
 use std::io::{self, ErrorKind, Read, Write};
 use std::net::{Ipv4Addr, Net, SocketAddr, SocketAddrV4, TcpStream};
@@ -121,29 +124,44 @@ where
     keep_alive(rt, alloc, peer, agent, &stop)
 }
 
-// Does what a command asks for, and prints what comes of it.
-fn act<R, I, W>(
+// What a call comes to. A registration that is kept is acknowledged at the end.
+fn outcome<R, I>(
     rt: &R,
     alloc: Global,
-    (peer, command): (SocketAddr, Command<'_>),
+    call: (SocketAddr, Command<'_>),
     reader: I,
-    writer: &mut W,
-) -> Result<io::Result<()>, ClientFault>
+) -> Result<Items, ClientFault>
 where
     R: Net<Stream = TcpStream> + Clock + Wait + Threads,
     I: Read + Send + Drop + 'static,
-    W: Write,
+    ensures { Answers (asked call.entry.1) result }
 {
+    let (peer, command) = call;
     let header = header_with(xid_now(rt));
     if let Command::Keep(service) = command {
         let request = registration(alloc, &header, &service)?;
         keep(rt, alloc, peer, request, reader)?;
-        return Ok(writer.write_all(b"ok\n"));
+        return Ok(Items::Acknowledged);
     }
-    let items = ask(rt, alloc, peer, command.request(alloc, &header)?)?;
-    let printed = print_items(&items, writer);
-    drop(items);
-    Ok(printed)
+    match command.request(alloc, &header) {
+        Ok(request) => ask(rt, alloc, peer, request),
+        Err(fault) => Err(fault),
+    }
+}
+
+// Prints what a call came to, and answers the status, but for the output's.
+fn report<W: Write>(told: Result<Items, ClientFault>, writer: &mut W) -> (u8, io::Result<()>)
+    ensures status { result.0 ≡ told_status told }
+    ensures text { OnOk result.1 (Appends (W.contents writer.old) (W.contents writer.new) (told_text told)) }
+{
+    match told {
+        Ok(items) => {
+            let printed = print_items(&items, writer);
+            drop(items);
+            (0, printed)
+        }
+        Err(fault) => (fault_status(fault), print_fault(fault, writer)),
+    }
 }
 
 // An address of IPv4 with its port.
@@ -192,6 +210,18 @@ fn status_after(status: u8, printed: io::Result<()>) -> u8
     }
 }
 
+// Prints what a call came to, and answers the status.
+fn finish<W: Write>(told: Result<Items, ClientFault>, writer: &mut W) -> u8
+    ensures { IsReported told (W.contents writer.old) (W.contents writer.new) result }
+{
+    let (status, printed) = report(told, writer);
+    let written = match printed {
+        Ok(()) => writer.flush(),
+        Err(fault) => Err(fault),
+    };
+    status_after(status, written)
+}
+
 /// The program `slptool`: its words without its own name, its input, which `keep` alone reads, and its output.
 /// It answers the status: 0, or 1 to 6 where there is no answer (a socket or the output failed, none came, a
 /// code, no memory, an answer that is cut, a request that is too long), or 64 where the words are not understood.
@@ -201,14 +231,12 @@ where
     I: Read + Send + Drop + 'static,
     W: Write,
     ensures usage { call_in (map string_bytes words.now) ≡ None → result ≡ 64 }
+    ensures answer { IfSome (call_in (map string_bytes words.now)) (λ call. (told : Result Items ClientFault) × Answers call.1 told × IsReported told (W.contents writer.old) (W.contents writer.new) result) }
 {
     let Some(call) = called(words) else {
         let _ = print_usage(writer);
         return USAGE;
     };
-    let (status, printed) = match act(rt, alloc, call, reader, writer) {
-        Ok(printed) => (0, printed),
-        Err(fault) => (fault_status(fault), print_fault(fault, writer)),
-    };
-    status_after(status, printed.and_then(|()| writer.flush()))
+    let told = outcome(rt, alloc, call, reader);
+    finish(told, writer)
 }
