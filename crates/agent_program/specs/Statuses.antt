@@ -33,3 +33,7 @@ end_status before (Err loop_fault.NoMemory) = 3
 abbrev pub loop_start : LoopFault → StartFault
 loop_start loop_fault.Io = Failed
 loop_start loop_fault.NoMemory = NoMemory
+
+-- how the program is called
+abbrev pub usage_text : List ℕ
+usage_text = codes "usage: slpda CONFIG" ++ line_feed ∷ []

@@ -11,5 +11,5 @@ mod threads;
 mod watching;
 mod words;
 
-pub use program::agent_run;
+pub use program::{agent_run, unread_words};
 pub use starting::{Ends, start_loops};

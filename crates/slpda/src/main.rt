@@ -1,15 +1,13 @@
 //! A directory agent: listens at the address of its configuration until standard input ends.
 #![tactic(auto)]
 
-use agent_program::agent_run;
+use agent_program::{agent_run, unread_words};
 use std::env;
 use std::io::{self, BufWriter, Write};
 use std::process::ExitCode;
 
-/// The status where no memory is found before the configuration is read.
+/// The status where no memory is found for the output.
 const NO_MEMORY: u8 = 3;
-/// The status of wrong usage, where an argument is not text.
-const USAGE: u8 = 64;
 
 // The words without the program's own name.
 fn words(rt: &HostRuntime) -> io::Result<Vec<String>> {
@@ -20,13 +18,11 @@ fn words(rt: &HostRuntime) -> io::Result<Vec<String>> {
     Ok(words)
 }
 
-// The status of a call whose words are not all text, or that finds no memory for them.
+// The status of a call whose words cannot be read.
 fn refuse(rt: &HostRuntime, fault: &io::Error) -> ExitCode {
-    if fault.kind() != io::ErrorKind::InvalidData {
-        return ExitCode::from(NO_MEMORY);
-    }
-    let _ = io::writer(rt).write_all(b"usage: slpda CONFIG\n");
-    ExitCode::from(USAGE)
+    let (status, words) = unread_words(fault);
+    let _ = io::writer(rt).write_all(words.as_bytes());
+    ExitCode::from(status)
 }
 
 fn main(rt: HostRuntime) -> ExitCode {
