@@ -2,7 +2,7 @@
 use Rattle.std.proofs.Common.{List, [], ◌∷◌, ◌++◌, refl, subst, inl, inr}
 use Rattle.slp_loops.specs.Ports.{Happening, Serves}
 use Rattle.slp_loops.specs.Serving.{Steps, Settles}
-use Rattle.slp_loops.specs.Turning.{IsByStream, IsPart, Passes, Reaches}
+use Rattle.slp_loops.specs.Turning.{IsByStream, IsPart, Passes, Reaches, SettlesFirst}
 
 module _ {S : Type 0} (steps : Steps S) (settles : Settles S) where
   passes_on : (a : S) (ss ts : List S) (b c : S) → Passes steps settles a ss b → Passes steps settles b ts c → Passes steps settles a (ss ++ ts) c
@@ -31,3 +31,10 @@ module _ {S : Type 0} (steps : Steps S) (settles : Settles S) where
   -- a stream
   pub reach_stream : (a b : S) → IsByStream steps settles a b → Reaches steps settles a b
   reach_stream a b one = reach_part a b (inr (inr one))
+
+  -- it settled, and nothing else was done
+  pub settled_first : (a b : S) → settles a b → SettlesFirst steps settles a b
+  settled_first a b one = (b, one, reach_none b)
+
+  pub reach_first : (a b : S) → SettlesFirst steps settles a b → Reaches steps settles a b
+  reach_first a b (s, one, rest) = reach_on a s b (reach_settled a s one) rest

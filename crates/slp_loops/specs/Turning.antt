@@ -28,3 +28,11 @@ module _ {S : Type 0} (steps : Steps S) (settles : Settles S) where
   -- nothing is done to it but such parts, one after the other
   abbrev pub Reaches : S → S → Type 0
   Reaches before after = (ss : List S) × Passes before ss after
+
+  -- it settles, and then such parts are done to it
+  abbrev pub SettlesFirst : S → S → Type 0
+  SettlesFirst before after = (s : S) × settles before s × Reaches s after
+
+  -- such parts are done to it, and last it settles
+  abbrev pub SettlesLast : S → S → Type 0
+  SettlesLast before after = (s : S) × Reaches before s × settles s after

@@ -1,6 +1,6 @@
 ghost use Rattle.std.specs.Prelude.{◌≡◌, ◌≤◌, ◌<◌, ◌↔◌, length, slice_get, Some, IfOk, IfErr, IsTrue};
 ghost use Rattle.slp_loops.specs.Holding.{NoneSits, longest_stay};
-ghost use Rattle.slp_loops.specs.Turning.{Reaches};
+ghost use Rattle.slp_loops.specs.Turning.{Reaches, SettlesFirst, SettlesLast};
 ghost use Rattle.slp_loops.specs.declared.fault.LoopFault.TheVariants.{Io as Failing};
 
 use crate::clock::{Moments, SteadyClock};
@@ -264,7 +264,7 @@ impl<S: Serve + Drop> AgentLoop<S> {
     pub fn turn<M: Moments>(&mut self, steady: &mut M) -> Result<(), LoopFault>
         ensures limit { self.new.limit ≡ self.old.limit }
         ensures none { NoneSits longest_stay self.new.moment self.new.moved }
-        ensures served { Reaches S.steps S.settles self.old.server self.new.server }
+        ensures served { SettlesFirst S.steps S.settles self.old.server self.new.server }
     {
         let told = self.serve_ready(steady);
         self.streams.close_still();
@@ -272,10 +272,10 @@ impl<S: Serve + Drop> AgentLoop<S> {
     }
 
     // Waits, and serves what is ready.
-    #[tactic(auto, using(crate::proofs::Reaching::reach_settled))]
+    #[tactic(auto, using(crate::proofs::Reaching::settled_first))]
     fn serve_ready<M: Moments>(&mut self, steady: &mut M) -> Result<(), LoopFault>
         ensures limit { self.new.limit ≡ self.old.limit }
-        ensures served { Reaches S.steps S.settles self.old.server self.new.server }
+        ensures served { SettlesFirst S.steps S.settles self.old.server self.new.server }
     {
         self.server.settle();
         let wait = Duration::from_millis(LONGEST_WAIT);
@@ -316,7 +316,7 @@ impl<S: Serve + Drop> AgentLoop<S> {
     pub fn run<R: Wait + Clock>(&mut self, rt: &R, stop: &AtomicBool) -> Result<(), LoopFault>
         ensures limit { self.new.limit ≡ self.old.limit }
         ensures fault { IfErr result (λ e. e ≡ Failing) }
-        ensures served { Reaches S.steps S.settles self.old.server self.new.server }
+        ensures served { SettlesLast S.steps S.settles self.old.server self.new.server }
     {
         let told = self.take_turns(rt, stop);
         self.server.settle();
