@@ -9,7 +9,7 @@ ghost use Rattle.slp_loops.specs.Exchanging.{datagram, datagrams, back, back_by,
 use crate::exchange::{Back, Exchange, Rest};
 use crate::fault::{LoopFault, is_socket_lost};
 use crate::port::Port;
-use crate::serve::Serve;
+use crate::serve::{Serve, Settled, settle};
 use access_rules::Addr;
 use mio::net::UdpSocket;
 use mio::{Interest, Registry, Token};
@@ -48,11 +48,11 @@ fn rest_after(error: &io::Error) -> Result<Rest, LoopFault>
 }
 
 // Sends these bytes, where there are any.
-fn hand<P: Port>(port: &mut P, bytes: &[u8], peer: SocketAddr)
+fn hand<P: Port>(port: &mut P, settled: &Settled, bytes: &[u8], peer: SocketAddr)
     ensures { Runs P.may port.old (map Left (owed peer bytes.now)) port.new }
 {
     if !bytes.is_empty() {
-        port.send(bytes, peer);
+        port.send(settled, bytes, peer);
     }
 }
 
@@ -102,15 +102,15 @@ impl Exchange {
     }
 
     // Sends what goes back.
-    fn send<P: Port>(&self, port: &mut P)
+    fn send<P: Port>(&self, port: &mut P, settled: &Settled)
         ensures { Runs P.may port.old (map Left (dues self.now)) port.new }
     {
         match self.back {
             Back::Nothing => {}
-            Back::Answered => hand(port, self.answer.bytes.as_slice(), self.from),
+            Back::Answered => hand(port, settled, self.answer.bytes.as_slice(), self.from),
             Back::Refused => {
                 let reply = refused_reply(&self.buffer[..self.length]);
-                hand(port, reply.as_slice(), self.from);
+                hand(port, settled, reply.as_slice(), self.from);
             }
         }
     }
@@ -144,11 +144,11 @@ fn serve_all<S: Serve>(exchanges: &mut [Exchange], server: &mut S)
 }
 
 // Sends what goes back for each, in their order.
-fn send_all<P: Port>(exchanges: &[Exchange], port: &mut P)
+fn send_all<P: Port>(exchanges: &[Exchange], port: &mut P, settled: &Settled)
     ensures { Runs P.may port.old (map Left (all_dues exchanges.now)) port.new }
 {
     for exchange in exchanges {
-        exchange.send(port);
+        exchange.send(port, settled);
     }
 }
 
@@ -164,8 +164,8 @@ fn serve_round<P: Port, S: Serve>(
     let (count, told) = receive_all(exchanges, port);
     let front = &mut exchanges[..count];
     serve_all(front, server);
-    server.settle();
-    send_all(front, port);
+    let settled = settle(server);
+    send_all(front, port, &settled);
     told
 }
 

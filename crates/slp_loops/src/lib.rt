@@ -23,4 +23,4 @@ pub use exchange::Rest;
 pub use fault::LoopFault;
 pub use log::{Lines, Log, SharedOutput};
 pub use port::Port;
-pub use serve::Serve;
+pub use serve::{Serve, Settled};

@@ -2,6 +2,7 @@
 ghost use Rattle.std.specs.Prelude.{◌≤◌, length, IfOk};
 ghost use Rattle.slp_loops.specs.Ports.{Left, received};
 
+use crate::serve::Settled;
 use mio::net::UdpSocket;
 use std::io;
 use std::net::SocketAddr;
@@ -18,9 +19,9 @@ pub trait Port {
         ensures within { IfOk result (λ r. r.0 ≤ length buffer.new) }
         ensures received { may self.old (received result buffer.new) self.new };
 
-    /// Hands a datagram over. One that the system does not take now is dropped: datagrams may be lost, and
-    /// their senders ask again.
-    fn send(&mut self, bytes: &[u8], peer: SocketAddr)
+    /// Hands a datagram over, once what was told of it is out. One that the system does not take now is dropped: datagrams may be
+    /// lost, and their senders ask again.
+    fn send(&mut self, settled: &Settled, bytes: &[u8], peer: SocketAddr)
         ensures { may self.old (Left (record { peer = peer; bytes = bytes.now })) self.new };
 }
 
@@ -34,7 +35,7 @@ impl Port for UdpSocket {
         self.recv_from(buffer)
     }
 
-    fn send(&mut self, bytes: &[u8], peer: SocketAddr) {
+    fn send(&mut self, _settled: &Settled, bytes: &[u8], peer: SocketAddr) {
         let _ = self.send_to(bytes, peer);
     }
 }

@@ -31,3 +31,15 @@ pub trait Serve {
     fn settle(&mut self)
         ensures { settles self.old self.new };
 }
+
+/// That what was told of the messages so far is out. `settle` alone gives it.
+#[derive(Drop)]
+pub struct Settled(());
+
+/// Has a server settle, before answers leave.
+pub(crate) fn settle<S: Serve>(server: &mut S) -> Settled
+    ensures { S.settles server.old server.new }
+{
+    server.settle();
+    Settled(())
+}
