@@ -71,18 +71,13 @@ template_warning file (Some rules) t = kind_line (File file) (rules_in rules) (t
 -- that an earlier template is of its type
 abbrev pub addition_line : List ℕ → Result SiteTemplates ParseFault → List ℕ
 addition_line file (Err parse_fault.TwiceType) = problem_line (File file) SameType
-addition_line file (Err parse_fault.TooMany) = []
-addition_line file (Err parse_fault.NoMemory) = []
-addition_line file (Err (parse_fault.Line n)) = []
-addition_line file (Ok templates) = []
+addition_line file _ = []
 
--- what is said of a template that a text is, beside those that were added before; or why it is none
+-- what is said of a template that a text is, beside those that were added before; or at which line it is none
 abbrev pub told_template : List ℕ → List ℕ → Option SiteRules → SiteTemplates → Result Template ParseFault → List ℕ
 told_template file text rules templates (Ok t) = template_warning file rules t ++ addition_line file (added_to templates t)
 told_template file text rules templates (Err (parse_fault.Line n)) = template_lines file text n
-told_template file text rules templates (Err parse_fault.TwiceType) = []
-told_template file text rules templates (Err parse_fault.TooMany) = []
-told_template file text rules templates (Err parse_fault.NoMemory) = []
+told_template file text rules templates _ = []
 
 abbrev pub template_text_lines : List ℕ → Option SiteRules → SiteTemplates → List ℕ → List ℕ
 template_text_lines file rules templates text = told_template file text rules templates (template_in text)
