@@ -4,6 +4,7 @@ pub mod Hiding
 pub mod Lines
 pub mod NotToml
 pub mod RuleFaults
+pub mod RuleKeys
 pub mod RuleWarnings
 pub mod SiteLines
 pub mod TemplateFaults

@@ -8,6 +8,7 @@ pub mod laws;
 mod problem;
 mod program;
 mod rule_faults;
+mod rule_keys;
 mod site;
 mod template_faults;
 mod warnings;

@@ -1,21 +1,20 @@
-//! Which rules and hide tables of a rule file are at fault, and which of their keys.
-ghost use Rattle.std.specs.Prelude.{◌≡◌, ◌≤◌, ◌+◌, ◌-◌, ◌^◌, ◌<◌, [], IfOk, OnOk, flat_map, length, map, string_bytes};
-ghost use Rattle.std.specs.BTreeMap.{keys};
+//! Which rules and hide tables of a rule file are at fault.
+ghost use Rattle.std.specs.Prelude.{◌≡◌, ◌+◌, ◌^◌, ◌<◌, OnOk, flat_map, length, map};
 ghost use Rattle.std.specs.Io.KnownBytes.{Appends};
 ghost use Rattle.std.specs.List.{enumerate_from};
 ghost use Rattle.std.specs.Option.{option_copied, option_map};
 ghost use Rattle.toml.specs.View.{table_view, view};
 ghost use Rattle.access_rules.specs.Tables as tables;
-ghost use Rattle.site_check.specs.Lines.{place_in, problem_in, problem_line};
+ghost use Rattle.site_check.specs.Lines.{place_in, problem_in};
 ghost use Rattle.site_check.specs.NotToml.{AppendsStopped};
 ghost use Rattle.site_check.specs.RuleFaults as spec;
-ghost use Rattle.site_check.specs.RuleFaults.{all_lines, array_line, file_key_line, has_name, hide_lines, keys_in, key_line, key_refusal, key_text, name_given, name_line, other_line, rule_file_lines, rule_keys, rule_lines, rule_table_lines, table_lines, value_lines, version_line};
+ghost use Rattle.site_check.specs.RuleFaults.{all_lines, array_line, file_key_line, has_name, hide_lines, name_given, name_line, rule_file_lines, rule_lines, rule_table_lines, version_line};
 
 use crate::config_faults::explain_toml;
 use crate::fault::CheckFault;
 use crate::problem::{FileText, LONGEST_TEXT, Numbered, Place, Problem, report};
+use crate::rule_keys::{explain_value, hide_keys, keys_of};
 use access_rules::{Version, fields};
-use slp_text::NoMemory;
 use std::alloc::Global;
 use std::io::{self, Write};
 use toml::{Table, Value};
@@ -23,248 +22,11 @@ use toml::{Table, Value};
 /// The most rules and hide tables of a file.
 const MOST_RULES: usize = 1_024;
 
-/// A key of a rule or of a hide table.
-#[derive(Clone, Copy)]
-enum RuleKey {
-    Name,
-    From,
-    Action,
-    Kind,
-    Scopes,
-    Verdict,
-    Owner,
-    Tags,
-    SpareOwner,
-}
-
-const RULE_KEYS: [RuleKey; 7] = [
-    RuleKey::Name,
-    RuleKey::From,
-    RuleKey::Action,
-    RuleKey::Kind,
-    RuleKey::Scopes,
-    RuleKey::Verdict,
-    RuleKey::Owner,
-];
-
-const HIDE_KEYS: [RuleKey; 6] = [
-    RuleKey::Name,
-    RuleKey::From,
-    RuleKey::Kind,
-    RuleKey::Scopes,
-    RuleKey::Tags,
-    RuleKey::SpareOwner,
-];
-
-/// The keys that a table may have in the version of its file, and those that it may have in a later one alone.
-#[derive(Clone, Copy)]
-struct Keys {
-    known: &'static [RuleKey],
-    later: &'static [RuleKey],
-}
-
-// Those of a rule: that it is about owners comes with version 2.
-fn keys_of(version: Option<Version>) -> Keys
-    ensures { keys_in result ≡ rule_keys version }
-{
-    match version {
-        Some(Version::One) => Keys {
-            known: &RULE_KEYS[..6],
-            later: &RULE_KEYS[6..],
-        },
-        _ => Keys {
-            known: &RULE_KEYS,
-            later: &[],
-        },
-    }
-}
-
-// Those of a hide table.
-fn hide_keys() -> Keys
-    ensures { keys_in result ≡ spec.hide_keys }
-{
-    Keys {
-        known: &HIDE_KEYS,
-        later: &[],
-    }
-}
-
-impl RuleKey {
-    fn text(self) -> &'static str
-        ensures { result.now ≡ key_text self }
-    {
-        match self {
-            RuleKey::Name => "name",
-            RuleKey::From => "from",
-            RuleKey::Action => "action",
-            RuleKey::Kind => "type",
-            RuleKey::Scopes => "scopes",
-            RuleKey::Verdict => "verdict",
-            RuleKey::Owner => "owner",
-            RuleKey::Tags => "tags",
-            RuleKey::SpareOwner => "spare-owner",
-        }
-    }
-
-    // What a value that is refused is not.
-    fn refusal(self) -> &'static str
-        ensures { result.now ≡ key_refusal self }
-    {
-        match self {
-            RuleKey::Name => "not 1 to 32 small letters, digits and \"-\"",
-            RuleKey::From => "not an array of one or more prefixes \"a.b.c.d/n\"",
-            RuleKey::Action => "neither \"register\", \"withdraw\" nor \"see\"",
-            RuleKey::Kind => "neither \"*\" nor a service type",
-            RuleKey::Scopes => "neither [\"*\"] nor an array of one or more scopes",
-            RuleKey::Verdict => "neither \"allow\" nor \"deny\"",
-            RuleKey::Owner | RuleKey::SpareOwner => "neither true nor false",
-            RuleKey::Tags => "not a tag list with one tag at least",
-        }
-    }
-
-    // Whether what stands at the key is taken.
-    fn stands(self, alloc: Global, table: &Table) -> Result<bool, NoMemory>
-        ensures { IfOk result (λ b. b ≡ spec.stands self (table_view table.now)) }
-    {
-        match self {
-            RuleKey::Name => Ok(fields::name(alloc, table)?.is_some()),
-            RuleKey::From => Ok(fields::from(alloc, table)?.is_some()),
-            RuleKey::Action => Ok(fields::action(table).is_some()),
-            RuleKey::Kind => Ok(fields::kind(alloc, table)?.is_some()),
-            RuleKey::Scopes => Ok(fields::scopes(alloc, table)?.is_some()),
-            RuleKey::Verdict => Ok(fields::verdict(table).is_some()),
-            RuleKey::Owner => Ok(fields::owner(table).is_some()),
-            RuleKey::Tags => Ok(fields::tags(alloc, table)?.is_some()),
-            RuleKey::SpareOwner => Ok(fields::spare_owner(table).is_some()),
-        }
-    }
-
-    // Writes what is wrong with what stands at the key, if anything is.
-    fn explain<W: Write>(
-        self,
-        alloc: Global,
-        place: Place<'_>,
-        table: &Table,
-        writer: &mut W,
-    ) -> Result<(), CheckFault>
-        ensures { OnOk result (Appends (W.contents writer.old) (W.contents writer.new) (key_line (place_in place.entry) (table_view table.now) self)) }
-    {
-        if self.stands(alloc, table)? {
-            return Ok(());
-        }
-        let problem = match fields::value_at(table, self.text()) {
-            None => Problem::Missing(self.text()),
-            Some(_) => Problem::Value(self.text(), self.refusal()),
-        };
-        report(place, problem, writer)?;
-        Ok(())
-    }
-}
-
-fn is_one_of(keys: &[RuleKey], key: &str) -> bool
-    ensures { result ≡ spec.is_one_of keys.now key.now }
-{
-    keys.iter().any(|known| known.text() == key)
-}
-
-// What is wrong with a key, if anything is.
-fn fault_of<'a>(keys: Keys, key: &'a str) -> Option<Problem<'a>>
-    ensures { option_map problem_in result ≡ spec.fault_of (keys_in keys) key.now }
-{
-    if is_one_of(keys.known, key) {
-        return None;
-    }
-    if is_one_of(keys.later, key) {
-        return Some(Problem::EarlyKey(key));
-    }
-    Some(Problem::UnknownKey(key))
-}
-
-// Writes a key that a table may not have.
-fn explain_other<W: Write>(
-    keys: Keys,
-    place: Place<'_>,
-    key: &str,
-    writer: &mut W,
-) -> io::Result<()>
-    ensures { OnOk result (Appends (W.contents writer.old) (W.contents writer.new) (other_line (keys_in keys) (place_in place.entry) key.now)) }
-{
-    match fault_of(keys, key) {
-        Some(problem) => report(place, problem, writer),
-        None => Ok(()),
-    }
-}
-
-// Writes the keys of a table that it may not have.
-fn explain_others<W: Write>(
-    keys: Keys,
-    place: Place<'_>,
-    table: &Table,
-    writer: &mut W,
-) -> io::Result<()>
-    ensures { OnOk result (Appends (W.contents writer.old) (W.contents writer.new) (flat_map (other_line (keys_in keys) (place_in place.entry)) (tables.keys_of (table_view table.now)))) }
-{
-    for key in table.keys() {
-        explain_other(keys, place, key.as_str(), writer)?;
-    }
-    Ok(())
-}
-
 // The name that a value gives a rule or a hide table, if it is a text.
 fn name_of(value: &Value) -> Option<&str>
     ensures { option_copied result ≡ name_given (view value.now) }
 {
     fields::value_at(value.as_table()?, "name")?.as_str()
-}
-
-// Writes what is wrong with what stands at the keys that a table may have.
-fn explain_known<W: Write>(
-    alloc: Global,
-    known: &[RuleKey],
-    place: Place<'_>,
-    table: &Table,
-    writer: &mut W,
-) -> Result<(), CheckFault>
-    ensures { OnOk result (Appends (W.contents writer.old) (W.contents writer.new) (flat_map (key_line (place_in place.entry) (table_view table.now)) known.now)) }
-{
-    for key in known {
-        key.explain(alloc, place, table, writer)?;
-    }
-    Ok(())
-}
-
-// Writes what is wrong with a table of these keys.
-fn explain_keys<W: Write>(
-    alloc: Global,
-    keys: Keys,
-    place: Place<'_>,
-    table: &Table,
-    writer: &mut W,
-) -> Result<(), CheckFault>
-    ensures { OnOk result (Appends (W.contents writer.old) (W.contents writer.new) (table_lines (keys_in keys) (place_in place.entry) (table_view table.now))) }
-{
-    explain_known(alloc, keys.known, place, table, writer)?;
-    explain_others(keys, place, table, writer)?;
-    Ok(())
-}
-
-// Writes what is wrong with a value as a table of these keys.
-fn explain_value<W: Write>(
-    alloc: Global,
-    keys: Keys,
-    place: Place<'_>,
-    value: &Value,
-    writer: &mut W,
-) -> Result<(), CheckFault>
-    ensures { OnOk result (Appends (W.contents writer.old) (W.contents writer.new) (value_lines (keys_in keys) (place_in place.entry) (view value.now))) }
-{
-    match value.as_table() {
-        Some(table) => explain_keys(alloc, keys, place, table, writer),
-        None => {
-            report(place, Problem::NotTable, writer)?;
-            Ok(())
-        }
-    }
 }
 
 // Whether a value gives this name.

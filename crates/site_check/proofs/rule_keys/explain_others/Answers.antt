@@ -4,9 +4,9 @@ use Rattle.std.specs.BTreeMap.{keys}
 use Rattle.std.proofs.KnownBytes.{Appends-trans}
 use Rattle.std.proofs.lemmas.Iterator.Consumers.{YieldsList-end, YieldsList-from_rest}
 use Rattle.site_check.specs.Lines.{place_in}
-use Rattle.site_check.specs.RuleFaults.{keys_in, other_line}
+use Rattle.site_check.specs.RuleKeys.{keys_in, other_line}
 use Rattle.site_check.proofs.TableKeys.{texts, texts-all, written_more}
-use Rattle.site_check.proofs.rule_faults.explain_others.Goals as goal
+use Rattle.site_check.proofs.rule_keys.explain_others.Goals as goal
 
 pub loop-key-preserved : goal.loop-key-preserved
 loop-key-preserved g c =
