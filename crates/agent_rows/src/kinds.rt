@@ -45,6 +45,7 @@ pub(crate) enum StreamRow {
     Open,
     Send,
     Take,
+    Still,
     Close,
     Reset,
     Datagrams,
@@ -64,6 +65,7 @@ pub(crate) enum AgentRow {
     Console(&'static str),
     TwoLoopsAtOnce,
     Pause,
+    Idle,
 }
 
 #[derive(Clone, Copy)]
@@ -73,11 +75,12 @@ pub(crate) enum ToolRow {
     Call,
     Serve,
     Silent,
+    Sockets,
     Check,
 }
 
 /// The rows by their words.
-static ROWS: [(&str, Row); 39] = [
+static ROWS: [(&str, Row); 42] = [
     ("at", Row::Place(PlaceRow::At)),
     ("from", Row::Place(PlaceRow::From)),
     ("near", Row::Place(PlaceRow::Near)),
@@ -96,6 +99,7 @@ static ROWS: [(&str, Row); 39] = [
     ("open", Row::Stream(StreamRow::Open)),
     ("send", Row::Stream(StreamRow::Send)),
     ("take", Row::Stream(StreamRow::Take)),
+    ("still", Row::Stream(StreamRow::Still)),
     ("close", Row::Stream(StreamRow::Close)),
     ("reset", Row::Stream(StreamRow::Reset)),
     ("datagrams", Row::Stream(StreamRow::Datagrams)),
@@ -111,11 +115,13 @@ static ROWS: [(&str, Row); 39] = [
     ("unended", Row::Agent(AgentRow::Console(""))),
     ("two_loops_at_once", Row::Agent(AgentRow::TwoLoopsAtOnce)),
     ("pause", Row::Agent(AgentRow::Pause)),
+    ("idle", Row::Agent(AgentRow::Idle)),
     ("tool", Row::Tool(ToolRow::Tool)),
     ("keep", Row::Tool(ToolRow::Keep)),
     ("call", Row::Tool(ToolRow::Call)),
     ("serve", Row::Tool(ToolRow::Serve)),
     ("silent", Row::Tool(ToolRow::Silent)),
+    ("sockets", Row::Tool(ToolRow::Sockets)),
     ("check", Row::Tool(ToolRow::Check)),
 ];
 

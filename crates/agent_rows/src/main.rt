@@ -109,8 +109,9 @@ fn main(rt: HostRuntime) -> io::Result<()> {
         let props = Props::new(matches!(start, Some((_, "_loops", _))));
         let handed = Handed {
             rt: &rt,
-            moment: &props.steady,
+            moment: Some(&props.steady),
             seconds: &props.seconds,
+            asked: &props.asked,
         };
         let (mut input, mut lines, ends) = open_terminal(&rt, &props.valve)?;
         let mut scene = Scene::new(&rt, alloc, &props, patience, ends)?;

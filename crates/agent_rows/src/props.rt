@@ -1,10 +1,12 @@
 //! What rows hold of an agent.
+use crate::handed::Asked;
 use crate::meeting::Meeting;
 use crate::terminal::Valve;
 use std::sync::atomic::AtomicU64;
 
 /// Whether it is run by its loops, and not by its words; the valve before its output; and, where it is, what holds its first loop
-/// inside an entry, the seconds since 1970 that its clock tells, or 0 where that is the system's, and those of its clock that never goes back.
+/// inside an entry, the seconds since 1970 that its clock tells, or 0 where that is the system's, those of its clock that never goes back, and what
+/// it asked for.
 #[derive(Drop)]
 pub(crate) struct Props {
     pub is_by_loops: bool,
@@ -12,6 +14,7 @@ pub(crate) struct Props {
     pub meeting: Meeting,
     pub seconds: AtomicU64,
     pub steady: AtomicU64,
+    pub asked: Asked,
 }
 
 impl Props {
@@ -22,6 +25,7 @@ impl Props {
             meeting: Meeting::new(),
             seconds: AtomicU64::new(0),
             steady: AtomicU64::new(0),
+            asked: Asked::new(),
         }
     }
 }

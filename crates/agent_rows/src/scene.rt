@@ -188,9 +188,12 @@ where
     }
 
     // Closes the valve once all lines are out, sends a datagram whose line the agent then can't write out, and waits until it waits
-    // there. No reply may leave before.
+    // there. No reply may leave before. Without a message it closes the valve alone.
     fn hold(&mut self, text: &str, out: &mut Vec<u8>) -> io::Result<()> {
         self.props.valve.close(self.rt);
+        if text.is_empty() {
+            return Ok(());
+        }
         let message = self.message(text)?;
         let socket = socket(self.rt, self.place.from, QUIET)?;
         socket.send_to(message.as_slice(), self.peer())?;
@@ -244,6 +247,24 @@ where
                 self.print_no_reply(out)
             }
             Err(_) => out.write_all(b"> closed\n"),
+        }
+    }
+
+    // The same where no message is to come.
+    fn still(&mut self, out: &mut Vec<u8>) -> io::Result<()> {
+        let (wait, patience) = (self.wait(), self.patience);
+        self.set_stream_patience(QUIET)?;
+        let told = self.take(out);
+        self.set_stream_patience(wait)?;
+        self.patience = patience;
+        told
+    }
+
+    // How long the stream that was opened last is read, in milliseconds.
+    fn set_stream_patience(&self, millis: u64) -> io::Result<()> {
+        match self.streams.last() {
+            Some(stream) => stream.set_read_timeout(Some(Duration::from_millis(millis))),
+            None => Ok(()),
         }
     }
 
@@ -350,15 +371,22 @@ where
         }
     }
 
-    // Calls the tool, whose input ends after so long. Once it had no answer it is not called any more.
+    // Calls the tool, whose input begins with a line, and ends after so long. Once it had no answer it is not called any more.
     fn call(&mut self, after: u64, words: &[String], out: &mut Vec<u8>) -> io::Result<()> {
         if self.patience == 0 {
             return out.write_all(b"(not called)\n");
         }
-        let (_ours, theirs) = pair(self.rt)?;
+        let (mut ours, theirs) = pair(self.rt)?;
+        ours.write_all(b"a\n")?;
         theirs.set_read_timeout(Some(Duration::from_millis(after.max(1))))?;
         let mut printed = Vec::new(self.alloc);
-        let status = tool_run(self.rt, self.alloc, words, theirs, &mut printed);
+        let handed = Handed {
+            rt: self.rt,
+            moment: None,
+            seconds: &self.props.seconds,
+            asked: &self.props.asked,
+        };
+        let status = tool_run(&handed, self.alloc, words, theirs, &mut printed);
         self.note_status(status);
         self.print_call(status, printed.as_slice(), out)
     }
@@ -400,11 +428,17 @@ where
         let (_ours, theirs) = pair(self.rt)?;
         let mut printed = Vec::new(self.alloc);
         let (rt, alloc) = (self.rt, self.alloc);
+        let handed = Handed {
+            rt,
+            moment: None,
+            seconds: &self.props.seconds,
+            asked: &self.props.asked,
+        };
         let answers = &mut self.answers;
         let (requests, status) = join(
             rt,
             || fake.answer(rt, alloc, answers),
-            || tool_run(rt, alloc, words.as_slice(), theirs, &mut printed),
+            || tool_run(&handed, alloc, words.as_slice(), theirs, &mut printed),
         );
         self.answers = Answers::none(self.alloc);
         self.note_status(status);
@@ -431,8 +465,9 @@ where
         let moment = AtomicU64::new(0);
         let handed = Handed {
             rt: self.rt,
-            moment: &moment,
+            moment: Some(&moment),
             seconds: &self.props.seconds,
+            asked: &self.props.asked,
         };
         let (mut printed, mut moments) = (Vec::new(self.alloc), Vec::new(self.alloc));
         let (_, status) = join(
@@ -527,6 +562,7 @@ where
             StreamRow::Open => self.open(),
             StreamRow::Send => self.send(rest),
             StreamRow::Take => self.take(out),
+            StreamRow::Still => self.still(out),
             StreamRow::Close => {
                 self.streams.pop();
                 Ok(())
@@ -559,7 +595,21 @@ where
                 thread::sleep(self.rt, Duration::from_millis(number_of(rest, 10_000)));
                 Ok(())
             }
+            AgentRow::Idle => self.idle(rest, out),
         }
+    }
+
+    // Prints whether an agent that has nothing to do asks for its clock, or for a sleep, more than 20 times a second.
+    fn idle(&self, text: &str, out: &mut Vec<u8>) -> io::Result<()> {
+        let millis = number_of(text, 10_000);
+        let before = self.props.asked.clock.load(Ordering::SeqCst);
+        thread::sleep(self.rt, Duration::from_millis(millis));
+        let after = self.props.asked.clock.load(Ordering::SeqCst);
+        let times = after.saturating_sub(before);
+        if times.saturating_mul(50) > millis {
+            return writeln!(out, "# its clock was asked {times} times");
+        }
+        out.write_all(b"# idle\n")
     }
 
     // Rows that call a program, other than the agent.
@@ -570,6 +620,7 @@ where
             ToolRow::Call => self.call_by_words(rest, out),
             ToolRow::Serve => self.serve(rest, out),
             ToolRow::Silent => self.silent(rest, out),
+            ToolRow::Sockets => self.props.asked.print(out),
             ToolRow::Check => self.check(rest, out),
         }
     }
@@ -617,7 +668,7 @@ where
         Ok(())
     }
 
-    // Keeps the fault of a row that failed itself, which no agent has to do with.
+    // Keeps the fault of a row that failed itself, which no agent has to do with. It ends its scene.
     fn keep_fault(&mut self, told: io::Result<()>) {
         if let Err(fault) = told {
             self.fault = Some(fault);
@@ -666,7 +717,7 @@ where
     /// Prints how an agent ended, if there was one, and answers how long the next scene waits.
     pub(crate) fn end(mut self, status: Option<u8>, out: &mut Vec<u8>) -> io::Result<u64> {
         if let Some(fault) = self.fault.take() {
-            return Err(fault);
+            writeln!(out, "(a row failed: {fault})")?;
         }
         if let Some(status) = status {
             self.print_end(status, out)?;
