@@ -40,7 +40,7 @@ module _ {S : Type 0} (steps : Steps S) (settles : Settles S) where
     pub settled : settles between.server server
     pub written_is : IsWritten (record between { server = server }) written b
 
-  -- At most so many steps, one after the other, until one of them fails or ends it. So nothing is written where the server did not settle since the last read.
+  -- at most so many steps, one after the other, until one of them fails or ends it
   abbrev pub Goes : ℕ → Talk S → Result Next LoopFault → Talk S → Type 0
   Goes zero a told b = (told ≡ Ok More) × (b ≡ a)
   Goes (suc n) a told b =
