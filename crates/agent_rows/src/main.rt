@@ -109,7 +109,8 @@ fn main(rt: HostRuntime) -> io::Result<()> {
         let props = Props::new(matches!(start, Some((_, "_loops", _))));
         let handed = Handed {
             rt: &rt,
-            moment: Some(&props.steady),
+            moment: &props.steady,
+            is_running: false,
             seconds: &props.seconds,
             asked: &props.asked,
         };

@@ -382,7 +382,8 @@ where
         let mut printed = Vec::new(self.alloc);
         let handed = Handed {
             rt: self.rt,
-            moment: None,
+            moment: &self.props.steady,
+            is_running: true,
             seconds: &self.props.seconds,
             asked: &self.props.asked,
         };
@@ -430,7 +431,8 @@ where
         let (rt, alloc) = (self.rt, self.alloc);
         let handed = Handed {
             rt,
-            moment: None,
+            moment: &self.props.steady,
+            is_running: true,
             seconds: &self.props.seconds,
             asked: &self.props.asked,
         };
@@ -465,7 +467,8 @@ where
         let moment = AtomicU64::new(0);
         let handed = Handed {
             rt: self.rt,
-            moment: Some(&moment),
+            moment: &moment,
+            is_running: false,
             seconds: &self.props.seconds,
             asked: &self.props.asked,
         };
