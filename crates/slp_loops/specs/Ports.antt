@@ -75,7 +75,7 @@ module _ {S : Type 0} (steps : Steps S) where
       (back : List ℕ) × (between : S) × (later : List Datagram) × ServedFor (asker_of d.peer) before d.bytes back between × AreAnswered between ds later after × (dues ≡ owed d.peer back ++ later)
 
 module _ {S : Type 0} (steps : Steps S) (settles : Settles S) where
-  -- A round: datagrams come, until none is left or there are enough. Each is served once, in their order. The server settles, and then what is owed leaves, in order.
+  -- A round: datagrams come, until none is left or there are enough. Each is served once, in their order. The server settles, and what is owed leaves, in order.
   pub record IsRound (before : S) (hs : List Happening) (after : S) : Type 0 where
     pub came : List Datagram
     pub pause : Option Error
@@ -85,7 +85,7 @@ module _ {S : Type 0} (steps : Steps S) (settles : Settles S) where
     pub settled : settles between after
     pub order : hs ≡ (map Came came ++ pausing pause) ++ map Left dues
 
-  -- Rounds, one after the other: nothing leaves that is not owed, nothing twice, and nothing before the server settled.
+  -- Rounds, one after the other: nothing leaves that is not owed, and nothing twice.
   abbrev pub Serves : S → List (List Happening) → S → Type 0
   Serves before [] after = after ≡ before
   Serves before (hs ∷ rounds) after = (between : S) × IsRound before hs between × Serves between rounds after

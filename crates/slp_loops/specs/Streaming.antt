@@ -32,7 +32,7 @@ module _ {S : Type 0} (steps : Steps S) (settles : Settles S) where
       IfSome (unwritten a.link) (λ next. (told ≡ Ok next) × (b ≡ a))
       × Wrote a.taken b.taken a.link.waiting b.link.waiting × IfNone (unwritten a.link) (Writes a.link told b.link) × (b.server ≡ a.server)
 
-  -- a step: the stream is read, the server settles, and then what waits is written
+  -- a step: the stream is read, the server settles, and what waits is written
   pub record IsStep (a : Talk S) (read : Next) (written : Result Next LoopFault) (b : Talk S) : Type 0 where
     pub between : Talk S
     pub server : S
