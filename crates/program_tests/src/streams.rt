@@ -6,7 +6,7 @@ use crate::fakes::{Sink, Source};
 use crate::messages::{EMPTY_REPLY, REQUEST, numbered};
 use access_rules::Addr;
 use slp_answer::{Answer, Sent};
-use slp_loops::{Connection, LoopFault, Next, Serve};
+use slp_loops::{Connection, LoopFault, Next, Serve, settle};
 use slp_text::NoMemory;
 use std::alloc::Global;
 use std::io::ErrorKind;
@@ -76,7 +76,8 @@ fn drive(
     };
     for _ in 0..1_000 {
         let read = connection.on_readable(source, &mut server)?;
-        let written = connection.on_writable(sink)?;
+        let settled = settle(&mut server);
+        let written = connection.on_writable(sink, settled)?;
         if written == Next::Closed {
             return Ok(Next::Closed);
         }
@@ -216,7 +217,8 @@ fn is_read_up_to(
     (taken, reads): (usize, usize),
 ) -> bool {
     to.piece = taken;
-    let mut next = connection.on_writable(to).and(Ok(Next::More));
+    let settled = settle(server);
+    let mut next = connection.on_writable(to, settled).and(Ok(Next::More));
     for _ in 0..100 {
         if next == Ok(Next::More) {
             next = connection.on_readable(from, server);

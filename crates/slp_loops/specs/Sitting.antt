@@ -1,9 +1,13 @@
--- When the streams of a loop moved.
-use Rattle.std.specs.Prelude.{ℕ, List, Option, map}
+-- The streams of a loop.
+use Rattle.std.specs.Prelude.{List, Option, map}
 use Rattle.std.specs.Option.{option_map}
 use Rattle.slab.specs.Slab.{Slab}
-use Rattle.slp_loops.specs.declared.streams.Peer.{Peer}
+use Rattle.slp_loops.specs.Holding.{Seat}
+use Rattle.slp_loops.specs.declared.peer.Peer.{Peer}
 
--- the moment at which the stream with each key moved last, where there is one
-abbrev pub moments : Slab Peer → List (Option ℕ)
-moments peers = map (option_map (λ (p : Peer). p.moved)) peers.slots
+abbrev pub seat : {T : Type 0} → Peer T → Seat
+seat p = record { link = p.connection; moved = p.moved }
+
+-- the stream with each key, where there is one
+abbrev pub seats : {T : Type 0} → Slab (Peer T) → List (Option Seat)
+seats peers = map (option_map seat) peers.slots

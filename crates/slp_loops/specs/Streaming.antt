@@ -1,5 +1,5 @@
 -- What a stream, its connection and its server go through, where it is ready.
-use Rattle.std.specs.Prelude.{◌≡◌, ◌⊎◌, ℕ, zero, suc, List, Option, Some, None, IfSome, IfNone, Result, Ok, Err}
+use Rattle.std.specs.Prelude.{◌≡◌, ◌⊎◌, ℕ, zero, suc, false, List, Option, Some, None, IfSome, IfNone, Result, Ok, Err, if◌then◌else◌}
 use Rattle.slp_loops.specs.Linking.{Link, unread, unwritten}
 use Rattle.slp_loops.specs.Reading.{Reads}
 use Rattle.slp_loops.specs.Serving.{Steps, Settles}
@@ -48,3 +48,10 @@ module _ {S : Type 0} (steps : Steps S) (settles : Settles S) where
       ⊎ (((read : Next) × (e : LoopFault) × (told ≡ Err e) × IsStep a read (Err e) b)
       ⊎ ((read : Next) × (written : Next) × (c : Talk S) × IsStep a read (Ok written) c
       × IfSome (end_of read written) (λ next. (told ≡ Ok next) × (b ≡ c)) × IfNone (end_of read written) (Goes n c told b)))
+
+  -- A stream goes on at a moment, by at most 16 steps. Then it is noted whether it moved, where it was known when it did.
+  pub record Advances (now : ℕ) (a : Talk S) (known : ℕ) (told : Result Next LoopFault) (b : Talk S) (knows : ℕ) : Type 0 where
+    pub end : Link
+    pub goes : Goes 16 a told (record b { link = end })
+    pub link : b.link ≡ record end { moved = false }
+    pub moved : knows ≡ (if end.moved then now else known)

@@ -1,6 +1,6 @@
 ghost use Rattle.std.specs.Prelude.{◌≡◌, ◌≤◌, ◌<◌, ◌↔◌, length, slice_get, Some, IfOk, IfErr, IsTrue};
 ghost use Rattle.slp_loops.specs.Holding.{NoneSits, longest_stay};
-ghost use Rattle.slp_loops.specs.Turning.{Reaches, SettlesFirst, SettlesLast};
+ghost use Rattle.slp_loops.specs.Turning.{Reaches, SettlesFirst, SettlesLast, tended};
 ghost use Rattle.slp_loops.specs.declared.fault.LoopFault.TheVariants.{Io as Failing};
 
 use crate::clock::{Moments, SteadyClock};
@@ -36,7 +36,7 @@ fn serve_event<S: Serve>(
     server: &mut S,
 ) -> Result<(), LoopFault>
     ensures limit { streams.new.limit ≡ streams.old.limit }
-    ensures served { Reaches S.steps S.settles server.old server.new }
+    ensures served { Reaches S.steps S.settles (record { seats = streams.old.seats; server = server.old }) (record { seats = streams.new.seats; server = server.new }) }
 {
     if token == DATAGRAMS {
         datagrams.serve_event(registry, server)
@@ -57,7 +57,7 @@ fn serve_events<S: Serve>(
     server: &mut S,
 ) -> Result<(), LoopFault>
     ensures limit { streams.new.limit ≡ streams.old.limit }
-    ensures served { Reaches S.steps S.settles server.old server.new }
+    ensures served { Reaches S.steps S.settles (record { seats = streams.old.seats; server = server.old }) (record { seats = streams.new.seats; server = server.new }) }
 {
     let mut outcome = Ok(());
     for event in events.iter() {
@@ -92,7 +92,7 @@ impl<S: Serve + Drop> Model for AgentLoop<S> {
 
     ghost Value = { Looping S };
 
-    ghost view = { λ l. record { limit = l.streams.limit; held = l.streams.held; moment = l.streams.moment; moved = l.streams.moved; server = l.server } };
+    ghost view = { λ l. record { limit = l.streams.limit; held = l.streams.held; moment = l.streams.moment; seats = l.streams.seats; server = l.server } };
 }
 
 // What a loop has beside its server.
@@ -263,8 +263,8 @@ impl<S: Serve + Drop> AgentLoop<S> {
     /// was ready: a connection that found none is closed.
     pub fn turn<M: Moments>(&mut self, steady: &mut M) -> Result<(), LoopFault>
         ensures limit { self.new.limit ≡ self.old.limit }
-        ensures none { NoneSits longest_stay self.new.moment self.new.moved }
-        ensures served { SettlesFirst S.steps S.settles self.old.server self.new.server }
+        ensures none { NoneSits longest_stay self.new.moment self.new.seats }
+        ensures served { SettlesFirst S.steps S.settles (tended self.old) (tended self.new) }
     {
         let told = self.serve_ready(steady);
         self.streams.close_still();
@@ -272,10 +272,9 @@ impl<S: Serve + Drop> AgentLoop<S> {
     }
 
     // Waits, and serves what is ready.
-    #[tactic(auto, using(crate::proofs::Reaching::settled_first))]
     fn serve_ready<M: Moments>(&mut self, steady: &mut M) -> Result<(), LoopFault>
         ensures limit { self.new.limit ≡ self.old.limit }
-        ensures served { SettlesFirst S.steps S.settles self.old.server self.new.server }
+        ensures served { SettlesFirst S.steps S.settles (tended self.old) (tended self.new) }
     {
         self.server.settle();
         let wait = Duration::from_millis(LONGEST_WAIT);
@@ -297,7 +296,7 @@ impl<S: Serve + Drop> AgentLoop<S> {
     fn take_turns<R: Wait + Clock>(&mut self, rt: &R, stop: &AtomicBool) -> Result<(), LoopFault>
         ensures limit { self.new.limit ≡ self.old.limit }
         ensures fault { IfErr result (λ e. e ≡ Failing) }
-        ensures served { Reaches S.steps S.settles self.old.server self.new.server }
+        ensures served { Reaches S.steps S.settles (tended self.old) (tended self.new) }
     {
         let mut steady = SteadyClock::new(rt);
         for _ in rt.forever() {
@@ -316,7 +315,7 @@ impl<S: Serve + Drop> AgentLoop<S> {
     pub fn run<R: Wait + Clock>(&mut self, rt: &R, stop: &AtomicBool) -> Result<(), LoopFault>
         ensures limit { self.new.limit ≡ self.old.limit }
         ensures fault { IfErr result (λ e. e ≡ Failing) }
-        ensures served { SettlesLast S.steps S.settles self.old.server self.new.server }
+        ensures served { SettlesLast S.steps S.settles (tended self.old) (tended self.new) }
     {
         let told = self.take_turns(rt, stop);
         self.server.settle();

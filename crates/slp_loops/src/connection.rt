@@ -5,7 +5,7 @@ ghost use Rattle.slp_loops.specs.Writing.{Wrote, Writes};
 ghost use Rattle.slp_loops.specs.declared.connection.Stage.TheVariants.{Reading as Begun};
 
 use crate::fault::LoopFault;
-use crate::serve::Serve;
+use crate::serve::{Serve, Settled};
 use crate::taking::serve_whole;
 use access_rules::Addr;
 use slp_stream::Framer;
@@ -236,9 +236,13 @@ impl Connection {
         }
     }
 
-    /// Writes once, at most. An `Err` fails the connection: from then on each call answers `Closed`.
-    /// Takes no memory.
-    pub fn on_writable<W: Write>(&mut self, writer: &mut W) -> Result<Next, LoopFault>
+    /// Writes once, at most, once what was told of the messages is out. An `Err` fails the connection: from then on each call answers
+    /// `Closed`. Takes no memory.
+    pub fn on_writable<W: Write>(
+        &mut self,
+        writer: &mut W,
+        _settled: Settled,
+    ) -> Result<Next, LoopFault>
         ensures unwritten { IfSome (unwritten self.old) (λ next. (result ≡ Ok next) × (self.new ≡ self.old) × (writer.new ≡ writer.old)) }
         ensures wrote { Wrote (W.contents writer.old) (W.contents writer.new) self.old.waiting self.new.waiting }
         ensures writes { IfNone (unwritten self.old) (Writes self.old result self.new) }

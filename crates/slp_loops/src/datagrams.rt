@@ -144,11 +144,11 @@ fn serve_all<S: Serve>(exchanges: &mut [Exchange], server: &mut S)
 }
 
 // Sends what goes back for each, in their order.
-fn send_all<P: Port>(exchanges: &[Exchange], port: &mut P, settled: &Settled)
+fn send_all<P: Port>(exchanges: &[Exchange], port: &mut P, settled: Settled)
     ensures { Runs P.may port.old (map Left (all_dues exchanges.now)) port.new }
 {
     for exchange in exchanges {
-        exchange.send(port, settled);
+        exchange.send(port, &settled);
     }
 }
 
@@ -165,7 +165,7 @@ fn serve_round<P: Port, S: Serve>(
     let front = &mut exchanges[..count];
     serve_all(front, server);
     let settled = settle(server);
-    send_all(front, port, &settled);
+    send_all(front, port, settled);
     told
 }
 

@@ -37,7 +37,7 @@ pub trait Serve {
 pub struct Settled(());
 
 /// Has a server settle, before answers leave.
-pub(crate) fn settle<S: Serve>(server: &mut S) -> Settled
+pub fn settle<S: Serve>(server: &mut S) -> Settled
     ensures { S.settles server.old server.new }
 {
     server.settle();

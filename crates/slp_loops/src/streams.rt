@@ -2,33 +2,28 @@ ghost use Rattle.std.specs.Prelude.{◌≡◌, ◌⊎◌, ◌≤◌, ◌<◌, �
 ghost use Rattle.slab.specs.Slab.{slab_len};
 ghost use Rattle.slp_loops.specs.Holding.{HasNoOther, IsStillest, KeepsOthers, NoneSits, least_stay, longest_stay, moment_of};
 ghost use Rattle.slp_loops.specs.Holding as holding;
-ghost use Rattle.slp_loops.specs.Sitting.{moments};
-ghost use Rattle.slp_loops.specs.Streaming.{Goes};
-ghost use Rattle.slp_loops.specs.Streaming as spec;
-ghost use Rattle.slp_loops.specs.Turning.{Reaches};
-ghost use Rattle.slp_loops.specs.declared.connection.Stage.TheVariants.{Reading as Begun};
+ghost use Rattle.slp_loops.specs.Sitting.{seats};
+ghost use Rattle.slp_loops.specs.Turning.{AdvancesAt, Admits, ComeOrGo, ServesAt};
+ghost use Rattle.slp_loops.specs.Turning as turning;
 
-use crate::connection::{Connection, Next};
+use crate::connection::Next;
 use crate::fault::{LoopFault, is_socket_lost};
+use crate::peer::Peer;
 use crate::serve::Serve;
 use access_rules::Addr;
 use mio::net::{TcpListener, TcpStream};
 use mio::{Interest, Registry, Token};
 use slab::Slab;
 use std::alloc::{AllocError, Global};
-use std::io;
-use std::io::{ErrorKind, Read, Write};
+use std::io::{self, ErrorKind};
 use std::marker::Model;
 use std::net::SocketAddr;
 
 /// The token of the listener. A connection's is its key.
 pub const LISTENER: Token = Token(0xffff_ffff_ffff_ffff);
 
-/// How many connections, and how many steps of one, an event may cause. What is left is reported
-/// again, so that no socket keeps the others from their turn.
+/// How many connections an event may bring. What is left is reported again, so that the streams that are there get their turn.
 const ACCEPTED_AT_ONCE: usize = 64;
-
-const STEPS_AT_ONCE: usize = 16;
 
 /// For how many seconds a stream may sit there: no message comes whole on it, and none of the bytes that wait is written.
 const LONGEST_STAY: u32 = 300;
@@ -36,79 +31,12 @@ const LONGEST_STAY: u32 = 300;
 /// The same where every place is taken, and another peer comes.
 const LEAST_STAY: u32 = 60;
 
-/// A stream and what is known of it.
-#[derive(Drop)]
-struct Peer {
-    stream: TcpStream,
-    connection: Connection,
-    // When it moved last, in seconds of the loop's own clock.
-    moved: u32,
-}
-
-// What is answered where a stream ends its turn after a read and a write.
-fn end_of(read: Next, written: Next) -> Option<Next>
-    ensures { result ≡ spec.end_of read written }
-{
-    match (read, written) {
-        (_, Next::Closed) => Some(Next::Closed),
-        (Next::Blocked, Next::Blocked) => Some(Next::Blocked),
-        _ => None,
-    }
-}
-
-// Reads, serves and writes until the stream is blocked. `More` where it is not yet. What was told of the messages is out before
-// their replies are written.
-fn take_steps<T: Read + Write, S: Serve>(
-    connection: &mut Connection,
-    stream: &mut T,
-    server: &mut S,
-) -> Result<Next, LoopFault>
-    ensures { Goes S.steps S.settles 16 (record { brings = T.remaining stream.old; taken = T.contents stream.old; link = connection.old; server = server.old })
-        result (record { brings = T.remaining stream.new; taken = T.contents stream.new; link = connection.new; server = server.new }) }
-{
-    for _ in 0..STEPS_AT_ONCE {
-        let read = connection.on_readable(stream, server)?;
-        server.settle();
-        let written = connection.on_writable(stream)?;
-        if let Some(next) = end_of(read, written) {
-            return Ok(next);
-        }
-    }
-    Ok(Next::More)
-}
-
-impl Peer {
-    // A stream that came at a moment.
-    fn new(alloc: Global, stream: TcpStream, asker: Addr, now: u32) -> Peer
-        ensures connection { result.connection ≡ record { asker = asker; unserved = []; waiting = []; stage = Begun; moved = false } }
-        ensures moved { result.moved ≡ now }
-    {
-        Peer {
-            stream,
-            connection: Connection::new(alloc, asker),
-            moved: now,
-        }
-    }
-
-    // Lets the stream go on at a moment, and notes where it moved.
-    fn advance<S: Serve>(&mut self, server: &mut S, now: u32) -> Result<Next, LoopFault>
-        ensures moved { (self.new.moved ≡ self.old.moved) ⊎ (self.new.moved ≡ now) }
-        ensures served { Reaches S.steps S.settles server.old server.new }
-    {
-        let told = take_steps(&mut self.connection, &mut self.stream, server);
-        if self.connection.has_moved() {
-            self.moved = now;
-        }
-        told
-    }
-}
-
 /// The streams of a loop, of which there are never more than the limit.
 #[derive(Drop)]
 pub struct Streams {
     alloc: Global,
     listener: TcpListener,
-    peers: Slab<Peer>,
+    peers: Slab<Peer<TcpStream>>,
     limit: usize,
     // Whether a connection may wait that no event will report.
     accepts_again: bool,
@@ -121,13 +49,13 @@ impl Model for Streams {
     ghost use Rattle.std.specs.Prelude.{◌≤◌};
     ghost use Rattle.slab.specs.Slab.{slab_len};
     ghost use Rattle.slp_loops.specs.Holding.{Held, NoneSits, longest_stay};
-    ghost use Rattle.slp_loops.specs.Sitting.{moments};
+    ghost use Rattle.slp_loops.specs.Sitting.{seats};
 
     ghost Value = { Held };
 
-    ghost view = { λ s. record { limit = s.limit; held = slab_len s.peers; moment = s.moment; moved = moments s.peers } };
+    ghost view = { λ s. record { limit = s.limit; held = slab_len s.peers; moment = s.moment; seats = seats s.peers } };
 
-    ghost invariant = { λ s. (slab_len s.peers ≤ s.limit) × (s.limit ≤ s.peers.capacity) × (s.looked ≤ s.moment) × NoneSits longest_stay s.looked (moments s.peers) };
+    ghost invariant = { λ s. (slab_len s.peers ≤ s.limit) × (s.limit ≤ s.peers.capacity) × (s.looked ≤ s.moment) × NoneSits longest_stay s.looked (seats s.peers) };
 }
 
 impl Streams {
@@ -148,16 +76,18 @@ impl Streams {
 
     /// The loop's own clock goes on to this moment, in seconds.
     pub fn go_on_to(&mut self, moment: u32)
-        ensures limit { self.new.limit ≡ self.old.limit }
+        ensures later { moment ≤ self.new.moment }
+        ensures no_other { (self.new.moment ≡ self.old.moment) ⊎ (self.new.moment ≡ moment) }
+        ensures kept { self.new ≡ record self.old { moment = self.new.moment } }
     {
         self.moment = self.moment.max(moment);
     }
 
     /// Closes each stream that has sat there for 300 seconds.
     pub fn close_still(&mut self)
-        ensures none { NoneSits longest_stay self.new.moment self.new.moved }
-        ensures kept { KeepsOthers longest_stay self.old.moment self.old.moved self.new.moved }
-        ensures only { HasNoOther self.old.moved self.new.moved }
+        ensures none { NoneSits longest_stay self.new.moment self.new.seats }
+        ensures kept { KeepsOthers longest_stay self.old.moment self.old.seats self.new.seats }
+        ensures only { HasNoOther self.old.seats self.new.seats }
         ensures moment { self.new.moment ≡ self.old.moment }
         ensures limit { self.new.limit ≡ self.old.limit }
     {
@@ -171,9 +101,10 @@ impl Streams {
     // Closes the stream that has sat there longest, where that is 60 seconds, and answers whether there is a place now.
     fn give_place(&mut self) -> bool
         ensures room { IsTrue result → self.new.held < self.new.limit }
-        ensures gives { IsFalse result → NoneSits least_stay self.new.moment self.new.moved }
-        ensures kept { KeepsOthers least_stay self.old.moment self.old.moved self.new.moved }
-        ensures only { HasNoOther self.old.moved self.new.moved }
+        ensures gives { IsFalse result → NoneSits least_stay self.new.moment self.new.seats }
+        ensures moment { self.new.moment ≡ self.old.moment }
+        ensures kept { KeepsOthers least_stay self.old.moment self.old.seats self.new.seats }
+        ensures only { HasNoOther self.old.seats self.new.seats }
         ensures limit { self.new.limit ≡ self.old.limit }
     {
         let key = stillest(&self.peers);
@@ -183,6 +114,10 @@ impl Streams {
     // Whether there is a place, if need be that of a stream that sits there.
     fn has_place(&mut self) -> bool
         ensures room { IsTrue result → self.new.held < self.new.limit }
+        ensures taken { IsFalse result → (self.old.limit ≤ self.old.held) × NoneSits least_stay self.new.moment self.new.seats }
+        ensures kept { KeepsOthers least_stay self.old.moment self.old.seats self.new.seats }
+        ensures only { HasNoOther self.old.seats self.new.seats }
+        ensures moment { self.new.moment ≡ self.old.moment }
         ensures limit { self.new.limit ≡ self.old.limit }
     {
         self.peers.len() < self.limit || self.give_place()
@@ -201,7 +136,10 @@ impl Streams {
 
     // Keeps a new stream, or closes it unread where no place is to be had or it cannot be waited for.
     fn admit(&mut self, registry: &Registry, mut stream: TcpStream, from: SocketAddr)
-        ensures { self.new.limit ≡ self.old.limit }
+        ensures limit { self.new.limit ≡ self.old.limit }
+        ensures moment { self.new.moment ≡ self.old.moment }
+        ensures admits { Admits from self.old.moment self.old.seats self.new.seats }
+        ensures kept { KeepsOthers least_stay self.old.moment self.old.seats self.new.seats }
     {
         let SocketAddr::V4(v4) = from else {
             return;
@@ -223,7 +161,10 @@ impl Streams {
 
     /// Accepts what waits. `Io` where the listener itself failed.
     pub fn accept(&mut self, registry: &Registry) -> Result<(), LoopFault>
-        ensures { self.new.limit ≡ self.old.limit }
+        ensures limit { self.new.limit ≡ self.old.limit }
+        ensures moment { self.new.moment ≡ self.old.moment }
+        ensures come { ComeOrGo self.old.seats self.new.seats }
+        ensures kept { KeepsOthers least_stay self.old.moment self.old.seats self.new.seats }
     {
         self.accepts_again = false;
         for _ in 0..ACCEPTED_AT_ONCE {
@@ -249,7 +190,10 @@ impl Streams {
 
     /// Accepts where the last try found no means to.
     pub fn accept_again(&mut self, registry: &Registry) -> Result<(), LoopFault>
-        ensures { self.new.limit ≡ self.old.limit }
+        ensures limit { self.new.limit ≡ self.old.limit }
+        ensures moment { self.new.moment ≡ self.old.moment }
+        ensures come { ComeOrGo self.old.seats self.new.seats }
+        ensures kept { KeepsOthers least_stay self.old.moment self.old.seats self.new.seats }
     {
         if self.accepts_again {
             self.accept(registry)
@@ -267,43 +211,54 @@ impl Streams {
         server: &mut S,
     ) -> Result<(), LoopFault>
         ensures limit { self.new.limit ≡ self.old.limit }
-        ensures served { Reaches S.steps S.settles server.old server.new }
+        ensures served { ServesAt S.steps S.settles key (record { seats = self.old.seats; server = server.old }) (record { seats = self.new.seats; server = server.new }) }
     {
-        match advance_at(&mut self.peers, server, registry, key, self.moment) {
-            Ok(Next::Closed) => {
-                self.peers.try_remove(key);
-                Ok(())
-            }
-            Ok(_) => Ok(()),
-            Err(fault) => {
-                self.peers.try_remove(key);
-                if fault == LoopFault::NoMemory {
-                    Err(fault)
-                } else {
-                    Ok(())
-                }
-            }
+        let told = advance_at(&mut self.peers, server, registry, key, self.moment);
+        if !is_closed(told) {
+            return Ok(());
         }
+        drop(self.peers.try_remove(key));
+        lack_of(told)
+    }
+}
+
+// Whether a stream is closed, by what its steps came to.
+fn is_closed(told: Result<Next, LoopFault>) -> bool
+    ensures { result ≡ turning.is_closed told }
+{
+    match told {
+        Ok(Next::More | Next::Blocked) => false,
+        Ok(Next::Closed) | Err(_) => true,
+    }
+}
+
+// What a turn is told of it: that memory was wanting.
+fn lack_of(told: Result<Next, LoopFault>) -> Result<(), LoopFault>
+    ensures { result ≡ turning.lack_of told }
+{
+    match told {
+        Err(LoopFault::NoMemory) => Err(LoopFault::NoMemory),
+        Ok(_) | Err(LoopFault::Io) => Ok(()),
     }
 }
 
 // When the stream with a key moved last.
-fn moved_at(peers: &Slab<Peer>, key: usize) -> Option<u32>
-    ensures { result ≡ moment_of (moments peers.now) key }
+fn moved_at(peers: &Slab<Peer<TcpStream>>, key: usize) -> Option<u32>
+    ensures { result ≡ moment_of (seats peers.now) key }
 {
     match peers.get(key) {
-        Some(peer) => Some(peer.moved),
+        Some(peer) => Some(peer.moved()),
         None => None,
     }
 }
 
 // Closes the stream with a key where it has sat there for this many seconds, and answers whether it has.
-fn close_where_still(peers: &mut Slab<Peer>, key: usize, now: u32, stay: u32) -> bool
+fn close_where_still(peers: &mut Slab<Peer<TcpStream>>, key: usize, now: u32, stay: u32) -> bool
     requires { 0 < stay }
-    ensures closed { (at : ℕ) → moment_of (moments peers.new) key ≡ Some at → now < at + stay }
+    ensures closed { (at : ℕ) → moment_of (seats peers.new) key ≡ Some at → now < at + stay }
     ensures same { IsFalse result → peers.new ≡ peers.old }
-    ensures kept { KeepsOthers stay now (moments peers.old) (moments peers.new) }
-    ensures only { HasNoOther (moments peers.old) (moments peers.new) }
+    ensures kept { KeepsOthers stay now (seats peers.old) (seats peers.new) }
+    ensures only { HasNoOther (seats peers.old) (seats peers.new) }
     ensures room { IsTrue result → slab_len peers.new + 1 ≡ slab_len peers.old }
     ensures len { slab_len peers.new ≤ slab_len peers.old }
     ensures capacity { peers.new.capacity ≡ peers.old.capacity }
@@ -319,10 +274,10 @@ fn close_where_still(peers: &mut Slab<Peer>, key: usize, now: u32, stay: u32) ->
 }
 
 // Closes each stream that has sat there for the longest time.
-fn close_all_still(peers: &mut Slab<Peer>, now: u32)
-    ensures none { NoneSits longest_stay now (moments peers.new) }
-    ensures kept { KeepsOthers longest_stay now (moments peers.old) (moments peers.new) }
-    ensures only { HasNoOther (moments peers.old) (moments peers.new) }
+fn close_all_still(peers: &mut Slab<Peer<TcpStream>>, now: u32)
+    ensures none { NoneSits longest_stay now (seats peers.new) }
+    ensures kept { KeepsOthers longest_stay now (seats peers.old) (seats peers.new) }
+    ensures only { HasNoOther (seats peers.old) (seats peers.new) }
     ensures len { slab_len peers.new ≤ slab_len peers.old }
     ensures capacity { peers.new.capacity ≡ peers.old.capacity }
 {
@@ -345,8 +300,8 @@ fn stiller(found: (usize, Option<u32>), key: usize, moved: Option<u32>) -> (usiz
 }
 
 // The key of the stream that has sat there longest; 0 where there is none.
-fn stillest(peers: &Slab<Peer>) -> usize
-    ensures { IsStillest result (moments peers.now) }
+fn stillest(peers: &Slab<Peer<TcpStream>>) -> usize
+    ensures { IsStillest result (seats peers.now) }
 {
     let mut found = (0, None);
     for key in 0..peers.capacity() {
@@ -355,10 +310,9 @@ fn stillest(peers: &Slab<Peer>) -> usize
     found.0
 }
 
-// Lets the connection with this key go on, at a moment.
-#[tactic(auto, using(crate::proofs::Reaching::reach_none))]
+// Lets the stream with this key go on, at a moment.
 fn advance_at<S: Serve>(
-    peers: &mut Slab<Peer>,
+    peers: &mut Slab<Peer<TcpStream>>,
     server: &mut S,
     registry: &Registry,
     key: usize,
@@ -366,16 +320,10 @@ fn advance_at<S: Serve>(
 ) -> Result<Next, LoopFault>
     ensures len { slab_len peers.new ≡ slab_len peers.old }
     ensures capacity { peers.new.capacity ≡ peers.old.capacity }
-    ensures moved { (k at : ℕ) → moment_of (moments peers.new) k ≡ Some at → (moment_of (moments peers.old) k ≡ Some at) ⊎ (at ≡ now) }
-    ensures served { Reaches S.steps S.settles server.old server.new }
+    ensures served { AdvancesAt S.steps S.settles now key (record { seats = seats peers.old; server = server.old }) result (record { seats = seats peers.new; server = server.new }) }
 {
-    let Some(peer) = peers.get_mut(key) else {
-        return Ok(Next::Blocked);
-    };
-    let next = peer.advance(server, now)?;
-    if next == Next::More {
-        let both = Interest::READABLE | Interest::WRITABLE;
-        registry.reregister(&mut peer.stream, Token(key), both)?;
+    match peers.get_mut(key) {
+        Some(peer) => peer.go_on(server, registry, key, now),
+        None => Ok(Next::Blocked),
     }
-    Ok(next)
 }

@@ -1,7 +1,7 @@
 use Rattle.std.proofs.Common.{◌+◌, sym, ap, ◌∙◌, subst, arith}
 use Rattle.std.proofs.lemmas.Option.{none-some}
 use Rattle.slp_loops.specs.Holding.{stiller}
-use Rattle.slp_loops.specs.Sitting.{moments}
+use Rattle.slp_loops.specs.Sitting.{seats}
 use Rattle.slp_loops.proofs.Sitting.{Found, found_more, within_slots}
 use Rattle.slp_loops.proofs.streams.stillest.Goals as goal
 
@@ -13,8 +13,8 @@ loop-key-init c = record {
 
 pub loop-key-preserved : goal.loop-key-preserved
 loop-key-preserved c =
-    subst (Found (moments c.args.peers.now) (c.loop-key.key + 1)) (ap (λ o. stiller c.loop-key.found c.loop-key.key o) (sym c.moved_at.ensures) ∙ sym c.stiller-found.ensures)
-    (found_more (moments c.args.peers.now) c.loop-key.key c.loop-key.found c.loop-key.invariant)
+    subst (Found (seats c.args.peers.now) (c.loop-key.key + 1)) (ap (λ o. stiller c.loop-key.found c.loop-key.key o) (sym c.moved_at.ensures) ∙ sym c.stiller-found.ensures)
+    (found_more (seats c.args.peers.now) c.loop-key.key c.loop-key.found c.loop-key.invariant)
 
 pub returns : goal.returns
 returns c = λ key at is.

@@ -1,18 +1,31 @@
-use Rattle.std.proofs.Common.{ap, subst}
-use Rattle.slp_loops.specs.Turning.{SettlesFirst}
-use Rattle.slp_loops.proofs.Reaching.{reach_on, reach_datagrams}
+use Rattle.std.proofs.Common.{refl, ap, subst}
+use Rattle.slp_loops.specs.Holding.{Held}
+use Rattle.slp_loops.specs.Turning.{ComeOrGo, SettlesFirst, tended}
+use Rattle.slp_loops.proofs.Reaching.{reach_none, reach_on, reach_datagrams, settled_first}
 use Rattle.slp_loops.proofs.agent_loop.AgentLoop.serve_ready.Goals as goal
+
+pub returns-in_err-poll-clause-served : goal.returns-in_err-poll-clause-served
+returns-in_err-poll-clause-served g c =
+    subst (λ s. SettlesFirst g.S.Serve.steps g.S.Serve.settles s (record { seats = c.self.inside.streams.seats; server = c.settle.new.self })) (ap tended c.self.view_is)
+    (record { seats = c.self.inside.streams.seats; server = c.settle.new.self }, (c.settle.ensures, refl), reach_none g.S.Serve.steps g.S.Serve.settles (record { seats = c.self.inside.streams.seats; server = c.settle.new.self }))
+
+pub returns-in_err-accept_again-clause-served : goal.returns-in_err-accept_again-clause-served
+returns-in_err-accept_again-clause-served g c =
+    let come = subst (λ ss. ComeOrGo ss c.accept_again.new.self.seats) (ap (λ (h : Held). h.seats) c.go_on_to.ensures.kept) c.accept_again.ensures.come in
+    subst (λ s. SettlesFirst g.S.Serve.steps g.S.Serve.settles s (record { seats = c.accept_again.new.self.seats; server = c.settle.new.self })) (ap tended c.self.view_is)
+    (settled_first g.S.Serve.steps g.S.Serve.settles c.self.inside.streams.seats c.accept_again.new.self.seats c.self.inside.server c.settle.new.self (record { seats = c.accept_again.new.self.seats; server = c.settle.new.self }) c.settle.ensures come
+    (reach_none g.S.Serve.steps g.S.Serve.settles (record { seats = c.accept_again.new.self.seats; server = c.settle.new.self })))
 
 pub returns-in_err-serve_again-clause-served : goal.returns-in_err-serve_again-clause-served
 returns-in_err-serve_again-clause-served g c =
-    subst (λ s. SettlesFirst g.S.Serve.steps g.S.Serve.settles s c.serve_again.new.server) (ap (λ l. l.server) c.self.view_is)
-    (c.settle.new.self, c.settle.ensures, reach_datagrams g.S.Serve.steps g.S.Serve.settles c.settle.new.self c.serve_again.new.server c.serve_again.ensures)
+    let come = subst (λ ss. ComeOrGo ss c.accept_again.new.self.seats) (ap (λ (h : Held). h.seats) c.go_on_to.ensures.kept) c.accept_again.ensures.come in
+    subst (λ s. SettlesFirst g.S.Serve.steps g.S.Serve.settles s (record { seats = c.accept_again.new.self.seats; server = c.serve_again.new.server })) (ap tended c.self.view_is)
+    (settled_first g.S.Serve.steps g.S.Serve.settles c.self.inside.streams.seats c.accept_again.new.self.seats c.self.inside.server c.settle.new.self (record { seats = c.accept_again.new.self.seats; server = c.serve_again.new.server }) c.settle.ensures come
+    (reach_datagrams g.S.Serve.steps g.S.Serve.settles c.accept_again.new.self.seats c.settle.new.self c.serve_again.new.server c.serve_again.ensures))
 
 pub returns-clause-served : goal.returns-clause-served
 returns-clause-served g c =
-    subst (λ s. SettlesFirst g.S.Serve.steps g.S.Serve.settles s c.serve_events.new.server) (ap (λ l. l.server) c.self.view_is) (
-      c.settle.new.self,
-      c.settle.ensures,
-      reach_on g.S.Serve.steps g.S.Serve.settles c.settle.new.self c.serve_again.new.server c.serve_events.new.server
-          (reach_datagrams g.S.Serve.steps g.S.Serve.settles c.settle.new.self c.serve_again.new.server c.serve_again.ensures) c.serve_events.ensures.served,
-    )
+    let come = subst (λ ss. ComeOrGo ss c.accept_again.new.self.seats) (ap (λ (h : Held). h.seats) c.go_on_to.ensures.kept) c.accept_again.ensures.come in
+    subst (λ s. SettlesFirst g.S.Serve.steps g.S.Serve.settles s (record { seats = c.serve_events.new.streams.seats; server = c.serve_events.new.server })) (ap tended c.self.view_is)
+    (settled_first g.S.Serve.steps g.S.Serve.settles c.self.inside.streams.seats c.accept_again.new.self.seats c.self.inside.server c.settle.new.self (record { seats = c.serve_events.new.streams.seats; server = c.serve_events.new.server }) c.settle.ensures come
+    (reach_on g.S.Serve.steps g.S.Serve.settles _ _ _ (reach_datagrams g.S.Serve.steps g.S.Serve.settles c.accept_again.new.self.seats c.settle.new.self c.serve_again.new.server c.serve_again.ensures) c.serve_events.ensures.served))

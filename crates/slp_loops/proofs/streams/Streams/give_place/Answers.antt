@@ -1,8 +1,6 @@
 use Rattle.std.proofs.Common.{sym, ap, ◌∙◌, subst, arith}
-use Rattle.slab.specs.Slab.{Slab}
 use Rattle.slp_loops.specs.Holding.{NoneSits, least_stay, longest_stay, moment_of}
-use Rattle.slp_loops.specs.Sitting.{moments}
-use Rattle.slp_loops.specs.declared.streams.Peer.{Peer}
+use Rattle.slp_loops.specs.Sitting.{seats}
 use Rattle.slp_loops.proofs.Sitting.{sits_less, none_longer}
 use Rattle.slp_loops.proofs.streams.Streams.give_place.Goals as goal
 
@@ -12,11 +10,11 @@ invariant_of-self c =
       omega (arith, closed.len, c.self.invariant.0),
       omega (arith, closed.capacity, c.self.invariant.1),
       c.self.invariant.2,
-      sits_less longest_stay c.self.inside.looked (moments c.self.inside.peers) (moments c.close_where_still.new.peers) closed.only c.self.invariant.3,
+      sits_less longest_stay c.self.inside.looked (seats c.self.inside.peers) (seats c.close_where_still.new.peers) closed.only c.self.invariant.3,
     )
 
 pub returns-clause-gives : goal.returns-clause-gives
 returns-clause-gives c = λ no.
     let closed = c.close_where_still.ensures in
-    subst (λ (p : Slab Peer). NoneSits least_stay c.self.inside.moment (moments p)) (sym (closed.same no))
-    (none_longer (moments c.self.inside.peers) c.stillest-key.result c.self.inside.moment least_stay c.stillest-key.ensures (λ at is. closed.closed at (ap (λ (p : Slab Peer). moment_of (moments p) c.stillest-key.result) (closed.same no) ∙ is)))
+    subst (λ p. NoneSits least_stay c.self.inside.moment (seats p)) (sym (closed.same no))
+    (none_longer (seats c.self.inside.peers) c.stillest-key.result c.self.inside.moment least_stay c.stillest-key.ensures (λ at is. closed.closed at (ap (λ p. moment_of (seats p) c.stillest-key.result) (closed.same no) ∙ is)))

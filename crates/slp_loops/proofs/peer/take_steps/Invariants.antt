@@ -2,7 +2,7 @@ use Rattle.std.proofs.Common.{◌-◌, Result}
 use Rattle.slp_loops.specs.Streaming.{Talk, Goes}
 use Rattle.slp_loops.specs.declared.connection.Next.{Next}
 use Rattle.slp_loops.specs.declared.fault.LoopFault.{LoopFault}
-use Rattle.slp_loops.proofs.streams.take_steps.Given as goal
+use Rattle.slp_loops.proofs.peer.take_steps.Given as goal
 
 abbrev pub invariant-loop : goal.invariant-loop
 invariant-loop g l =
