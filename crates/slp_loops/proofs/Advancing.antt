@@ -14,6 +14,7 @@ use Rattle.slp_loops.specs.Turning.{Tended, AdvancesAt, Remains, is_closed, Serv
 use Rattle.slp_loops.specs.declared.connection.Next.{Next}
 use Rattle.slp_loops.specs.declared.connection.Next.TheVariants.{More, Blocked, Closed}
 use Rattle.slp_loops.specs.declared.fault.LoopFault.{LoopFault}
+use Rattle.slp_loops.specs.declared.fault.LoopFault.TheVariants.{Io}
 use Rattle.slp_loops.specs.declared.peer.Peer.{Peer}
 use Rattle.slp_loops.proofs.Sitting.{beside, moment_in, seat_is, there, updated}
 
@@ -31,15 +32,15 @@ remains was (Err e) not tells slot end s is same = absurd cc
 pub tells_fault : (was told : Result Next LoopFault) (e : LoopFault) → was ≡ Err e → told ≡ Err e → Tells was told
 tells_fault was told e is so = subst (Tells was) (sym so) (inl is)
 
-pub tells_none : (was told : Result Next LoopFault) (e : LoopFault) → was ≡ Ok More → told ≡ Err e → Tells was told
-tells_none was told e is so = subst (Tells was) (sym so) (inr is)
+pub tells_none : (was told : Result Next LoopFault) (e : LoopFault) → was ≡ Ok More → told ≡ Err e → e ≡ Io → Tells was told
+tells_none was told e is so io = subst (Tells was) (sym so) (inr (is, io))
 
 gone : (was told : Result Next LoopFault) → is_closed told ≡ true → Tells was told → (end : Link) (slot : Option Seat) → slot ≡ None → Remains end was slot
 gone was (Ok More) is tells end slot none = absurd cc
 gone was (Ok Blocked) is tells end slot none = absurd cc
 gone was (Ok Closed) is tells end slot none = subst (λ t. Remains end t slot) (sym tells) none
 gone was (Err e) is (inl failed) end slot none = subst (λ t. Remains end t slot) (sym failed) none
-gone was (Err e) is (inr more) end slot none = subst (λ t. Remains end t slot) (sym more) (subst (λ o. IfSome o (λ s. s.link ≡ record end { moved = false })) (sym none) tt)
+gone was (Err e) is (inr (more, io)) end slot none = subst (λ t. Remains end t slot) (sym more) (subst (λ o. IfSome o (λ s. s.link ≡ record end { moved = false })) (sym none) tt)
 
 not_blocked : (told : Result Next LoopFault) → is_closed told ≡ true → told ≢ Ok Blocked
 not_blocked told is blocked = absurd (true≢false (sym is ∙ ap is_closed blocked))

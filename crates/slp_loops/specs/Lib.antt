@@ -4,6 +4,7 @@ pub mod Holding
 pub mod Linking
 pub mod Logging
 pub mod Ports
+pub mod Readiness
 pub mod Reading
 pub mod Serving
 pub mod Sitting

@@ -43,6 +43,13 @@ is_closed (Ok Blocked) = false
 is_closed (Ok Closed) = true
 is_closed (Err e) = true
 
+-- the tokens of a loop's own sockets; a stream's is its key
+abbrev pub datagrams_token : ℕ
+datagrams_token = 0xfffffffffffffffe
+
+abbrev pub listener_token : ℕ
+listener_token = 0xffffffffffffffff
+
 -- what a turn is told of it: that memory was wanting. What else failed is the stream's own.
 abbrev pub lack_of : Result Next LoopFault → Result ⊤ LoopFault
 lack_of (Ok next) = Ok tt
@@ -60,7 +67,7 @@ Remains end (Err e) slot = slot ≡ None
 -- what is told of the same, where one that may go on can't be waited for
 abbrev pub Tells : Result Next LoopFault → Result Next LoopFault → Type 0
 Tells told (Ok next) = told ≡ Ok next
-Tells told (Err e) = (told ≡ Err e) ⊎ (told ≡ Ok More)
+Tells told (Err e) = (told ≡ Err e) ⊎ ((told ≡ Ok More) × (e ≡ Io))
 
 -- where a stream went on at a moment, its connection now, and when it moved last, by when it was known to have
 abbrev pub rested : ℕ → Link → ℕ → Seat
@@ -110,6 +117,17 @@ module _ {S : Type 0} (steps : Steps S) (settles : Settles S) where
   abbrev pub IsByPeers : Tended S → Tended S → Type 0
   IsByPeers before after = ComeOrGo before.seats after.seats × (after.server ≡ before.server)
 
+  -- the socket with a token is served, which is ready
+  pub record IsServedAt (token : ℕ) (before after : Tended S) : Type 0 where
+    pub datagrams : token ≡ datagrams_token → IsByDatagrams before after
+    pub listener : token ≡ listener_token → IsByPeers before after
+    pub stream : token ≢ datagrams_token → token ≢ listener_token → ServesAt token before after
+
+  -- each of them is, one after the other
+  abbrev pub AreServedAt : Tended S → List ℕ → Tended S → Type 0
+  AreServedAt before [] after = after ≡ before
+  AreServedAt before (token ∷ tokens) after = (between : Tended S) × IsServedAt token before between × AreServedAt between tokens after
+
   -- it settles, since the loop waits next or ends; or serves datagrams that came, or a stream; or streams come, or are closed
   abbrev pub IsPart : Tended S → Tended S → Type 0
   IsPart before after = IsSettled before after ⊎ (IsByDatagrams before after ⊎ (((key : ℕ) × IsByStream key before after) ⊎ IsByPeers before after))
@@ -130,3 +148,17 @@ module _ {S : Type 0} (steps : Steps S) (settles : Settles S) where
   -- such parts are done, and last it settles
   abbrev pub SettlesLast : Tended S → Tended S → Type 0
   SettlesLast before after = (s : Tended S) × Reaches before s × IsSettled s after
+
+  -- The server settles. Streams and datagrams come that could not at the last turn. Each socket that is ready is served.
+  pub record IsServing (before : Tended S) (ready : List ℕ) (after : Tended S) : Type 0 where
+    pub settled : Tended S
+    pub accepted : Tended S
+    pub received : Tended S
+    pub settles_first : IsSettled before settled
+    pub accepts : IsByPeers settled accepted
+    pub receives : IsByDatagrams accepted received
+    pub serves : AreServedAt received ready after
+
+  -- a turn that lost no socket of the loop's own: streams that sat there too long are closed then
+  abbrev pub IsTurn : Tended S → List ℕ → Tended S → Type 0
+  IsTurn before ready after = (served : Tended S) × IsServing before ready served × IsByPeers served after

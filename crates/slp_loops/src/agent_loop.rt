@@ -1,6 +1,7 @@
-ghost use Rattle.std.specs.Prelude.{◌≡◌, ◌≤◌, ◌<◌, ◌↔◌, length, slice_get, Some, IfOk, IfErr, IsTrue};
+ghost use Rattle.std.specs.Prelude.{◌≡◌, ◌≢◌, ◌≤◌, ◌<◌, ◌↔◌, ◌++◌, ℕ, List, [], length, slice_get, Some, Err, IfOk, IfErr, IsTrue};
 ghost use Rattle.slp_loops.specs.Holding.{NoneSits, longest_stay};
-ghost use Rattle.slp_loops.specs.Turning.{Reaches, SettlesFirst, SettlesLast, tended};
+ghost use Rattle.slp_loops.specs.Readiness.{tokens_of};
+ghost use Rattle.slp_loops.specs.Turning.{AreServedAt, IsServedAt, IsServing, IsTurn, Reaches, SettlesFirst, SettlesLast, tended};
 ghost use Rattle.slp_loops.specs.declared.fault.LoopFault.TheVariants.{Io as Failing};
 
 use crate::clock::{Moments, SteadyClock};
@@ -27,7 +28,6 @@ const LONGEST_WAIT: u64 = 500;
 const EVENTS: usize = 256;
 
 // Serves the socket of an event.
-#[tactic(auto, using(crate::proofs::Reaching::reach_none))]
 fn serve_event<S: Serve>(
     registry: &Registry,
     token: Token,
@@ -36,11 +36,11 @@ fn serve_event<S: Serve>(
     server: &mut S,
 ) -> Result<(), LoopFault>
     ensures limit { streams.new.limit ≡ streams.old.limit }
-    ensures served { Reaches S.steps S.settles (record { seats = streams.old.seats; server = server.old }) (record { seats = streams.new.seats; server = server.new }) }
+    ensures served { IsServedAt S.steps S.settles token.0 (record { seats = streams.old.seats; server = server.old }) (record { seats = streams.new.seats; server = server.new }) }
 {
-    if token == DATAGRAMS {
+    if token.0 == DATAGRAMS.0 {
         datagrams.serve_event(registry, server)
-    } else if token == LISTENER {
+    } else if token.0 == LISTENER.0 {
         streams.accept(registry)
     } else {
         streams.advance(registry, token.0, server)
@@ -57,7 +57,8 @@ fn serve_events<S: Serve>(
     server: &mut S,
 ) -> Result<(), LoopFault>
     ensures limit { streams.new.limit ≡ streams.old.limit }
-    ensures served { Reaches S.steps S.settles (record { seats = streams.old.seats; server = server.old }) (record { seats = streams.new.seats; server = server.new }) }
+    ensures served { (front : List ℕ) × (rest : List ℕ) × (tokens_of events.now ≡ front ++ rest) × (result ≢ Err Failing → rest ≡ [])
+        × AreServedAt S.steps S.settles (record { seats = streams.old.seats; server = server.old }) front (record { seats = streams.new.seats; server = server.new }) }
 {
     let mut outcome = Ok(());
     for event in events.iter() {
@@ -89,10 +90,11 @@ pub struct AgentLoop<S: Serve + Drop> {
 
 impl<S: Serve + Drop> Model for AgentLoop<S> {
     ghost use Rattle.slp_loops.specs.Holding.{Looping};
+    ghost use Rattle.slp_loops.specs.Readiness.{tokens_of};
 
     ghost Value = { Looping S };
 
-    ghost view = { λ l. record { limit = l.streams.limit; held = l.streams.held; moment = l.streams.moment; seats = l.streams.seats; server = l.server } };
+    ghost view = { λ l. record { limit = l.streams.limit; held = l.streams.held; moment = l.streams.moment; seats = l.streams.seats; ready = tokens_of l.events; server = l.server } };
 }
 
 // What a loop has beside its server.
@@ -265,6 +267,7 @@ impl<S: Serve + Drop> AgentLoop<S> {
         ensures limit { self.new.limit ≡ self.old.limit }
         ensures none { NoneSits longest_stay self.new.moment self.new.seats }
         ensures served { SettlesFirst S.steps S.settles (tended self.old) (tended self.new) }
+        ensures whole { result ≢ Err Failing → IsTurn S.steps S.settles (tended self.old) self.new.ready (tended self.new) }
     {
         let told = self.serve_ready(steady);
         self.streams.close_still();
@@ -275,6 +278,7 @@ impl<S: Serve + Drop> AgentLoop<S> {
     fn serve_ready<M: Moments>(&mut self, steady: &mut M) -> Result<(), LoopFault>
         ensures limit { self.new.limit ≡ self.old.limit }
         ensures served { SettlesFirst S.steps S.settles (tended self.old) (tended self.new) }
+        ensures whole { result ≢ Err Failing → IsServing S.steps S.settles (tended self.old) self.new.ready (tended self.new) }
     {
         self.server.settle();
         let wait = Duration::from_millis(LONGEST_WAIT);

@@ -1,10 +1,11 @@
 //! The datagrams of a loop: they are received, served and answered together.
-ghost use Rattle.std.specs.Prelude.{◌≡◌, ◌≤◌, ℕ, [], ◌++◌, take, map, length, List, Option, IfOk};
+ghost use Rattle.std.specs.Prelude.{◌≡◌, ◌≤◌, ℕ, [], ◌++◌, take, map, length, List, Option, IfErr, IfOk};
 ghost use Rattle.std.specs.declared.io.Error.{Error};
 ghost use Rattle.slp_loops.specs.Ports.{Happening, Came, Left, Runs, ServedFor, AreAnswered, IsRound, Serves, Says, IsThrough, owed, pausing, in_all};
 ghost use Rattle.slp_loops.specs.Ports as spec;
 ghost use Rattle.slp_loops.specs.Serving.{IsServed};
 ghost use Rattle.slp_loops.specs.Exchanging.{datagram, datagrams, back, back_by, dues, all_dues, received_into, Stopped};
+ghost use Rattle.slp_loops.specs.declared.fault.LoopFault.TheVariants.{Io as Failing};
 
 use crate::exchange::{Back, Exchange, Rest};
 use crate::fault::{LoopFault, is_socket_lost};
@@ -236,11 +237,10 @@ impl<P: Port + Drop> Datagrams<P> {
 
 impl Datagrams<UdpSocket> {
     // Has what is left reported again, or notes that no event will report it.
-    fn note(
-        &mut self,
-        told: Result<Rest, LoopFault>,
-        registry: &Registry,
-    ) -> Result<(), LoopFault> {
+    fn note(&mut self, told: Result<Rest, LoopFault>, registry: &Registry) -> Result<(), LoopFault>
+        requires { IfErr told (λ e. e ≡ Failing) }
+        ensures { IfErr result (λ e. e ≡ Failing) }
+    {
         let rest = told?;
         self.receives_again = rest == Rest::Later;
         if rest == Rest::More {
@@ -255,7 +255,8 @@ impl Datagrams<UdpSocket> {
         registry: &Registry,
         server: &mut S,
     ) -> Result<(), LoopFault>
-        ensures { (rounds : List (List Happening)) × Serves S.steps S.settles server.old rounds server.new }
+        ensures fault { IfErr result (λ e. e ≡ Failing) }
+        ensures served { (rounds : List (List Happening)) × Serves S.steps S.settles server.old rounds server.new }
     {
         let told = self.serve(server);
         self.note(told, registry)
@@ -267,7 +268,8 @@ impl Datagrams<UdpSocket> {
         registry: &Registry,
         server: &mut S,
     ) -> Result<(), LoopFault>
-        ensures { (rounds : List (List Happening)) × Serves S.steps S.settles server.old rounds server.new }
+        ensures fault { IfErr result (λ e. e ≡ Failing) }
+        ensures served { (rounds : List (List Happening)) × Serves S.steps S.settles server.old rounds server.new }
     {
         if self.receives_again {
             self.serve_event(registry, server)

@@ -1,10 +1,11 @@
-ghost use Rattle.std.specs.Prelude.{◌≡◌, ◌⊎◌, ◌≤◌, ◌<◌, ◌+◌, ◌↔◌, ℕ, [], false, Some, IfOk, IsTrue, IsFalse};
+ghost use Rattle.std.specs.Prelude.{◌≡◌, ◌⊎◌, ◌≤◌, ◌<◌, ◌+◌, ◌↔◌, ℕ, [], false, Some, IfErr, IfOk, IsTrue, IsFalse};
 ghost use Rattle.slab.specs.Slab.{slab_len};
 ghost use Rattle.slp_loops.specs.Holding.{HasNoOther, IsStillest, KeepsOthers, NoneSits, least_stay, longest_stay, moment_of};
 ghost use Rattle.slp_loops.specs.Holding as holding;
 ghost use Rattle.slp_loops.specs.Sitting.{seats};
 ghost use Rattle.slp_loops.specs.Turning.{AdvancesAt, Admits, ComeOrGo, ServesAt};
 ghost use Rattle.slp_loops.specs.Turning as turning;
+ghost use Rattle.slp_loops.specs.declared.fault.LoopFault.TheVariants.{Io as Failing};
 
 use crate::connection::Next;
 use crate::fault::{LoopFault, is_socket_lost};
@@ -161,6 +162,7 @@ impl Streams {
 
     /// Accepts what waits. `Io` where the listener itself failed.
     pub fn accept(&mut self, registry: &Registry) -> Result<(), LoopFault>
+        ensures fault { IfErr result (λ e. e ≡ Failing) }
         ensures limit { self.new.limit ≡ self.old.limit }
         ensures moment { self.new.moment ≡ self.old.moment }
         ensures come { ComeOrGo self.old.seats self.new.seats }
@@ -190,6 +192,7 @@ impl Streams {
 
     /// Accepts where the last try found no means to.
     pub fn accept_again(&mut self, registry: &Registry) -> Result<(), LoopFault>
+        ensures fault { IfErr result (λ e. e ≡ Failing) }
         ensures limit { self.new.limit ≡ self.old.limit }
         ensures moment { self.new.moment ≡ self.old.moment }
         ensures come { ComeOrGo self.old.seats self.new.seats }

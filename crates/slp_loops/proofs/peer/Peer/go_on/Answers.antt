@@ -13,7 +13,7 @@ pub returns-in_err-wait_again : goal.returns-in_err-wait_again
 returns-in_err-wait_again g c =
     let p = err_from_is_err_and c.from_residual-in_err-wait_again.result c.from_residual-in_err-wait_again.ensures.1 in
     gone_on g.S.Serve.steps g.S.Serve.settles c.args.self.now c.advance.new.self c.wait_again.new.self c.args.now c.args.server.now c.advance.new.server _ _ _ _ c.advance.result _ c.advance.ensures c.wait_again.ensures
-    (tells_none c.advance.result c.from_residual-in_err-wait_again.result p.0 (c.in_ok-next.was ∙ ap (λ n. Ok n) c.in-More.is) p.1)
+    (tells_none c.advance.result c.from_residual-in_err-wait_again.result p.0 (c.in_ok-next.was ∙ ap (λ n. Ok n) c.in-More.is) p.1 p.2)
 
 pub returns-in_ok-wait_again : goal.returns-in_ok-wait_again
 returns-in_ok-wait_again g c =
