@@ -1,5 +1,5 @@
 //! A stream of a loop. Nothing else reads it, or writes to it.
-ghost use Rattle.std.specs.Prelude.{◌≡◌, Result};
+ghost use Rattle.std.specs.Prelude.{◌≡◌, true, Result};
 ghost use Rattle.slp_loops.specs.Linking.{Link};
 ghost use Rattle.slp_loops.specs.Sitting.{seat};
 ghost use Rattle.slp_loops.specs.Streaming.{Advances, Goes};
@@ -19,6 +19,14 @@ use std::io::{self, Read, Write};
 
 /// How many steps of a stream one event may cause. What is left is reported again, so that no stream keeps the others from their turn.
 const STEPS_AT_ONCE: usize = 16;
+
+/// What a stream is waited for: that it can be read, or written to.
+pub(crate) fn either() -> Interest
+    ensures readable { result.readable ≡ true }
+    ensures writable { result.writable ≡ true }
+{
+    Interest::READABLE | Interest::WRITABLE
+}
 
 // What is answered where a stream ends its turn after a read and a write.
 fn end_of(read: Next, written: Next) -> Option<Next>
@@ -101,8 +109,7 @@ impl<T: Source + Drop> Peer<T> {
     fn wait_again(&mut self, registry: &Registry, key: usize) -> io::Result<()>
         ensures { seat self.new ≡ seat self.old }
     {
-        let both = Interest::READABLE | Interest::WRITABLE;
-        registry.reregister(&mut self.stream, Token(key), both)
+        registry.reregister(&mut self.stream, Token(key), either())
     }
 }
 

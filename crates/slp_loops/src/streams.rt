@@ -9,7 +9,7 @@ ghost use Rattle.slp_loops.specs.declared.fault.LoopFault.TheVariants.{Io as Fai
 
 use crate::connection::Next;
 use crate::fault::{LoopFault, is_socket_lost};
-use crate::peer::Peer;
+use crate::peer::{Peer, either};
 use crate::serve::Serve;
 use access_rules::Addr;
 use mio::net::{TcpListener, TcpStream};
@@ -149,8 +149,7 @@ impl Streams {
             return;
         }
         let token = Token(self.peers.vacant_key());
-        let both = Interest::READABLE | Interest::WRITABLE;
-        if registry.register(&mut stream, token, both).is_err() {
+        if registry.register(&mut stream, token, either()).is_err() {
             return;
         }
         // Without it a short reply may wait; where it is refused, it is only slower.
