@@ -3,7 +3,8 @@ use Rattle.std.specs.Prelude.{◌≡◌, ℕ, Bool, true, false, List, [], ◌�
 use Rattle.slp_text.specs.declared.faults.NoMemory.{NoMemory}
 use Rattle.directory_judge.specs.History.{History}
 use Rattle.directory_questions.specs.Answers.{is_change_of}
-use Rattle.directory_questions.specs.Calls.{Opening, Call, AreBytes}
+use Rattle.directory_questions.specs.Bytes.{AreBytes}
+use Rattle.directory_questions.specs.Calls.{Opening, Call}
 use Rattle.slp_answer.specs.declared.answer.Answer.{Answer}
 use Rattle.slp_answer.specs.declared.answer.Sent.{Sent}
 use Rattle.history_log.specs.Pasts.{IsPast}

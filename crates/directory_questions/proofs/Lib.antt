@@ -1,2 +1,3 @@
 pub mod NamedParts
 pub mod Readings
+pub mod Requests

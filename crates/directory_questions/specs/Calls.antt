@@ -1,5 +1,5 @@
 -- What a directory begins with, and what is asked of it.
-use Rattle.std.specs.Prelude.{ℕ, ◌<◌, get_or, List}
+use Rattle.std.specs.Prelude.{ℕ, List}
 use Rattle.access_rules.specs.Deciding.{SiteRules}
 use Rattle.directory_judge.specs.History.{History}
 use Rattle.directory_judge.specs.Sites.{Site}
@@ -31,10 +31,6 @@ pub record Call : Type 0 where
 -- where a call stands
 abbrev pub standpoint_of : Opening → History → Call → Standpoint
 standpoint_of o h c = standpoint o h c.moment c.asker
-
--- each is a byte
-abbrev pub AreBytes : List ℕ → Type 0
-AreBytes bytes = (i : ℕ) → get_or bytes i 0 < 256
 
 -- what is asked, wherever its bytes lie
 abbrev pub call_in : code.Call → Call

@@ -1,4 +1,5 @@
 pub mod Answers
+pub mod Bytes
 pub mod Calls
 pub mod Cuts
 pub mod Items

@@ -1,7 +1,8 @@
 -- What messages ask for, by their function (RFC 2608, sections 8 to 10).
-use Rattle.std.specs.Prelude.{ℕ, Bool, ◌==◌, ◌||◌, if◌then◌else◌}
+use Rattle.std.specs.Prelude.{◌≢◌, ℕ, Bool, ◌==◌, ◌||◌, List, IfSome, if◌then◌else◌}
 use Rattle.access_rules.specs.declared.rule.Action.{Action}
 use Rattle.access_rules.specs.declared.rule.Action.TheVariants.{Register, Withdraw, See}
+use Rattle.slp_headers.specs.Headers.{Heading, heading_of}
 use Rattle.slp_messages.specs.declared.function.TheConstants.{SERVICE_REQUEST, REGISTRATION, WITHDRAWAL, ATTRIBUTE_REQUEST, TYPE_REQUEST}
 use Rattle.directory_questions.specs.declared.request.Request.{Request}
 use Rattle.directory_questions.specs.declared.request.Request.TheVariants.{Services, Registration, Withdrawal, Attributes, Types}
@@ -23,5 +24,13 @@ abbrev pub is_question_function : ℕ → Bool
 is_question_function function = function == SERVICE_REQUEST || function == ATTRIBUTE_REQUEST || function == TYPE_REQUEST
 
 -- what the rules are asked about
-abbrev pub action_of : ℕ → Action
-action_of function = if function == REGISTRATION then Register else (if function == WITHDRAWAL then Withdraw else See)
+abbrev pub action_of : Heading → Action
+action_of h = if h.function == REGISTRATION then Register else (if h.function == WITHDRAWAL then Withdraw else See)
+
+-- a message of another function is not answered
+abbrev pub IsUnanswered : ℕ → Type 0
+IsUnanswered function = (function ≢ SERVICE_REQUEST) × ((function ≢ REGISTRATION) × ((function ≢ WITHDRAWAL) × ((function ≢ ATTRIBUTE_REQUEST) × (function ≢ TYPE_REQUEST))))
+
+-- nothing that is answered is heard of bytes: no header is readable, or it is of another function
+abbrev pub IsUnheard : List ℕ → Type 0
+IsUnheard bytes = IfSome (heading_of bytes) (λ h. IsUnanswered h.function)

@@ -4,6 +4,7 @@
 
 mod call;
 mod fault;
+mod heard;
 mod query;
 mod question;
 mod reading;
@@ -12,6 +13,7 @@ mod responders;
 
 pub use call::Call;
 pub use fault::decider_of;
+pub use heard::Heard;
 pub use query::{AgentQuery, AttrQuery, Authority, QueryFault, ServiceQuery, Target, TypeQuery};
 pub use question::{Question, asked};
 pub use reading::asked_change;

@@ -1,22 +1,25 @@
 ghost use Rattle.search_filter.specs.Reading.{predicate_in};
 ghost use Rattle.std.specs.Result.{result_ok};
-ghost use Rattle.std.specs.Prelude.{◌≡◌, ◌⊎◌, IfOk, MatchResult, Some};
-ghost use Rattle.slp_headers.specs.Headers.{heading_in, heading_of};
+ghost use Rattle.std.specs.Prelude.{◌≡◌, IfOk, MatchResult, false};
+ghost use Rattle.slp_headers.specs.Headers.{heading_in};
 ghost use Rattle.slp_messages.specs.Views.{attribute_request_in, authority_in, request_in, type_request_in};
+ghost use Rattle.slp_wire.specs.Asking.{question_in};
 ghost use Rattle.slp_wire.specs.Reading.{kept_header};
+ghost use Rattle.directory_questions.specs.Answers.{question_of};
 ghost use Rattle.slp_text.specs.Scopes.{scopes_of};
 ghost use Rattle.directory_questions.specs.Questions.{agents_in, attribute_question, authority_asked, service_question, target_of, type_question};
 ghost use Rattle.directory_questions.specs.Readings.{IsAsked, IsUnread};
+ghost use Rattle.directory_questions.specs.Requests.{function_in, is_change_function};
 
+use crate::heard::Heard;
 use crate::query::{AgentQuery, AttrQuery, Authority, ServiceQuery, Target, TypeQuery};
 use crate::responders;
-use access_rules::Addr;
 use search_filter::{Filter, FilterFault};
 use service_url::{ServiceType, Url, UrlFault, parse_authority};
 use slp_text::{Key, NoMemory, ScopeList, TagList, is_blank};
 use slp_wire::{
-    AttributeRequestView, AuthorityView, HeaderView, ServiceRequestView, TypeRequestView,
-    WireFault, function, read_attribute_request, read_service_request, read_type_request,
+    AttributeRequestView, AuthorityView, HeaderView, QuestionView, ServiceRequestView,
+    TypeRequestView, WireFault, read_question,
 };
 use std::alloc::Global;
 
@@ -33,91 +36,29 @@ pub enum Question {
     Agents(AgentQuery),
 }
 
-/// What the request in front of bytes asks at an address, or the fault for which they are none. The header
-/// was read from them, and is that of a service, attribute or type request.
-pub fn asked(
-    alloc: Global,
-    own: Addr,
-    header: &HeaderView<'_>,
-    bytes: &[u8],
-) -> Result<Result<Question, WireFault>, NoMemory>
-    requires header { heading_of bytes.now ≡ Some (heading_in header.now) }
-    requires function { (header.now.function ≡ 1) ⊎ ((header.now.function ≡ 6) ⊎ (header.now.function ≡ 9)) }
-    ensures { IfOk result (λ read. MatchResult read (IsAsked own bytes.now) (IsUnread bytes.now)) }
+/// What the request in front of the bytes of a call asks, or the fault for which they are none.
+pub fn asked(alloc: Global, heard: &Heard<'_>) -> Result<Result<Question, WireFault>, NoMemory>
+    requires { is_change_function (function_in heard.now.request) ≡ false }
+    ensures { IfOk result (λ read. MatchResult read (IsAsked heard.now.call.now.own heard.now.call.now.bytes.now) (IsUnread heard.now.call.now.bytes.now)) }
 {
-    match header.function {
-        function::SERVICE_REQUEST => services_asked(alloc, own, header, bytes),
-        function::ATTRIBUTE_REQUEST => attributes_asked(alloc, own, header, bytes),
-        _ => types_asked(alloc, own, header, bytes),
-    }
-}
-
-// What a service request asks.
-fn services_asked(
-    alloc: Global,
-    own: Addr,
-    header: &HeaderView<'_>,
-    bytes: &[u8],
-) -> Result<Result<Question, WireFault>, NoMemory>
-    requires header { heading_of bytes.now ≡ Some (heading_in header.now) }
-    requires function { header.now.function ≡ 1 }
-    ensures { IfOk result (λ read. MatchResult read (IsAsked own bytes.now) (IsUnread bytes.now)) }
-{
-    match read_service_request(header, bytes) {
-        Ok(request) => {
-            if responders::has_answered(alloc, own, request.responders)? {
-                return Ok(Ok(Question::Silent));
-            }
-            Ok(Ok(service_question_in(alloc, header, &request)?))
-        }
+    match read_question(&heard.header, heard.call.bytes) {
+        Ok(view) => Ok(Ok(posed(alloc, heard, &view)?)),
         Err(WireFault::NoMemory) => Err(NoMemory),
         Err(fault) => Ok(Err(fault)),
     }
 }
 
-// What an attribute request asks.
-fn attributes_asked(
-    alloc: Global,
-    own: Addr,
-    header: &HeaderView<'_>,
-    bytes: &[u8],
-) -> Result<Result<Question, WireFault>, NoMemory>
-    requires header { heading_of bytes.now ≡ Some (heading_in header.now) }
-    requires function { header.now.function ≡ 6 }
-    ensures { IfOk result (λ read. MatchResult read (IsAsked own bytes.now) (IsUnread bytes.now)) }
+// What a request asks, unless the address that it came to has answered it.
+fn posed(alloc: Global, heard: &Heard<'_>, view: &QuestionView<'_>) -> Result<Question, NoMemory>
+    ensures { IfOk result (λ q. q ≡ question_of heard.now.call.now.own (question_in (kept_header (heading_in heard.now.header)) view.now)) }
 {
-    match read_attribute_request(header, bytes) {
-        Ok(request) => {
-            if responders::has_answered(alloc, own, request.responders)? {
-                return Ok(Ok(Question::Silent));
-            }
-            Ok(Ok(attribute_question_in(alloc, header, &request)?))
-        }
-        Err(WireFault::NoMemory) => Err(NoMemory),
-        Err(fault) => Ok(Err(fault)),
+    if responders::has_answered(alloc, heard.call.own, view.responders())? {
+        return Ok(Question::Silent);
     }
-}
-
-// What a type request asks.
-fn types_asked(
-    alloc: Global,
-    own: Addr,
-    header: &HeaderView<'_>,
-    bytes: &[u8],
-) -> Result<Result<Question, WireFault>, NoMemory>
-    requires header { heading_of bytes.now ≡ Some (heading_in header.now) }
-    requires function { header.now.function ≡ 9 }
-    ensures { IfOk result (λ read. MatchResult read (IsAsked own bytes.now) (IsUnread bytes.now)) }
-{
-    match read_type_request(header, bytes) {
-        Ok(request) => {
-            if responders::has_answered(alloc, own, request.responders)? {
-                return Ok(Ok(Question::Silent));
-            }
-            Ok(Ok(type_question_in(alloc, &request)?))
-        }
-        Err(WireFault::NoMemory) => Err(NoMemory),
-        Err(fault) => Ok(Err(fault)),
+    match view {
+        QuestionView::Services(request) => service_question_in(alloc, &heard.header, request),
+        QuestionView::Attributes(request) => attribute_question_in(alloc, &heard.header, request),
+        QuestionView::Types(request) => type_question_in(alloc, request),
     }
 }
 

@@ -1,11 +1,10 @@
 //! What a message asks for, by its function.
-ghost use Rattle.std.specs.Prelude.{◌≡◌, ◌≢◌, IfNone, IfSome, Some};
+ghost use Rattle.std.specs.Prelude.{◌≡◌, IfNone, IfSome, Some};
 ghost use Rattle.slp_headers.specs.Headers.{reply_function_of};
 ghost use Rattle.directory_questions.specs.Answers.{is_change_of};
 ghost use Rattle.directory_questions.specs.Requests as spec;
-ghost use Rattle.directory_questions.specs.Requests.{action_of, function_in};
+ghost use Rattle.directory_questions.specs.Requests.{function_in, IsUnanswered};
 
-use access_rules::Action;
 use slp_wire::{function, read_header};
 
 /// What a message asks for, of what a directory answers (RFC 2608, sections 8 to 10).
@@ -22,7 +21,7 @@ impl Request {
     /// What a message of a function asks for, where the function is one that is answered. Takes no memory.
     pub fn of(function: u8) -> Option<Request>
         ensures some { IfSome result (λ r. function_in r ≡ function) }
-        ensures none { IfNone result ((function ≢ 1) × ((function ≢ 3) × ((function ≢ 4) × ((function ≢ 6) × (function ≢ 9))))) }
+        ensures none { IfNone result (IsUnanswered function) }
     {
         match function {
             function::SERVICE_REQUEST => Some(Request::Services),
@@ -46,17 +45,6 @@ impl Request {
         ensures { result ≡ spec.is_question_function (function_in self) }
     {
         !self.is_change()
-    }
-
-    /// What the rules are asked about. Takes no memory.
-    pub fn action(self) -> Action
-        ensures { result ≡ action_of (function_in self) }
-    {
-        match self {
-            Request::Registration => Action::Register,
-            Request::Withdrawal => Action::Withdraw,
-            _ => Action::See,
-        }
     }
 
     /// The function of its reply. Takes no memory.

@@ -1,6 +1,6 @@
 -- Every denial carries its code, and its line names who decided.
 use Rattle.std.proofs.Common.{◌≡◌, ◌≢◌, ℕ, Bool, true, false, cond, not, List, [], ◌∷◌, ◌++◌, codes, length, Option, Some, None, Result, Ok, Err, refl, sym, ap, subst, ◌∙◌, append_assoc, arith, inl, inr}
-use Rattle.std.specs.Prelude.{◌==◌, ◌&&◌, ◌||◌, filter, find, is_none, is_some, nat_le, unwrap_or}
+use Rattle.std.specs.Prelude.{◌==◌, ◌&&◌, ◌||◌, filter, find, is_none, is_some, nat_le, unwrap_or, if◌then◌else◌}
 use Rattle.std.specs.Fmt.{decimal}
 use Rattle.std.specs.FinMap as fin
 use Rattle.std.specs.List.{list_any}
@@ -28,6 +28,7 @@ use Rattle.slp_wire.proofs.Functions.{message_function}
 use Rattle.service_url.specs.Types.{type_of}
 use Rattle.service_url.specs.Urls.{url_of}
 use Rattle.access_rules.specs.Deciding.{Deed, SiteRules, deciding, deed}
+use Rattle.access_rules.specs.declared.rule.Action.{Action}
 use Rattle.access_rules.specs.declared.rule.Action.TheVariants as action
 use Rattle.attr_list.specs.Lists.{Attributes}
 use Rattle.attr_list.specs.Maps.{attributes_without}
@@ -60,9 +61,9 @@ use Rattle.directory_runs.specs.Promises.{DenialsAreKept, IsDenial, IsRuledOut, 
 -- ---- who denies
 
 -- a rule that is named is one that decided, and so is the default
-record IsAccounted (rs : SiteRules) (asker function : ℕ) (because : Because) : Type 0 where
-  by_rule : (index : ℕ) → because.decider ≡ decider.Rule index → IsRuledOut rs asker function because
-  by_default : because.decider ≡ decider.Default → IsRuledOut rs asker function because
+record IsAccounted (rs : SiteRules) (asker : ℕ) (did : Action) (because : Because) : Type 0 where
+  by_rule : (index : ℕ) → because.decider ≡ decider.Rule index → IsRuledOut rs asker did because
+  by_default : because.decider ≡ decider.Default → IsRuledOut rs asker did because
 
 -- neither a rule nor the default
 abbrev IsStep : Decider → Type 0
@@ -82,18 +83,18 @@ IsStep decider.Update = Unit {0}
 IsStep decider.Template = Unit {0}
 IsStep decider.Full = Unit {0}
 
-step_accounted : (rs : SiteRules) (asker function : ℕ) (because : Because) → IsStep because.decider → IsAccounted rs asker function because
-step_accounted rs asker function because step = record { by_rule = λ index is. absurd (subst IsStep is step); by_default = λ is. absurd (subst IsStep is step) }
+step_accounted : (rs : SiteRules) (asker : ℕ) (did : Action) (because : Because) → IsStep because.decider → IsAccounted rs asker did because
+step_accounted rs asker did because step = record { by_rule = λ index is. absurd (subst IsStep is step); by_default = λ is. absurd (subst IsStep is step) }
 
 -- ---- what is judged
 
-module _ (rs : SiteRules) (asker function : ℕ) where
+module _ (rs : SiteRules) (asker : ℕ) (did : Action) where
   -- a denial has the code of who decided
   abbrev IsJust : Judgement → Type 0
   IsJust (Accepts event because) = Unit {0}
   IsJust Ignores = Unit {0}
   IsJust Waits = Unit {0}
-  IsJust (Denies code because) = (code ≡ code_by because.decider) × IsAccounted rs asker function because
+  IsJust (Denies code because) = (code ≡ code_by because.decider) × IsAccounted rs asker did because
 
   abbrev AreJust : Option Judgement → Type 0
   AreJust None = Unit {0}
@@ -108,7 +109,7 @@ module _ (rs : SiteRules) (asker function : ℕ) where
   just-else (Some k) j x y = x
 
   just-denial : (because : Because) → IsStep because.decider → IsJust (denial because)
-  just-denial because step = (refl, step_accounted rs asker function because step)
+  just-denial because step = (refl, step_accounted rs asker did because step)
 
   just-test : (b : Bool) (because : Because) → IsStep because.decider → AreJust (cond b (Some (denial because)) None)
   just-test true because step = just-denial because step
@@ -124,47 +125,47 @@ module _ (rs : SiteRules) (d : Deed) where
         | false ↦ λ f h. subst (λ z. (deciding rs d z).allow ≡ false) (same_Some x s h) f
       ] refl
 
-module _ (g : Grounds) (function : ℕ) (kind : List ℕ) (registrant : ℕ) (scopes : List (List ℕ)) where
+module _ (g : Grounds) (did : Action) (kind : List ℕ) (registrant : ℕ) (scopes : List (List ℕ)) where
   abbrev asked : Deed
-  asked = deed g.asker (action_of function) kind registrant
+  asked = deed g.asker did kind registrant
 
-  ruled_out : (s : List ℕ) → (deciding g.rules asked s).allow ≡ false → IsRuledOut g.rules g.asker function (by_rule g.rules asked s)
+  ruled_out : (s : List ℕ) → (deciding g.rules asked s).allow ≡ false → IsRuledOut g.rules g.asker did (by_rule g.rules asked s)
   ruled_out s denied = record { kind = kind; registrant = registrant; scope = s; of_kind = refl; in_scope = refl; denied = denied; by = refl }
 
-  just-found : (o : Option (List ℕ)) → find (is_denied g.rules asked) scopes ≡ o → AreJust g.rules g.asker function (option_map denial (option_map (by_rule g.rules asked) o))
+  just-found : (o : Option (List ℕ)) → find (is_denied g.rules asked) scopes ≡ o → AreJust g.rules g.asker did (option_map denial (option_map (by_rule g.rules asked) o))
   just-found None is = tt
   just-found (Some s) is =
       let out = ruled_out s (found-denied g.rules asked scopes s is) in
       (refl, record { by_rule = λ index by. out; by_default = λ by. out })
 
-  just-in : AreJust g.rules g.asker function (denial_in g (action_of function) kind registrant scopes)
+  just-in : AreJust g.rules g.asker did (denial_in g did kind registrant scopes)
   just-in = just-found (find (is_denied g.rules asked) scopes) refl
 
 -- ---- a registration
 
-just-old : (g : Grounds) (o : Option Entry) → AreJust g.rules g.asker REGISTRATION (denial_of_old g o)
+just-old : (g : Grounds) (o : Option Entry) → AreJust g.rules g.asker action.Register (denial_of_old g o)
 just-old g None = tt
-just-old g (Some e) = just-in g REGISTRATION e.kind e.owner e.scopes
+just-old g (Some e) = just-in g action.Register e.kind e.owner e.scopes
 
 module _ (g : Grounds) where
   abbrev JustRegistered : Judgement → Type 0
-  JustRegistered = IsJust g.rules g.asker REGISTRATION
+  JustRegistered = IsJust g.rules g.asker action.Register
 
   abbrev AreRegistered : Option Judgement → Type 0
-  AreRegistered = AreJust g.rules g.asker REGISTRATION
+  AreRegistered = AreJust g.rules g.asker action.Register
 
   just-tests : (a b : Bool) (t : Particulars) → AreRegistered (cond (not a) (Some (denial (by_step decider.Update (Some t.kind)))) (cond (not b) (Some (denial (by_step decider.Scope (Some t.kind)))) None))
   just-tests true true t = tt
-  just-tests true false t = just-denial g.rules g.asker REGISTRATION (by_step decider.Scope (Some t.kind)) tt
-  just-tests false b t = just-denial g.rules g.asker REGISTRATION (by_step decider.Update (Some t.kind)) tt
+  just-tests true false t = just-denial g.rules g.asker action.Register (by_step decider.Scope (Some t.kind)) tt
+  just-tests false b t = just-denial g.rules g.asker action.Register (by_step decider.Update (Some t.kind)) tt
 
   just-update : (t : Particulars) (o : Option Entry) → AreRegistered (denial_of_update t o)
-  just-update t None = just-denial g.rules g.asker REGISTRATION (by_step decider.Update (Some t.kind)) tt
+  just-update t None = just-denial g.rules g.asker action.Register (by_step decider.Update (Some t.kind)) tt
   just-update t (Some e) = just-tests (bytes_eq e.kind t.kind) (texts_eq e.scopes t.scopes) t
 
   just-live : (fresh : Bool) (t : Particulars) (o : Option Entry) → AreRegistered (denial_of_live g fresh t o)
   just-live true t o = just-old g o
-  just-live false t o = just-or g.rules g.asker REGISTRATION (denial_of_update t o) (denial_of_old g o) (just-update t o) (just-old g o)
+  just-live false t o = just-or g.rules g.asker action.Register (denial_of_update t o) (denial_of_old g o) (just-update t o) (just-old g o)
 
   just-particulars : (h : Header) (r : Registration) (t : Particulars) → JustRegistered (judgement_of_particulars g h r t)
   just-particulars h r t =
@@ -175,12 +176,12 @@ module _ (g : Grounds) where
       let by_template = denial_of_template g t.kind attrs in
       let by_live = denial_of_live g h.flags.fresh t live in
       let by_rules = denial_of_new g t in
-      just-else g.rules g.asker REGISTRATION (option_or (denial_of_scopes t) (option_or by_rules (option_or by_live (option_or by_template by_room)))) accepts
-      (just-or g.rules g.asker REGISTRATION (denial_of_scopes t) (option_or by_rules (option_or by_live (option_or by_template by_room))) (just-test g.rules g.asker REGISTRATION (length t.scopes == 0) (by_step decider.Scope (Some t.kind)) tt)
-      (just-or g.rules g.asker REGISTRATION by_rules (option_or by_live (option_or by_template by_room)) (just-in g REGISTRATION t.kind g.asker t.scopes)
-      (just-or g.rules g.asker REGISTRATION by_live (option_or by_template by_room) (just-live h.flags.fresh t live)
-      (just-or g.rules g.asker REGISTRATION by_template by_room (just-test g.rules g.asker REGISTRATION (is_some (template_fault g.site.templates t.kind attrs)) (by_step decider.Template (Some t.kind)) tt)
-      (just-test g.rules g.asker REGISTRATION (is_none live && nat_le g.site.capacity (fin.len g.live)) (by_step decider.Full (Some t.kind)) tt)))))
+      just-else g.rules g.asker action.Register (option_or (denial_of_scopes t) (option_or by_rules (option_or by_live (option_or by_template by_room)))) accepts
+      (just-or g.rules g.asker action.Register (denial_of_scopes t) (option_or by_rules (option_or by_live (option_or by_template by_room))) (just-test g.rules g.asker action.Register (length t.scopes == 0) (by_step decider.Scope (Some t.kind)) tt)
+      (just-or g.rules g.asker action.Register by_rules (option_or by_live (option_or by_template by_room)) (just-in g action.Register t.kind g.asker t.scopes)
+      (just-or g.rules g.asker action.Register by_live (option_or by_template by_room) (just-live h.flags.fresh t live)
+      (just-or g.rules g.asker action.Register by_template by_room (just-test g.rules g.asker action.Register (is_some (template_fault g.site.templates t.kind attrs)) (by_step decider.Template (Some t.kind)) tt)
+      (just-test g.rules g.asker action.Register (is_none live && nat_le g.site.capacity (fin.len g.live)) (by_step decider.Full (Some t.kind)) tt)))))
       tt
 
   abbrev IsJustlyRead : Result Particulars Judgement → Type 0
@@ -189,13 +190,13 @@ module _ (g : Grounds) where
 
   just-texts : (kind url : Option (List ℕ)) (attrs : Option Attributes) (scopes : Option (List (List ℕ))) → IsJustlyRead (particulars_of_texts g.site kind url attrs scopes)
   just-texts (Some kind) (Some url) (Some attrs) (Some scopes) = tt
-  just-texts (Some kind) (Some url) (Some attrs) None = just-denial g.rules g.asker REGISTRATION (by_step decider.Parse None) tt
-  just-texts (Some kind) (Some url) None scopes = just-denial g.rules g.asker REGISTRATION (by_step decider.Attributes (Some kind)) tt
-  just-texts (Some kind) None attrs scopes = just-denial g.rules g.asker REGISTRATION (by_step decider.Registration None) tt
-  just-texts None url attrs scopes = just-denial g.rules g.asker REGISTRATION (by_step decider.Registration None) tt
+  just-texts (Some kind) (Some url) (Some attrs) None = just-denial g.rules g.asker action.Register (by_step decider.Parse None) tt
+  just-texts (Some kind) (Some url) None scopes = just-denial g.rules g.asker action.Register (by_step decider.Attributes (Some kind)) tt
+  just-texts (Some kind) None attrs scopes = just-denial g.rules g.asker action.Register (by_step decider.Registration None) tt
+  just-texts None url attrs scopes = just-denial g.rules g.asker action.Register (by_step decider.Registration None) tt
 
   just-if : (b : Bool) (x : Result Particulars Judgement) → IsJustlyRead x → IsJustlyRead (cond b (Err (denial_by decider.Registration)) x)
-  just-if true x is = just-denial g.rules g.asker REGISTRATION (by_step decider.Registration None) tt
+  just-if true x is = just-denial g.rules g.asker action.Register (by_step decider.Registration None) tt
   just-if false x is = is
 
   just-reading : (h : Header) (r : Registration) (x : Result Particulars Judgement) → IsJustlyRead x → JustRegistered (judgement_of_reading g h r x)
@@ -212,18 +213,18 @@ module _ (g : Grounds) where
 
 module _ (g : Grounds) where
   abbrev JustWithdrawn : Judgement → Type 0
-  JustWithdrawn = IsJust g.rules g.asker WITHDRAWAL
+  JustWithdrawn = IsJust g.rules g.asker action.Withdraw
 
   just-by : (d : Decider) → IsStep d → JustWithdrawn (denial_by d)
-  just-by d step = just-denial g.rules g.asker WITHDRAWAL (by_step d None) step
+  just-by d step = just-denial g.rules g.asker action.Withdraw (by_step d None) step
 
-  just-kept : (o : Option Entry) → AreJust g.rules g.asker WITHDRAWAL (denial_of_kept g o)
+  just-kept : (o : Option Entry) → AreJust g.rules g.asker action.Withdraw (denial_of_kept g o)
   just-kept None = tt
-  just-kept (Some e) = just-in g WITHDRAWAL e.kind e.owner e.scopes
+  just-kept (Some e) = just-in g action.Withdraw e.kind e.owner e.scopes
 
   just-entries : (url : List ℕ) (scopes : List (List ℕ)) (first kept : Option Entry) → JustWithdrawn (judgement_of_entries g url scopes first kept)
   just-entries url scopes None kept = just-by decider.Scope tt
-  just-entries url scopes (Some f) kept = just-else g.rules g.asker WITHDRAWAL (denial_of_kept g kept) (Accepts (withdrawal_event g url scopes) (release g f)) (just-kept kept) tt
+  just-entries url scopes (Some f) kept = just-else g.rules g.asker action.Withdraw (denial_of_kept g kept) (Accepts (withdrawal_event g url scopes) (release g f)) (just-kept kept) tt
 
   just-url : (url : List ℕ) (scopes : List (List ℕ)) → JustWithdrawn (judgement_of_url g url scopes)
   just-url url scopes =
@@ -239,8 +240,8 @@ module _ (g : Grounds) where
       let by_template = denial_of_template g e.kind attrs in
       let accepts : Judgement = Accepts (removal_event g q tags) (release g e) in
       elim (texts_eq e.scopes scopes) as (λ b. JustWithdrawn (cond b (unwrap_or (option_or by_rules by_template) accepts) (denial_by decider.Scope))) [
-        | true ↦ just-else g.rules g.asker WITHDRAWAL (option_or by_rules by_template) accepts
-            (just-or g.rules g.asker WITHDRAWAL by_rules by_template (just-in g WITHDRAWAL e.kind e.owner e.scopes) (just-test g.rules g.asker WITHDRAWAL (is_some (template_fault g.site.templates e.kind attrs)) (by_step decider.Template (Some e.kind)) tt)) tt
+        | true ↦ just-else g.rules g.asker action.Withdraw (option_or by_rules by_template) accepts
+            (just-or g.rules g.asker action.Withdraw by_rules by_template (just-in g action.Withdraw e.kind e.owner e.scopes) (just-test g.rules g.asker action.Withdraw (is_some (template_fault g.site.templates e.kind attrs)) (by_step decider.Template (Some e.kind)) tt)) tt
         | false ↦ just-by decider.Scope tt
       ]
 
@@ -258,18 +259,22 @@ module _ (g : Grounds) where
   just-withdrawal language (Some url) None scopes = just-by decider.Parse tt
   just-withdrawal language None tags scopes = just-by decider.Parse tt
 
-just : (g : Grounds) (sent : Message) → IsJust g.rules g.asker (function_of sent) (judgement g sent)
-just g (message.Registration h r) = just-registration g h r
-just g (message.Withdrawal h w) = just-withdrawal g (key_of h.language) (result_ok (url_of w.entry.url)) (result_ok (tags_of w.tags)) (result_ok (scopes_of w.scopes))
-just g (message.ServiceRequest h q) = tt
-just g (message.ServiceReply h r) = tt
-just g (message.Acknowledgement h code) = tt
-just g (message.AttributeRequest h q) = tt
-just g (message.AttributeReply h r) = tt
-just g (message.DirectoryAdvert h a) = tt
-just g (message.TypeRequest h q) = tt
-just g (message.TypeReply h r) = tt
-just g (message.ServiceAdvert h a) = tt
+abbrev action_by : ℕ → Action
+action_by function = if function == REGISTRATION then action.Register else (if function == WITHDRAWAL then action.Withdraw else action.See)
+
+just : (g : Grounds) (head : Heading) (sent : Message) → function_of sent ≡ head.function → IsJust g.rules g.asker (action_of head) (judgement g sent)
+just g head (message.Registration h r) is = subst (λ (f : ℕ). IsJust g.rules g.asker (action_by f) (judgement g (message.Registration h r))) is (just-registration g h r)
+just g head (message.Withdrawal h w) is =
+    subst (λ (f : ℕ). IsJust g.rules g.asker (action_by f) (judgement g (message.Withdrawal h w))) is (just-withdrawal g (key_of h.language) (result_ok (url_of w.entry.url)) (result_ok (tags_of w.tags)) (result_ok (scopes_of w.scopes)))
+just g head (message.ServiceRequest h q) is = tt
+just g head (message.ServiceReply h r) is = tt
+just g head (message.Acknowledgement h code) is = tt
+just g head (message.AttributeRequest h q) is = tt
+just g head (message.AttributeReply h r) is = tt
+just g head (message.DirectoryAdvert h a) is = tt
+just g head (message.TypeRequest h q) is = tt
+just g head (message.TypeReply h r) is = tt
+just g head (message.ServiceAdvert h a) is = tt
 
 -- ---- the line
 
@@ -299,7 +304,7 @@ module _ (rs : SiteRules) (c : Call) (head : Heading) where
   kept-ok : (reply : List ℕ) (because : Because) → KeepsDenials (outcome reply OK because)
   kept-ok reply because code other is not_ok = let same : (OK, because) ≡ (code, other) = same_Some (OK, because) (code, other) is in absurd (not_ok (sym (ap (λ (p : ℕ × Because). p.0) same)))
 
-  module _ (code : ℕ) (because : Because) (coded : code ≡ code_by because.decider) (accounted : IsAccounted rs c.asker head.function because) where
+  module _ (code : ℕ) (because : Because) (coded : code ≡ code_by because.decider) (accounted : IsAccounted rs c.asker (action_of head) because) where
     denied : (function : ℕ) → answering_function c head ≡ Some function → code ≢ OK → IsDenial rs c head (code_outcome_as head code because function) code because
     denied function by not_ok = record {
       coded = coded;
@@ -327,7 +332,7 @@ module _ (rs : SiteRules) (c : Call) (head : Heading) where
 
   -- a step that is not a rule
   kept-step : answering_function c head ≡ reply_function_of head.function → (d : Decider) (kind : Option (List ℕ)) → IsStep d → KeepsDenials (code_outcome head (code_by d) (by_step d kind))
-  kept-step plain d kind step = kept-code (code_by d) (by_step d kind) refl (step_accounted rs c.asker head.function (by_step d kind) step) plain
+  kept-step plain d kind step = kept-code (code_by d) (by_step d kind) refl (step_accounted rs c.asker (action_of head) (by_step d kind) step) plain
 
   kept-fault : answering_function c head ≡ reply_function_of head.function → (e : WireFault) → KeepsDenials (fault_outcome head e)
   kept-fault plain fault.Version = kept-step plain decider.Version None tt
@@ -340,11 +345,11 @@ module _ (rs : SiteRules) (c : Call) (head : Heading) where
   kept-fault plain fault.TooLong = kept-silence
 
   kept-agents : answering_function c head ≡ Some DIRECTORY_ADVERT → (site : Site) (own : ℕ) (kind : List ℕ) (scopes : Option (List (List ℕ))) → KeepsDenials (agents_outcome site own head kind scopes)
-  kept-agents advert site own kind None = kept-as (code_by decider.Parse) (by_step decider.Parse None) refl (step_accounted rs c.asker head.function (by_step decider.Parse None) tt) DIRECTORY_ADVERT advert
+  kept-agents advert site own kind None = kept-as (code_by decider.Parse) (by_step decider.Parse None) refl (step_accounted rs c.asker (action_of head) (by_step decider.Parse None) tt) DIRECTORY_ADVERT advert
   kept-agents advert site own kind (Some scopes) =
       elim (is_agent_for site scopes) as (λ b. KeepsDenials (cond b (advert_outcome site own head kind) (advert_code head (code_by decider.Scope) (by_step decider.Scope (Some kind))))) [
         | true ↦ kept-ok (sent_of head OK false (plain_bytes (advert_of site own head))) (by_step decider.Nobody (Some kind))
-        | false ↦ kept-as (code_by decider.Scope) (by_step decider.Scope (Some kind)) refl (step_accounted rs c.asker head.function (by_step decider.Scope (Some kind)) tt) DIRECTORY_ADVERT advert
+        | false ↦ kept-as (code_by decider.Scope) (by_step decider.Scope (Some kind)) refl (step_accounted rs c.asker (action_of head) (by_step decider.Scope (Some kind)) tt) DIRECTORY_ADVERT advert
       ]
 
   kept-same : (r it : Outcome) → r ≡ it → KeepsDenials it → KeepsDenials r
@@ -353,7 +358,7 @@ module _ (rs : SiteRules) (c : Call) (head : Heading) where
   kept-cut : {A : Type 0} (listed : List A → ℕ → Message) (limit : ℕ) (because : Because) (items : List A) (r : Outcome) → IsCutReply listed limit head because items r → KeepsDenials r
   kept-cut listed limit because items r is = kept-same r (outcome (sent_of head OK (length items == 0) is.whole) OK because) is.sent (kept-ok (sent_of head OK (length items == 0) is.whole) because)
 
-  kept-judged : answering_function c head ≡ reply_function_of head.function → (v : Judgement) → IsJust rs c.asker head.function v → KeepsDenials (acknowledgement_of head v)
+  kept-judged : answering_function c head ≡ reply_function_of head.function → (v : Judgement) → IsJust rs c.asker (action_of head) v → KeepsDenials (acknowledgement_of head v)
   kept-judged plain (Accepts event because) is = kept-ok_by because (reply_function_of head.function)
   kept-judged plain Ignores is = kept-ok_by (by_step decider.Nobody None) (reply_function_of head.function)
   kept-judged plain Waits is = kept-silence
@@ -374,7 +379,7 @@ module _ (o : Opening) (h : History) (c : Call) (head : Heading) where
   kept-change plain sent r change function is =
       let v = is.1 in
       let g = grounds (standpoint_of o h c) v.live in
-      let here : IsJust g.rules g.asker head.function is.0 = subst (IsJust g.rules g.asker head.function) (sym v.is) (subst (λ f. IsJust g.rules g.asker f (judgement g sent)) function (just g sent)) in
+      let here : IsJust g.rules g.asker (action_of head) is.0 = subst (IsJust g.rules g.asker (action_of head)) (sym v.is) (just g head sent function) in
       kept-same (rules o.rules h) c head r (acknowledgement_of head is.0) is.2 (kept-judged (rules o.rules h) c head plain is.0 here)
 
   kept-within : IsPlain → (scopes : List (List ℕ)) (kind : Option (List ℕ)) (sense : Sense) (r : Outcome) (change : Option Event) → (IsAnswerTo o h c sense r change → KeepsDenialsHere r)

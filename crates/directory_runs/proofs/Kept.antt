@@ -7,7 +7,8 @@ use Rattle.std.proofs.lemmas.Bool.Decides.{nat_tests}
 use Rattle.registry_core.specs.declared.entry.Entry.{Entry as AnyEntry}
 use Rattle.directory_judge.specs.History.{History, Event, clock}
 use Rattle.directory_questions.specs.Answers.{is_change_of, IsAnswer, IsOpenTo}
-use Rattle.directory_questions.specs.Calls.{Opening, Call, AreBytes}
+use Rattle.directory_questions.specs.Bytes.{AreBytes}
+use Rattle.directory_questions.specs.Calls.{Opening, Call}
 use Rattle.directory_questions.specs.Verdicts.{IsLegal, history_with}
 use Rattle.directory_runs.specs.Runs.{Happening, Publish, Sweep, Reload, Entry, Look, Tell, Learn, Refusal, Reply, World, Run, IsRun, May, shown, happened, world}
 use Rattle.history_log.specs.Pasts.{IsPast, longer}

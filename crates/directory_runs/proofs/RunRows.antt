@@ -46,7 +46,8 @@ use Rattle.directory_judge.specs.declared.particulars.Particulars.{Particulars}
 use Rattle.directory_judge.specs.declared.reason.Because.{Because}
 use Rattle.directory_judge.specs.declared.reason.Decider.TheVariants as decider
 use Rattle.directory_questions.specs.Answers.{Changes, Lists, IsAnswer, IsAnswerTo, is_change_of, sense_of}
-use Rattle.directory_questions.specs.Calls.{AreBytes, Call, Opening, standpoint}
+use Rattle.directory_questions.specs.Bytes.{AreBytes}
+use Rattle.directory_questions.specs.Calls.{Call, Opening, standpoint}
 use Rattle.directory_questions.specs.Cuts.{services_with}
 use Rattle.directory_questions.specs.Items.{Answers, AreItems, IsItem, IsOpenNow}
 use Rattle.directory_questions.specs.Outcomes.{Outcome, acknowledgement_of, outcome, silence}

@@ -11,6 +11,7 @@ use Rattle.slp_wire.specs.Reading.{reading}
 use Rattle.slp_wire.specs.Spelling.{plain_bytes}
 use Rattle.attr_list.specs.Lists.{Attributes}
 use Rattle.access_rules.specs.Deciding.{SiteRules, deciding, deed}
+use Rattle.access_rules.specs.declared.rule.Action.{Action}
 use Rattle.directory_judge.specs.History.{Event, History}
 use Rattle.directory_judge.specs.Judgements.{code_by, decider_of}
 use Rattle.directory_judge.specs.Meaning.{rules}
@@ -54,14 +55,14 @@ HoldsExactly o h c (Changes head sent) reply = Unit {0}
 -- ---- a denial
 
 -- a rule that decided is the one that decides on what was asked, in the scope that is named, and denies it; by default no rule fits
-pub record IsRuledOut (rs : SiteRules) (asker function : ℕ) (because : Because) : Type 0 where
+pub record IsRuledOut (rs : SiteRules) (asker : ℕ) (action : Action) (because : Because) : Type 0 where
   pub kind : List ℕ
   pub registrant : ℕ
   pub scope : List ℕ
   pub of_kind : because.kind ≡ Some kind
   pub in_scope : because.scope ≡ Some scope
-  pub denied : (deciding rs (deed asker (action_of function) kind registrant) scope).allow ≡ false
-  pub by : because.decider ≡ decider_of (deciding rs (deed asker (action_of function) kind registrant) scope)
+  pub denied : (deciding rs (deed asker action kind registrant) scope).allow ≡ false
+  pub by : because.decider ≡ decider_of (deciding rs (deed asker action kind registrant) scope)
 
 -- who asks for directory agents, in a message that is read (RFC 2608, section 8.1)
 abbrev pub is_for_agents : Question → Bool
@@ -85,8 +86,8 @@ pub record IsDenial (rs : SiteRules) (c : Call) (head : Heading) (r : Outcome) (
   pub coded : code ≡ code_by because.decider
   pub carried : (function : ℕ) × (answering_function c head ≡ Some function) × (r.reply ≡ sent_of head code false (refusal_bytes function code head.xid head.language))
   pub line : (rest : List ℕ) × (line_of rs c.asker (Some head) r ≡ codes "# deny code=" ++ decimal code ++ codes " by=" ++ decider_text (rule_named rs because.decider) because.decider ++ codes " action=" ++ rest)
-  pub by_rule : (index : ℕ) → because.decider ≡ decider.Rule index → IsRuledOut rs c.asker head.function because
-  pub by_default : because.decider ≡ decider.Default → IsRuledOut rs c.asker head.function because
+  pub by_rule : (index : ℕ) → because.decider ≡ decider.Rule index → IsRuledOut rs c.asker (action_of head) because
+  pub by_default : because.decider ≡ decider.Default → IsRuledOut rs c.asker (action_of head) because
 
 -- every denial among what may come of bytes is one
 abbrev pub DenialsAreKept : SiteRules → Call → Outcome → Type 0

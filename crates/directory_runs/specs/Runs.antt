@@ -3,7 +3,8 @@ use Rattle.std.specs.Prelude.{◌≡◌, ℕ, true, false, ◌==◌, if◌then�
 use Rattle.access_rules.specs.Deciding.{SiteRules}
 use Rattle.directory_judge.specs.History.{History, Event, Sweep as Swept, Reload as Reloaded, now}
 use Rattle.directory_questions.specs.Answers.{is_change_of, IsAnswer}
-use Rattle.directory_questions.specs.Calls.{Opening, Call, AreBytes}
+use Rattle.directory_questions.specs.Bytes.{AreBytes}
+use Rattle.directory_questions.specs.Calls.{Opening, Call}
 use Rattle.directory_questions.specs.Outcomes.{Outcome}
 use Rattle.directory_questions.specs.Verdicts.{history_with}
 use Rattle.history_log.specs.Pasts.{longer}

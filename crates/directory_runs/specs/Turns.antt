@@ -5,7 +5,8 @@ use Rattle.access_rules.specs.Deciding.{SiteRules}
 use Rattle.directory_judge.specs.History.{Event, History, now}
 use Rattle.directory_judge.specs.Meaning.{rules}
 use Rattle.directory_questions.specs.Answers.{is_change_of}
-use Rattle.directory_questions.specs.Calls.{Opening, Call, AreBytes}
+use Rattle.directory_questions.specs.Bytes.{AreBytes}
+use Rattle.directory_questions.specs.Calls.{Opening, Call}
 use Rattle.directory_questions.specs.Outcomes.{Outcome}
 use Rattle.slp_answer.specs.Answers.{Replies, Tells}
 use Rattle.slp_answer.specs.declared.answer.Sent.{Sent}

@@ -181,6 +181,10 @@ mapped-from f (y ∷ ys) t has = elim (member_cases (f y) t (map f ys) has) [
   | inr rest ↦ let k = mapped-from f ys t rest in (k.0, there y k.0 ys k.1, k.2)
 ]
 
+pub mapped-empty : {A B : Type 0} (f : A → B) (xs : List A) → map f xs ≡ [] → xs ≡ []
+mapped-empty f [] is = refl
+mapped-empty f (x ∷ xs) is = cc
+
 -- ---- what is seen of a listing is what is open of it
 
 -- the test looks at no attributes

@@ -1,8 +1,8 @@
 -- Entries, and what is shown of them.
-use Rattle.std.proofs.Common.{◌≡◌, ◌<◌, ◌+◌, ℕ, Bool, true, false, cond, not, List, [], ◌∷◌, ◌++◌, length, get_or, map, Option, Some, None, refl, sym, ap, subst, ◌∙◌}
-use Rattle.std.specs.Prelude.{◌&&◌, ◌||◌, filter, flat_map, is_some, slice_get, Contains, IsTrue, MatchOption}
-use Rattle.std.proofs.lemmas.Bool.{and_parts}
+use Rattle.std.proofs.Common.{◌≡◌, ◌<◌, ◌+◌, ℕ, Bool, true, false, cond, not, List, [], ◌∷◌, ◌++◌, length, get_or, map, Option, Some, None, refl, sym, ap, subst, ◌∙◌, arith, inl, inr}
+use Rattle.std.specs.Prelude.{◌&&◌, ◌||◌, filter, flat_map, is_some, slice_get, Contains, IfSome, IsTrue, MatchOption}
 use Rattle.std.proofs.lemmas.List.{nil_from_length}
+use Rattle.std.proofs.lemmas.List.Elements.{Contains-append_cases}
 use Rattle.std.proofs.lemmas.Option.{get_or_from_slice_get, slice_get-get_or}
 use Rattle.std.specs.FinMap as fin
 use Rattle.std.specs.List.{list_any}
@@ -10,6 +10,7 @@ use Rattle.attr_list.specs.Lists.{Attributes, attributes_of}
 use Rattle.attr_list.specs.Maps.{elements_in, joined_attributes, kept_attributes, selected_attributes}
 use Rattle.attr_list.proofs.Combined.{same_attributes}
 use Rattle.attr_list.proofs.KeptAttributes.{get-kept, joined-kept, kept-all, kept-twice}
+use Rattle.slp_text.proofs.KeySets.{member_cases}
 use Rattle.slp_text.specs.Tags.{Part, selects}
 use Rattle.slp_text.specs.Words.{bytes_eq, IsAscending}
 use Rattle.access_rules.specs.Deciding.{Deed, deed, hides_in, is_hidden, is_hidden_by, is_hidden_from, some_hides}
@@ -21,11 +22,12 @@ use Rattle.directory_questions.specs.Items.{AreInOrder, AreJoined, IsElsewhere}
 use Rattle.directory_questions.specs.Sights.{is_left_in, is_open_in, is_shown}
 use Rattle.directory_questions.specs.declared.query.AttrQuery.{AttrQuery}
 use Rattle.directory_state.specs.Deadlines.{UrlDeadline, with_deadline}
-use Rattle.directory_state.specs.Searches.{deadlines_with, is_allowed, is_seen, open_scopes, seen_of, shown_elements, shows_in, IsIn, IsInAnd, IsSight, ShowsAll}
+use Rattle.directory_state.specs.Searches.{deadlines_with, is_allowed, is_seen, open_scopes, seen_of, shown_elements, shows_in, AreSeenBy, IsFirst, IsIn, IsInAnd, IsSeenFrom, IsSight, ShowsAll}
 use Rattle.directory_state.specs.declared.shown.Sight.{Sight}
+use Rattle.directory_state.specs.declared.viewer.Seen.{Seen}
 use Rattle.directory_state.specs.declared.viewer.Viewer.{Viewer}
 use Rattle.directory_state.proofs.OpenEntries.{any-none, any-some, mapped-from, mapped-has}
-use Rattle.directory_state.proofs.SeenUrls.{drop_here, no_other}
+use Rattle.directory_state.proofs.SeenUrls.{drop_here}
 
 -- ---- scope by scope
 
@@ -55,17 +57,29 @@ module _ (v : Viewer) (e : Entry) where
   pub none-left : (tag : List ℕ) (place : ℕ) → place < length v.asked → shows_in v e tag (get_or v.asked place []) ≡ false → list_any (stays tag) (open_scopes v e place) ≡ list_any (stays tag) (open_scopes v e (place + 1))
   none-left tag place within is = turn tag place false within is
 
--- what was found to be open of the scopes, or that nothing is
-abbrev pub IsNext : Viewer → Entry → Option ℕ → Type 0
-IsNext v e o = MatchOption o (open_scopes v e 0 ≡ []) (λ place. open_scopes v e 0 ≡ get_or v.asked place [] ∷ open_scopes v e (place + 1))
+-- where an entry that lives is found to be open first, it is seen; where nowhere, it is not
+pub seen-from : (v : Viewer) (e : Entry) (o : Option ℕ) → outlives v.moment e ≡ true → MatchOption o (open_scopes v e 0 ≡ []) (λ place. open_scopes v e 0 ≡ get_or v.asked place [] ∷ open_scopes v e (place + 1))
+    → IfSome o (λ place. place < length v.asked) → MatchOption o (is_seen v e ≡ false) (IsSeenFrom v e)
+seen-from v e None lives none _ = ap (λ b. b && is_allowed v.rules.now v.asker v.asked e) lives ∙ any-none (is_open_in v.rules.now v.asker e) v.asked none
+seen-from v e (Some place) lives first within = (
+  ap (λ b. b && is_allowed v.rules.now v.asker v.asked e) lives ∙ any-some (is_open_in v.rules.now v.asker e) v.asked (get_or v.asked place []) (open_scopes v e (place + 1)) first,
+  record { within = within; first = first },
+)
 
-pub open-somewhere : (v : Viewer) (e : Entry) (o : Option ℕ) → IsNext v e o → is_some o ≡ is_allowed v.rules.now v.asker v.asked e
-open-somewhere v e None is = sym (any-none (is_open_in v.rules.now v.asker e) v.asked is)
-open-somewhere v e (Some place) is = sym (any-some (is_open_in v.rules.now v.asker e) v.asked (get_or v.asked place []) (open_scopes v e (place + 1)) is)
+-- it is seen where such a scope is found
+pub seen-some : (v : Viewer) (e : Entry) (o : Option ℕ) → MatchOption o (is_seen v e ≡ false) (IsSeenFrom v e) → is_seen v e ≡ is_some o
+seen-some v e None unseen = unseen
+seen-some v e (Some place) seen = seen.0
 
--- what is seen is open in some scope
-pub not-open : {A : Type 0} (v : Viewer) (e : Entry) → IsTrue (is_seen v e) → open_scopes v e 0 ≡ [] → A
-not-open v e seen none = absurd (no_other (is_allowed v.rules.now v.asker v.asked e) (and_parts (outlives v.moment e) (is_allowed v.rules.now v.asker v.asked e) seen).1 (any-none (is_open_in v.rules.now v.asker e) v.asked none))
+-- one more is found that is seen
+pub seen-push : (v : Viewer) (ss : List Seen) (s : Seen) → AreSeenBy v ss → IsSeenFrom v s.entry.now s.first → AreSeenBy v (ss ++ s ∷ [])
+seen-push v ss s before is t has = elim (Contains-append_cases ss (s ∷ []) t has) [
+  | inl old ↦ before t old
+  | inr new ↦ elim (member_cases s t [] new) [
+    | inl same ↦ subst (λ (x : Seen). IsSeenFrom v x.entry.now x.first) same is
+    | inr none ↦ absurd (omega (arith, none.1))
+  ]
+]
 
 -- what tables hide of an entry in a scope is what is hidden there
 abbrev pub HidesAs : Viewer → Entry → Option FittingHides → Deed → List ℕ → Type 0
@@ -102,16 +116,12 @@ pub all-whole : (v : Viewer) (e : Entry) → ShowsAll v e → (seen_of v e).attr
 all-whole v e all = kept-same e.attrs (is_shown v.rules.now v.asker v.asked e) (λ tag. true) all ∙ kept-all e.attrs
 
 -- it does so where no tag is hidden in the first scope in which it is open
-pub left-all : (v : Viewer) (e : Entry) (s : List ℕ) (rest : List (List ℕ)) → open_scopes v e 0 ≡ s ∷ rest → ((tag : List ℕ) → is_left_in v.rules.now v.asker e tag s ≡ true) → ShowsAll v e
-left-all v e s rest opened left = λ tag. ap (list_any (is_left_in v.rules.now v.asker e tag)) opened ∙ ap (λ b. b || list_any (is_left_in v.rules.now v.asker e tag) rest) (left tag)
+pub left-all : (v : Viewer) (e : Entry) (place : ℕ) → IsFirst v e place → ((tag : List ℕ) → is_left_in v.rules.now v.asker e tag (get_or v.asked place []) ≡ true) → ShowsAll v e
+left-all v e place opened left = λ tag. ap (list_any (is_left_in v.rules.now v.asker e tag)) opened.first ∙ ap (λ b. b || list_any (is_left_in v.rules.now v.asker e tag) (open_scopes v e (place + 1))) (left tag)
 
--- where there are no hide tables, what is seen is shown whole
-pub seen-whole : (v : Viewer) (e : Entry) → hides_in v.rules.now ≡ [] → IsTrue (is_seen v e) → (seen_of v e).attrs ≡ e.attrs
-seen-whole v e none seen =
-    elim (open_scopes v e 0) as (λ ss. open_scopes v e 0 ≡ ss → (seen_of v e).attrs ≡ e.attrs) [
-      | [] ↦ λ is. not-open v e seen is
-      | s ∷ rest ↦ λ is. all-whole v e (left-all v e s rest is (λ tag. ap (λ hs. not (some_hides hs (deed v.asker See e.kind e.owner) s tag)) none))
-    ] refl
+-- where there are no hide tables, what is open is shown whole
+pub open-whole : (v : Viewer) (e : Entry) (place : ℕ) → hides_in v.rules.now ≡ [] → IsFirst v e place → (seen_of v e).attrs ≡ e.attrs
+open-whole v e place none opened = all-whole v e (left-all v e place opened (λ tag. ap (λ hs. not (some_hides hs (deed v.asker See e.kind e.owner) (get_or v.asked place []) tag)) none))
 
 -- ---- what is selected of it
 

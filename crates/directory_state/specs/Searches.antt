@@ -21,6 +21,7 @@ use Rattle.directory_state.specs.declared.search.Room.{Room}
 use Rattle.directory_state.specs.declared.search.Search.{Search}
 use Rattle.directory_state.specs.declared.search.Spoken.{Spoken}
 use Rattle.directory_state.specs.declared.shown.Sight.{Sight}
+use Rattle.directory_state.specs.declared.viewer.Seen.{Seen}
 use Rattle.directory_state.specs.declared.viewer.SeenEntries.{SeenEntries}
 use Rattle.directory_state.specs.declared.viewer.Viewer.{Viewer}
 use Rattle.directory_state.specs.declared.search.Spoken.TheVariants.{Nothing, Others, Asked}
@@ -55,6 +56,10 @@ shows_in v e tag s = is_open_in v.rules.now v.asker e s && is_left_in v.rules.no
 pub record IsFirst (v : Viewer) (e : Entry) (place : ℕ) : Type 0 where
   pub within : place < length v.asked
   pub first : open_scopes v e 0 ≡ get_or v.asked place [] ∷ open_scopes v e (place + 1)
+
+-- it is seen, and open first in the scope at this place
+abbrev pub IsSeenFrom : Viewer → Entry → ℕ → Type 0
+IsSeenFrom v e place = IsTrue (is_seen v e) × IsFirst v e place
 
 -- it says in which scope an entry is open first, and what is hidden there
 pub record IsSight (v : Viewer) (e : Entry) (s : Sight) : Type 0 where
@@ -147,9 +152,17 @@ IsIn es e = Contains es e
 abbrev pub IsInAnd : List Entry → (Entry → Bool) → Entry → Type 0
 IsInAnd es p e = Contains es e × IsTrue (p e)
 
--- each of them is seen
-abbrev pub AreSeenBy : Viewer → List Entry → Type 0
-AreSeenBy v es = (e : Entry) → Contains es e → IsTrue (is_seen v e)
+-- the entries alone
+abbrev pub entries_in : List Seen → List Entry
+entries_in ss = map (λ s. s.entry.now) ss
+
+-- each of them is seen, and open first where it is said
+abbrev pub AreSeenBy : Viewer → List Seen → Type 0
+AreSeenBy v ss = (s : Seen) → Contains ss s → IsSeenFrom v s.entry.now s.first
+
+-- each of the first is one of the others
+abbrev pub AreWithin : List Seen → List Seen → Type 0
+AreWithin kept found = (s : Seen) → Contains kept s → Contains found s
 
 -- they are those of a map that pass a test and are seen
 pub record AreFoundIn (p : Entry → Bool) (v : Viewer) (held : Entries) (es : List Entry) : Type 0 where
@@ -159,7 +172,7 @@ pub record AreFoundIn (p : Entry → Bool) (v : Viewer) (held : Entries) (es : L
 
 -- what is seen of entries that are found
 abbrev pub entries_seen : SeenEntries → List Entry
-entries_seen f = map (seen_of f.viewer) (entries_lent (vec_items f.entries))
+entries_seen f = map (seen_of f.viewer) (entries_in (vec_items f.entries))
 
 -- no two of them are of one pair
 abbrev pub HasOneOfEachPair : List Entry → Type 0

@@ -11,7 +11,7 @@ ghost use Rattle.registry_core.specs.declared.entry.Entry as spec;
 ghost use Rattle.directory_questions.specs.Items.{AreAttributesOf, AreServices, AreTypesOf, IsAskedAbout, IsElsewhere, IsForeign, IsOpenNow};
 ghost use Rattle.directory_state.specs.Viewers.{IsViewerOf};
 ghost use Rattle.directory_state.specs.Deadlines.{UrlDeadline};
-ghost use Rattle.directory_state.specs.Searches.{item_at, cut_in, entries_lent, entries_seen, AreSeenBy, HasOneOfEachPair, IsIn, IsSmall, IsKept};
+ghost use Rattle.directory_state.specs.Searches.{item_at, cut_in, entries_in, entries_lent, entries_seen, AreSeenBy, HasOneOfEachPair, IsIn, IsSmall, IsKept};
 ghost use Rattle.directory_state.specs.Fronts.{IsFront, items_in, size_in};
 ghost use Rattle.directory_state.specs.Folds.{Fold, StandsFor};
 ghost use Rattle.directory_state.specs.State.{State, opening_state, state_changed, state_made, swept};
@@ -274,8 +274,8 @@ impl<R: Registry> Directory<R> {
     ) -> Result<SeenEntries<'_>, QueryFault>
         ensures scope { IsErrOf result QueryFault.Scope ↔ (list_any (supports self.now.site) query.now.scopes ≡ false) }
         ensures spoken { IsErrOf result QueryFault.Language → ⊥ }
-        ensures once { IfOk result (λ f. HasOneOfEachPair (entries_lent f.entries.items)) }
-        ensures seen { IfOk result (λ f. AreSeenBy f.viewer (entries_lent f.entries.items)) }
+        ensures once { IfOk result (λ f. HasOneOfEachPair (entries_in f.entries.items)) }
+        ensures seen { IfOk result (λ f. AreSeenBy f.viewer f.entries.items) }
         ensures found { (o : Opening) (h : History) → Fold o h self.now
             → IfOk result (λ f. (e : spec.Entry) → IsIn (entries_seen f) e ↔ IsAskedAbout (IsOpenNow (standpoint o h moment asker) query.now.scopes) query.now e) }
     {

@@ -1,13 +1,13 @@
 ghost use Rattle.std.specs.Prelude.{◌≡◌, ◌≢◌, ◌+◌, ◌-◌, ◌<◌, ◌↔◌, [], ◌∷◌, ℕ, List, length, map, filter, take, IfOk, IfErr, IsErrOf, IfSome, IfNone, MatchOption, IsTrue, Some, is_some, MatchResult};
 ghost use Rattle.registry_core.specs.Entries.{is_kind, IsListing};
 ghost use Rattle.directory_state.specs.Deadlines.{UrlDeadline, with_deadline, total_cost};
-ghost use Rattle.directory_state.specs.Searches.{deadlines_with, is_found, is_seen, joined, spoken_of, item_at, cost_in, bytes_in, cut_in, seen_of, shortlist_with, IsBound, IsCounted, IsSmall, IsKept};
+ghost use Rattle.directory_state.specs.Searches.{deadlines_with, is_found, is_seen, joined, spoken_of, item_at, cost_in, bytes_in, cut_in, seen_of, shortlist_with, IsBound, IsCounted, IsFirst, IsSmall, IsKept};
 ghost use Rattle.directory_questions.specs.Items.{is_wanted};
 ghost use Rattle.directory_state.specs.Fronts.{IsFront, items_in};
 ghost use Rattle.directory_state.specs.declared.search.Spoken.TheVariants as spoken_is;
 
 use crate::deadlines::Deadlines;
-use crate::viewer::Viewer;
+use crate::viewer::{Seen, Viewer};
 use directory_questions::{QueryFault, ServiceQuery};
 use registry_core::{Entry, Registry};
 use service_url::Url;
@@ -44,13 +44,13 @@ impl Search<'_> {
     // Whether an entry that is seen is asked for: all are, where there is no filter; else those in the language, on what is
     // shown of which the filter holds.
     #[inline(always)]
-    fn wants(&self, entry: &Entry) -> bool
-        requires { IsTrue (is_seen self.now.viewer entry.now) }
-        ensures { result ≡ is_wanted self.now.query.now (seen_of self.now.viewer entry.now) }
+    fn wants(&self, seen: Seen<'_>) -> bool
+        requires { IsFirst self.now.viewer seen.entry.now seen.first }
+        ensures { result ≡ is_wanted self.now.query.now (seen_of self.now.viewer seen.entry.entry.now) }
     {
         match &self.query.filter {
             Some(filter) => {
-                entry.language == self.query.language && self.viewer.holds(filter, entry)
+                seen.entry.language == self.query.language && self.viewer.holds(filter, seen)
             }
             None => true,
         }
@@ -175,10 +175,10 @@ impl<'a> Shortlist<'a> {
         ensures found { IfOk result (λ _. self.new.latest ≡ cut_in self.old.room (deadlines_with (filter (is_found question.now) (entry.now ∷ [])) self.old.latest)) }
         ensures spoken { IfOk result (λ s. self.new.latest ≡ [] → s ≡ joined before (spoken_of question.now.query.now (filter (is_seen question.now.viewer) (entry.now ∷ [])))) }
     {
-        if !question.viewer.sees(entry) {
+        let Some(first) = question.viewer.sees(entry) else {
             return Ok(before);
-        }
-        if question.wants(entry) {
+        };
+        if question.wants(Seen { entry, first }) {
             self.put(&entry.url, entry.deadline)?;
             self.shrink();
             return Ok(before);

@@ -1,12 +1,12 @@
 //! What is shown of an entry, and to whom.
-ghost use Rattle.std.specs.Prelude.{◌≡◌, ◌+◌, ◌<◌, ◌++◌, flat_map, length, map, IfOk, IsTrue, MatchOption};
+ghost use Rattle.std.specs.Prelude.{◌≡◌, ◌+◌, ◌<◌, ◌++◌, flat_map, length, map, IfOk, MatchOption};
 ghost use Rattle.std.specs.List.{list_any};
 ghost use Rattle.attr_list.specs.Lists.{attributes_of};
 ghost use Rattle.search_filter.specs.Filters.{holds};
 ghost use Rattle.directory_questions.specs.Sights.{is_left_in, is_shown};
-ghost use Rattle.directory_state.specs.Searches.{entries_lent, is_seen, open_scopes, seen_of, shown_elements, shows_in, AreSeenBy, IsSight, ShowsAll};
+ghost use Rattle.directory_state.specs.Searches.{entries_in, open_scopes, seen_of, shown_elements, shows_in, AreSeenBy, IsFirst, IsSight, ShowsAll};
 
-use crate::viewer::Viewer;
+use crate::viewer::{Seen, Viewer};
 use access_rules::FittingHides;
 use attr_list::Attrs;
 use attr_union::{AttrUnion, Gathering};
@@ -24,14 +24,15 @@ pub struct Sight<'a> {
 }
 
 impl Viewer<'_> {
-    // How an entry is seen. `None` is that all of it is shown, since no hide table fits in the first scope in which it is open.
-    fn sight(&self, entry: &Entry) -> Option<Sight<'_>>
-        ensures { MatchOption result (IsTrue (is_seen self.now entry.now) → ShowsAll self.now entry.now) (IsSight self.now entry.now) }
+    // How an entry is seen that is open first in the scope at this place. `None` is that all of it is shown, since no hide table fits there.
+    fn sight(&self, seen: Seen<'_>) -> Option<Sight<'_>>
+        requires { IsFirst self.now seen.entry.now seen.first }
+        ensures { MatchOption result (ShowsAll self.now seen.entry.entry.now) (IsSight self.now seen.entry.entry.now) }
     {
-        let first = self.next_open(entry, 0)?;
+        let first = seen.first;
         let tables = self
             .rules
-            .fitting_hides(&self.seeing(entry), self.asked.at(first))?;
+            .fitting_hides(&self.seeing(seen.entry), self.asked.at(first))?;
         Some(Sight { first, tables })
     }
 
@@ -72,25 +73,26 @@ impl Viewer<'_> {
     /// Whether a filter holds on what is shown of an entry that is seen. Where a site hides nothing, no tag is asked about. Takes no
     /// memory.
     #[inline(always)]
-    pub fn holds(&self, filter: &Filter, entry: &Entry) -> bool
-        requires { IsTrue (is_seen self.now entry.now) }
-        ensures { result ≡ holds filter.now (seen_of self.now entry.now).attrs }
+    pub fn holds(&self, filter: &Filter, seen: Seen<'_>) -> bool
+        requires { IsFirst self.now seen.entry.now seen.first }
+        ensures { result ≡ holds filter.now (seen_of self.now seen.entry.entry.now).attrs }
     {
         if self.rules.hides() == 0 {
-            return filter.holds(&entry.attrs);
+            return filter.holds(&seen.entry.attrs);
         }
-        self.holds_by_sight(filter, entry)
+        self.holds_by_sight(filter, seen)
     }
 
     // The same, where a site hides something. A call of its own in the machine's code, so that the walk over entries keeps its
     // registers.
     #[cold]
     #[inline(never)]
-    fn holds_by_sight(&self, filter: &Filter, entry: &Entry) -> bool
-        requires { IsTrue (is_seen self.now entry.now) }
-        ensures { result ≡ holds filter.now (seen_of self.now entry.now).attrs }
+    fn holds_by_sight(&self, filter: &Filter, seen: Seen<'_>) -> bool
+        requires { IsFirst self.now seen.entry.now seen.first }
+        ensures { result ≡ holds filter.now (seen_of self.now seen.entry.entry.now).attrs }
     {
-        match self.sight(entry) {
+        let entry = seen.entry;
+        match self.sight(seen) {
             Some(sight) => filter.holds_where(
                 &entry.attrs,
                 &|tag: &Key| { self.shows(entry, &sight, tag) },
@@ -102,16 +104,17 @@ impl Viewer<'_> {
     // Adds what is shown of the attributes of an entry, and is selected.
     fn add_shown<'a>(
         &self,
-        entry: &'a Entry,
+        seen: Seen<'a>,
         tags: &TagList,
         gathering: &mut Gathering<'a>,
     ) -> Result<(), NoMemory>
-        ensures { IsTrue (is_seen self.now entry.now) → IfOk result (λ _. gathering.new ≡ gathering.old ++ shown_elements self.now tags.now entry.now) }
+        requires { IsFirst self.now seen.entry.now seen.first }
+        ensures { IfOk result (λ _. gathering.new ≡ gathering.old ++ shown_elements self.now tags.now seen.entry.entry.now) }
     {
         if self.rules.hides() == 0 {
-            return gathering.add(&entry.attrs, &|tag: &Key| tags.selects(tag));
+            return gathering.add(&seen.entry.attrs, &|tag: &Key| tags.selects(tag));
         }
-        self.add_by_sight(entry, tags, gathering)
+        self.add_by_sight(seen, tags, gathering)
     }
 
     // The same, where a site hides something: a call of its own as well.
@@ -119,13 +122,15 @@ impl Viewer<'_> {
     #[inline(never)]
     fn add_by_sight<'a>(
         &self,
-        entry: &'a Entry,
+        seen: Seen<'a>,
         tags: &TagList,
         gathering: &mut Gathering<'a>,
     ) -> Result<(), NoMemory>
-        ensures { IsTrue (is_seen self.now entry.now) → IfOk result (λ _. gathering.new ≡ gathering.old ++ shown_elements self.now tags.now entry.now) }
+        requires { IsFirst self.now seen.entry.now seen.first }
+        ensures { IfOk result (λ _. gathering.new ≡ gathering.old ++ shown_elements self.now tags.now seen.entry.entry.now) }
     {
-        match self.sight(entry) {
+        let entry = seen.entry;
+        match self.sight(seen) {
             Some(sight) => gathering.add(
                 &entry.attrs,
                 &|tag: &Key| { tags.selects(tag) && self.shows(entry, &sight, tag) },
@@ -138,23 +143,26 @@ impl Viewer<'_> {
     pub fn join_shown<'a>(
         &self,
         alloc: Global,
-        entries: &[&'a Entry],
+        entries: &[Seen<'a>],
         tags: &TagList,
     ) -> Result<AttrUnion<'a>, NoMemory>
-        ensures { AreSeenBy self.now (entries_lent entries.now) → IfOk result (λ a. a ≡ attributes_of (flat_map (shown_elements self.now tags.now) (entries_lent entries.now))) }
+        requires { AreSeenBy self.now entries.now }
+        ensures { IfOk result (λ a. a ≡ attributes_of (flat_map (shown_elements self.now tags.now) (entries_in entries.now))) }
     {
         let mut gathering = Gathering::new(alloc);
-        for entry in entries {
-            self.add_shown(entry, tags, &mut gathering)?;
+        for seen in entries {
+            self.add_shown(*seen, tags, &mut gathering)?;
         }
         gathering.join(alloc)
     }
 
     // What is shown of the attributes of an entry, copied.
-    fn copy_shown(&self, alloc: Global, entry: &Entry) -> Result<Attrs, NoMemory>
-        ensures { IsTrue (is_seen self.now entry.now) → IfOk result (λ a. a ≡ (seen_of self.now entry.now).attrs) }
+    fn copy_shown(&self, alloc: Global, seen: Seen<'_>) -> Result<Attrs, NoMemory>
+        requires { IsFirst self.now seen.entry.now seen.first }
+        ensures { IfOk result (λ a. a ≡ (seen_of self.now seen.entry.entry.now).attrs) }
     {
-        let Some(sight) = self.sight(entry) else {
+        let entry = seen.entry;
+        let Some(sight) = self.sight(seen) else {
             return entry.attrs.copy(alloc);
         };
         match entry
@@ -167,12 +175,17 @@ impl Viewer<'_> {
     }
 
     /// What is shown of entries that are seen, copied.
-    pub fn copies_of_shown(&self, alloc: Global, entries: &[&Entry]) -> Result<Vec<Attrs>, NoMemory>
-        ensures { AreSeenBy self.now (entries_lent entries.now) → IfOk result (λ v. v.items ≡ map (λ e. (seen_of self.now e).attrs) (entries_lent entries.now)) }
+    pub fn copies_of_shown(
+        &self,
+        alloc: Global,
+        entries: &[Seen<'_>],
+    ) -> Result<Vec<Attrs>, NoMemory>
+        requires { AreSeenBy self.now entries.now }
+        ensures { IfOk result (λ v. v.items ≡ map (λ e. (seen_of self.now e).attrs) (entries_in entries.now)) }
     {
         let mut copies = Vec::with_capacity(alloc, entries.len())?;
-        for entry in entries {
-            copies.push(self.copy_shown(alloc, entry)?)?;
+        for seen in entries {
+            copies.push(self.copy_shown(alloc, *seen)?)?;
         }
         Ok(copies)
     }

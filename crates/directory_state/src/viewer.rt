@@ -1,12 +1,12 @@
 //! What is open to who asks.
 ghost use Rattle.std.specs.declared.cmp.Ordering.TheVariants.{Equal, Less};
-ghost use Rattle.std.specs.Prelude.{◌≡◌, ◌+◌, ◌<◌, ◌≤◌, ◌∷◌, [], ◌++◌, filter, get_or, length, IfOk, Contains, IfSome, IsTrue, MatchOption, None, Some};
+ghost use Rattle.std.specs.Prelude.{◌≡◌, ◌+◌, ◌<◌, ◌≤◌, ◌∷◌, [], ◌++◌, false, filter, get_or, length, IfOk, Contains, IfSome, IsTrue, MatchOption, None, Some};
 ghost use Rattle.access_rules.specs.Deciding.{deed, deed_in};
 ghost use Rattle.access_rules.specs.declared.rule.Action.TheVariants.{See};
 ghost use Rattle.registry_core.specs.declared.entry.Entry as spec;
 ghost use Rattle.registry_core.specs.Entries.{is_kind, is_of_url, IsListing, Passes};
 ghost use Rattle.directory_questions.specs.Sights.{is_open_in};
-ghost use Rattle.directory_state.specs.Searches.{entries_lent, is_seen, open_scopes, AreByKind, AreFoundIn, HasEachKind};
+ghost use Rattle.directory_state.specs.Searches.{entries_in, entries_lent, is_seen, open_scopes, AreByKind, AreFoundIn, AreSeenBy, HasEachKind, IsSeenFrom};
 ghost use Rattle.directory_questions.specs.Items.{is_target};
 
 use crate::asked::Asked;
@@ -27,11 +27,18 @@ pub struct Viewer<'q> {
     pub asked: Asked<'q>,
 }
 
+/// An entry that is seen, and the place of the first scope in which it is open, of those that are asked for.
+#[derive(Clone, Copy)]
+pub struct Seen<'a> {
+    pub entry: &'a Entry,
+    pub first: usize,
+}
+
 /// Entries that are open to who asks, and what shows what of them.
 #[derive(Drop)]
 pub struct SeenEntries<'a> {
     pub viewer: Viewer<'a>,
-    pub entries: Vec<&'a Entry>,
+    pub entries: Vec<Seen<'a>>,
 }
 
 /// Memory is taken for so many types at once.
@@ -122,16 +129,16 @@ impl Viewer<'_> {
         None
     }
 
-    /// Whether an entry is seen: it is live, and open to the asker in one of the scopes that are asked for. Each of these is asked once,
-    /// up to the first in which it is open. Takes no memory.
+    /// The place of the first scope in which an entry is open, of those that are asked for, where it is seen: it is live, and open to the
+    /// asker in one of them. Each of these is asked once, up to that one. Takes no memory.
     #[inline(always)]
-    pub fn sees(&self, entry: &Entry) -> bool
-        ensures { result ≡ is_seen self.now entry.now }
+    pub fn sees(&self, entry: &Entry) -> Option<usize>
+        ensures { MatchOption result (is_seen self.now entry.now ≡ false) (IsSeenFrom self.now entry.now) }
     {
         if entry.deadline <= self.moment {
-            return false;
+            return None;
         }
-        self.next_open(entry, 0).is_some()
+        self.next_open(entry, 0)
     }
 
     /// What is open of the types that one covers.
@@ -140,15 +147,16 @@ impl Viewer<'_> {
         alloc: Global,
         registry: &'a R,
         kind: &ServiceType,
-    ) -> Result<Vec<&'a Entry>, NoMemory>
-        ensures found { IfOk result (λ v. entries_lent v.items ≡ filter (is_seen self.now) (R.rest_of_kind registry.now (Some kind.now) 0)) }
+    ) -> Result<Vec<Seen<'a>>, NoMemory>
+        ensures found { IfOk result (λ v. entries_in v.items ≡ filter (is_seen self.now) (R.rest_of_kind registry.now (Some kind.now) 0)) }
+        ensures seen { IfOk result (λ v. AreSeenBy self.now v.items) }
         ensures listing { IfOk result (λ _. IsListing (is_kind (Some kind.now)) (R.contents registry.now) (R.rest_of_kind registry.now (Some kind.now) 0)) }
     {
         let mut found = Vec::new(alloc);
         let mut from = 0;
         while let Some((entry, next)) = registry.by_kind(Some(kind), from) {
-            if self.sees(entry) {
-                found.push(entry)?;
+            if let Some(first) = self.sees(entry) {
+                found.push(Seen { entry, first })?;
             }
             from = next;
         }
@@ -161,8 +169,9 @@ impl Viewer<'_> {
         alloc: Global,
         registry: &'a R,
         target: &Target,
-    ) -> Result<Vec<&'a Entry>, NoMemory>
-        ensures { IfOk result (λ v. AreFoundIn (is_target target.now) self.now (R.contents registry.now) (entries_lent v.items)) }
+    ) -> Result<Vec<Seen<'a>>, NoMemory>
+        ensures found { IfOk result (λ v. AreFoundIn (is_target target.now) self.now (R.contents registry.now) (entries_in v.items)) }
+        ensures seen { IfOk result (λ v. AreSeenBy self.now v.items) }
     {
         match target {
             Target::Kind(kind) => self.gather(alloc, registry, kind),
@@ -193,7 +202,7 @@ impl Viewer<'_> {
                 continue;
             }
             from = next;
-            if !self.sees(entry) {
+            if self.sees(entry).is_none() {
                 continue;
             }
             are_ordered = still_ordered(are_ordered, order);
@@ -213,15 +222,16 @@ impl Viewer<'_> {
         alloc: Global,
         registry: &'a R,
         url: &Url,
-    ) -> Result<Vec<&'a Entry>, NoMemory>
-        ensures found { IfOk result (λ v. entries_lent v.items ≡ filter (is_seen self.now) (R.rest_of_url registry.now url.now 0)) }
+    ) -> Result<Vec<Seen<'a>>, NoMemory>
+        ensures found { IfOk result (λ v. entries_in v.items ≡ filter (is_seen self.now) (R.rest_of_url registry.now url.now 0)) }
+        ensures seen { IfOk result (λ v. AreSeenBy self.now v.items) }
         ensures listing { IfOk result (λ _. IsListing (is_of_url url.now) (R.contents registry.now) (R.rest_of_url registry.now url.now 0)) }
     {
         let mut found = Vec::new(alloc);
         let mut from = 0;
         while let Some((entry, next)) = registry.by_url(url, from) {
-            if self.sees(entry) {
-                found.push(entry)?;
+            if let Some(first) = self.sees(entry) {
+                found.push(Seen { entry, first })?;
             }
             from = next;
         }

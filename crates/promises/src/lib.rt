@@ -13,7 +13,7 @@ mod rules;
 
 pub use clients::user_step;
 pub use judging::{is_full, judge, rule};
-pub use messages::read_service_request;
+pub use messages::read_question;
 pub use published::{answer, change};
 pub use questions::{find, find_attributes, holds, holds_where, now, updated};
 pub use registries::put;

@@ -5,7 +5,8 @@ use Rattle.directory_judge.specs.Contents.{content}
 use Rattle.directory_judge.specs.History.{Event, History}
 use Rattle.directory_judge.specs.declared.change.Change.{Change}
 use Rattle.directory_questions.specs.Answers.{is_change_of, IsAnswer}
-use Rattle.directory_questions.specs.Calls.{Opening, AreBytes}
+use Rattle.directory_questions.specs.Bytes.{AreBytes}
+use Rattle.directory_questions.specs.Calls.{Opening}
 use Rattle.directory_questions.specs.Verdicts.{IsLegal, history_with}
 use Rattle.directory_state.specs.Events.{call_anywhere}
 use Rattle.directory_state.specs.Folds.{StandsFor}

@@ -1,10 +1,14 @@
 -- The rule of the published directory, and what its steps tell.
-use Rattle.std.specs.Prelude.{◌≡◌, List, ◌∷◌, Option}
+use Rattle.std.specs.Borrow.{Bor}
+use Rattle.std.specs.Prelude.{◌≡◌, false, List, ◌∷◌, Option, Result, Ok, Err}
 use Rattle.logbook.specs.Pages.{Book}
 use Rattle.directory_judge.specs.Contents.{content}
 use Rattle.directory_judge.specs.History.{Event, History}
-use Rattle.directory_questions.specs.Calls.{Opening, Call}
+use Rattle.directory_questions.specs.Calls.{Opening, Call, call_in}
+use Rattle.directory_questions.specs.Requests.{function_in, is_change_function, IsUnheard}
 use Rattle.directory_questions.specs.Verdicts.{IsLegal}
+use Rattle.directory_questions.specs.declared.call.Call as code
+use Rattle.directory_questions.specs.declared.heard.Heard.{Heard}
 use Rattle.directory_state.specs.Folds.{StandsFor}
 use Rattle.directory_state.specs.State.{state_after}
 use Rattle.history_log.specs.Events.{history_in}
@@ -46,3 +50,12 @@ Shows book o v x y w = (w ≡ v) × IsAfter book o y
 -- the history of y was left, for a call or none
 abbrev pub Leaves : Book → Opening → Option Call → Trace → PublishedCopy → PublishedCopy → Trace → Type 0
 Leaves book o call v x y w = (w ≡ Wrote (history_of y) call ∷ v) × IsAfter book o y
+
+-- what a call asks by which a question is heard, or nothing is
+abbrev pub call_heard : Result (Bor Heard) (Bor code.Call) → Call
+call_heard (Ok heard) = call_in heard.now.call.now
+call_heard (Err unheard) = call_in unheard.now
+
+abbrev pub IsQuestion : Result (Bor Heard) (Bor code.Call) → Type 0
+IsQuestion (Ok heard) = is_change_function (function_in heard.now.request) ≡ false
+IsQuestion (Err unheard) = IsUnheard unheard.now.bytes.now

@@ -1,11 +1,9 @@
 //! The rule of what is published, and the steps under it.
-ghost use Rattle.std.specs.Prelude.{◌≡◌, ◌⊎◌, ◌≤◌, [], ◌∷◌, None, Some, false, drop, MatchResult};
+ghost use Rattle.std.specs.Prelude.{◌≡◌, ◌⊎◌, [], ◌∷◌, None, Some, drop, MatchResult};
 ghost use Rattle.left_right.specs.Sides.{view};
-ghost use Rattle.directory_questions.specs.Answers.{is_change_of};
-ghost use Rattle.directory_questions.specs.Calls.{call_in};
 ghost use Rattle.history_log.specs.Pasts.{IsPast};
 ghost use Rattle.slp_answer.specs.Answers.{Replies};
-ghost use Rattle.published_view.specs.Rules.{IsAfter, NextOf, history_of};
+ghost use Rattle.published_view.specs.Rules.{call_heard, IsAfter, IsQuestion, NextOf, history_of};
 ghost use Rattle.published_view.specs.Steps.{stepped};
 ghost use Rattle.published_view.specs.Traces.{Wrote, last_at, IsAsked};
 
@@ -17,7 +15,7 @@ use crossbeam_utils::rule::{Outcome, Protocol};
 use history_log::{Front, Naming};
 use left_right::reader::{Factory, Reader};
 use left_right::writer::Writer;
-use slp_answer::{Answer, Call, Sent, reply};
+use slp_answer::{Answer, Call, Heard, Sent, answer_heard, told_whole};
 use slp_text::NoMemory;
 use std::alloc::{AllocError, Global};
 use std::marker::PhantomData;
@@ -77,70 +75,36 @@ pub type RuledFactory<J> = Factory<PublishedCopy, [Marked; 0], Published<J>>;
 
 pub type RuledWriter<J> = Writer<PublishedCopy, Operation, [Marked; 0], Published<J>>;
 
-// Answers at the history of a copy.
-fn answered_at<J: Naming>(
-    alloc: Global,
-    copy: &PublishedCopy,
-    call: &Call<'_>,
-    answer: &mut Answer,
-) -> Result<Sent, NoMemory>
-    requires after { IsAfter J.book J.opening copy.now }
-    requires no_change { is_change_of call.now.bytes.now ≡ false }
-    requires datagram { 1400 ≤ call.now.limit }
-    requires stream { call.now.limit ≤ 65535 }
-    ensures { MatchResult result
-        (λ what. Replies J.opening (history_of copy.now) (call_in call.now) what answer.new.bytes.items answer.new.audit.items)
-        (λ _. (answer.new.bytes.items ≡ []) × (answer.new.audit.items ≡ [])) }
-{
-    let Call {
-        own,
-        moment,
-        asker,
-        bytes,
-        limit,
-    } = *call;
-    reply(
-        alloc,
-        &copy.directory,
-        own,
-        moment,
-        asker,
-        bytes,
-        limit,
-        answer,
-    )
-}
-
-/// Answers at the history that is published, which is seen. Without memory it is seen all the same.
+/// Answers at the history that is published, which is seen: a question, or with nothing a call of which nothing is heard. Without memory it is
+/// seen all the same.
 pub fn answered<J: Naming, G: Gate, Q: Asks>(
     alloc: Global,
     reader: RuledReader<J>,
     gate: &G,
     place: usize,
-    call: &Call<'_>,
+    heard: Result<&Heard<'_>, &Call<'_>>,
     answer: &mut Answer,
 ) -> (RuledReader<J>, Result<Result<Sent, NoMemory>, ViewFault>)
-    requires asks { Q.call ≡ Some (call_in call.now) }
-    requires no_change { is_change_of call.now.bytes.now ≡ false }
-    requires datagram { 1400 ≤ call.now.limit }
-    requires stream { call.now.limit ≤ 65535 }
+    requires asks { Q.call ≡ Some (call_heard heard) }
+    requires question { IsQuestion heard }
     ensures { MatchResult result.1
-        (λ r. IsAsked J.opening (view reader.place) (Some (call_in call.now)) (view result.0.place)
-        × MatchResult r (λ what. Replies J.opening (last_at (view result.0.place)) (call_in call.now) what answer.new.bytes.items answer.new.audit.items) (λ _. (answer.new.bytes.items ≡ []) × (answer.new.audit.items ≡ [])))
+        (λ r. IsAsked J.opening (view reader.place) (Some (call_heard heard.entry)) (view result.0.place)
+        × MatchResult r (λ what. Replies J.opening (last_at (view result.0.place)) (call_heard heard.entry) what answer.new.bytes.items answer.new.audit.items) (λ _. (answer.new.bytes.items ≡ []) × (answer.new.audit.items ≡ [])))
         (λ e. (e ≡ ViewFault.Closed) × (view result.0.place ≡ view reader.place) × (answer.new.bytes.items ≡ []) × (answer.new.audit.items ≡ [])) }
 {
+    answer.clear();
     match reader.enter_as::<Sees<J, Q>>() {
         Ok(reading) => {
             gate.inside(place);
+            let Ok(heard) = heard else {
+                return (reading.leave(), Ok(Ok(Sent::Silence)));
+            };
             let copy = reading.get();
-            let sent = answered_at::<J>(alloc, copy, call, answer);
+            let told = answer_heard(alloc, &copy.directory, heard, answer);
+            let sent = told_whole(told, answer);
             (reading.leave(), Ok(sent))
         }
-        Err(reader) => {
-            answer.bytes.clear();
-            answer.audit.clear();
-            (reader, Err(ViewFault::Closed))
-        }
+        Err(reader) => (reader, Err(ViewFault::Closed)),
     }
 }
 

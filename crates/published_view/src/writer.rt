@@ -3,6 +3,7 @@ ghost use Rattle.std.specs.Prelude.{◌≡◌, ◌⊎◌, ◌↔◌, [], ◌∷�
 ghost use Rattle.directory_judge.specs.Contents.{content};
 ghost use Rattle.directory_judge.specs.History.{now};
 ghost use Rattle.directory_questions.specs.Answers.{is_change_of};
+ghost use Rattle.directory_questions.specs.Requests.{function_in, is_change_function};
 ghost use Rattle.directory_questions.specs.Verdicts.{IsLegal};
 ghost use Rattle.directory_state.specs.Events.{call_anywhere};
 ghost use Rattle.directory_state.specs.Folds.{StandsFor};
@@ -20,7 +21,7 @@ use crate::view::Note;
 use access_rules::{Addr, Rules};
 use directory_judge::Change;
 use history_log::{Book, Happening, Naming};
-use slp_answer::{Answer, Sent, acknowledge};
+use slp_answer::{Answer, Call, Heard, Sent, acknowledge_heard, told_whole};
 use slp_text::NoMemory;
 use std::alloc::Global;
 use std::marker::{Brand, Model};
@@ -82,8 +83,36 @@ fn put_back<J: Naming, R: Wait>(home: &mut Option<RuledWriter<J>>, writer: Ruled
 }
 
 impl<J: Naming, R: Wait + Drop> DirectoryWriter<J, R> {
-    /// Answers bytes that ask for a change, which an asker sent at a moment, in seconds, at the history that is published, and publishes
-    /// what is accepted. A refusal publishes nothing, and leaves the answer empty.
+    /// Answers a message that asks for a change, at the history that is published, and publishes what is accepted. A refusal
+    /// publishes nothing, and leaves the answer empty.
+    pub fn hear(
+        &mut self,
+        alloc: Global,
+        heard: &Heard<'_>,
+        answer: &mut Answer,
+    ) -> Result<Sent, ViewFault>
+        requires { is_change_function (function_in heard.now.request) ≡ true }
+        ensures made { IfOk result (λ what. IsChanged J.opening self.old.history heard.now.call.now.moment heard.now.call.now.asker heard.now.call.now.bytes.now what answer.new.bytes.items answer.new.audit.items self.new.history) }
+        ensures legal { OnOk result (IsLegal J.opening self.new.history) }
+        ensures wrote { OnOk result ((self.new ≡ self.old) ⊎ (self.new ≡ written_at self.old self.new.history (Some (call_anywhere heard.now.call.now.moment heard.now.call.now.asker heard.now.call.now.bytes.now)))) }
+        ensures kept { OnErr result (self.new.history ≡ self.old.history) }
+        ensures unwritten { OnErr result (self.new.trace ≡ self.old.trace) }
+        ensures no_reply { OnErr result (answer.new.bytes.items ≡ []) }
+        ensures no_line { OnErr result (answer.new.audit.items ≡ []) }
+        ensures open { OnOk result (self.new.is_shut ≡ false) }
+        ensures closed { IsErrOf result ViewFault.Closed ↔ (self.old.is_shut ≡ true) }
+        ensures stays_shut { self.old.is_shut ≡ true → self.new.is_shut ≡ true }
+        ensures faults { IfErr result (λ e. (e ≡ ViewFault.NoMemory) ⊎ (e ≡ ViewFault.Closed)) }
+    {
+        answer.clear();
+        if self.shut {
+            return Err(ViewFault::Closed);
+        }
+        let told = self.make::<Brand, Brand>(alloc, heard, answer);
+        Ok(told_whole(told, answer)?)
+    }
+
+    /// The same of bytes, which an asker sent at a moment, in seconds.
     pub fn change(
         &mut self,
         alloc: Global,
@@ -105,42 +134,34 @@ impl<J: Naming, R: Wait + Drop> DirectoryWriter<J, R> {
         ensures stays_shut { self.old.is_shut ≡ true → self.new.is_shut ≡ true }
         ensures faults { IfErr result (λ e. (e ≡ ViewFault.NoMemory) ⊎ (e ≡ ViewFault.Closed)) }
     {
-        if self.shut {
-            answer.bytes.clear();
-            answer.audit.clear();
-            return Err(ViewFault::Closed);
-        }
-        match self.make::<Brand, Brand>(alloc, moment, asker, bytes, answer) {
-            Ok(sent) => Ok(sent),
-            Err(NoMemory) => {
-                answer.bytes.clear();
-                answer.audit.clear();
-                Err(ViewFault::NoMemory)
-            }
-        }
+        let call = Call::anywhere(moment, asker, bytes);
+        let Some(heard) = Heard::of(&call) else {
+            unreachable!();
+        };
+        self.hear(alloc, &heard, answer)
     }
 
-    // Answers bytes, and publishes their change, where one is accepted. The event is the one that they ask for.
+    // Answers a message, and publishes its change, where one is accepted. The event is the one that it asks for.
     fn make<E: Happening, Q: Asks>(
         &mut self,
         alloc: Global,
-        moment: u32,
-        asker: Addr,
-        bytes: &[u8],
+        heard: &Heard<'_>,
         answer: &mut Answer,
     ) -> Result<Sent, NoMemory>
-        requires change { is_change_of bytes.now ≡ true }
+        requires change { is_change_function (function_in heard.now.request) ≡ true }
+        requires no_reply { answer.old.bytes.items ≡ [] }
+        requires no_line { answer.old.audit.items ≡ [] }
         requires open { self.old.is_shut ≡ false }
-        requires event { E.event ≡ event_or_sweep J.opening self.old.history moment asker bytes.now }
-        requires asks { Q.call ≡ Some (call_anywhere moment asker bytes.now) }
-        ensures made { IfOk result (λ what. IsChanged J.opening self.old.history moment asker bytes.now what answer.new.bytes.items answer.new.audit.items self.new.history) }
+        requires event { E.event ≡ event_or_sweep J.opening self.old.history heard.now.call.now.moment heard.now.call.now.asker heard.now.call.now.bytes.now }
+        requires asks { Q.call ≡ Some (call_anywhere heard.now.call.now.moment heard.now.call.now.asker heard.now.call.now.bytes.now) }
+        ensures made { IfOk result (λ what. IsChanged J.opening self.old.history heard.now.call.now.moment heard.now.call.now.asker heard.now.call.now.bytes.now what answer.new.bytes.items answer.new.audit.items self.new.history) }
         ensures legal { OnOk result (IsLegal J.opening self.new.history) }
         ensures wrote { OnOk result ((self.new ≡ self.old) ⊎ (self.new ≡ written_at self.old self.new.history Q.call)) }
         ensures kept { OnErr result (self.new.history ≡ self.old.history) }
         ensures unwritten { OnErr result (self.new.trace ≡ self.old.trace) }
         ensures still_open { OnOk result (self.new.is_shut ≡ false) }
     {
-        let (sent, change) = acknowledge(alloc, &self.own.directory, moment, asker, bytes, answer)?;
+        let (sent, change) = acknowledge_heard(alloc, &self.own.directory, heard, answer)?;
         let Some(change) = change else {
             return Ok(sent);
         };

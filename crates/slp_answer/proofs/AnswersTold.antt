@@ -1,7 +1,8 @@
 -- What is told of bytes, by what they are read as.
-use Rattle.std.proofs.Common.{◌≡◌, ℕ, arith, Bool, true, false, cond, List, [], ◌∷◌, length, Option, Some, None, Result, Ok, Err, refl, sym, ap, ap₂, subst, ◌∙◌, inl, inr}
-use Rattle.std.specs.Prelude.{◌==◌, ◌&&◌, ◌+◌, ◌↔◌, ◌⊎◌, not, IsErrOf}
+use Rattle.std.proofs.Common.{◌≡◌, ℕ, Bool, true, false, cond, List, [], ◌∷◌, length, Option, Some, None, Result, Ok, Err, refl, sym, ap, ap₂, subst, ◌∙◌, inl, inr}
+use Rattle.std.specs.Prelude.{◌==◌, ◌&&◌, ◌+◌, ◌↔◌, ◌⊎◌, ◌≢◌, not, IfOk, IfSome, IsErrOf, OnOk}
 use Rattle.std.specs.List.{list_any}
+use Rattle.slp_text.specs.declared.faults.NoMemory.{NoMemory}
 use Rattle.slp_headers.specs.Headers.{Heading, heading_of}
 use Rattle.slp_messages.specs.declared.message.Message.{Message}
 use Rattle.slp_messages.specs.declared.message.Message.TheVariants as message
@@ -21,13 +22,12 @@ use Rattle.directory_judge.specs.declared.reason.Because.{Because}
 use Rattle.directory_judge.specs.declared.change.Change.{Change}
 use Rattle.directory_judge.specs.declared.copies.Judged.{Judged}
 use Rattle.directory_judge.specs.declared.copies.Judged.TheVariants as judged
-use Rattle.directory_questions.specs.Answers.{Sense, Settled, Lists, Describes, Names, IsCutReply, IsListed, advert_code, advert_outcome, agents_outcome, is_agent_for, is_change_of, language_outcome, question_of, sense_of_reading, sense_under, sense_within, sense_of_message, sense_of_question, IsAnswerTo, IsAnswer}
+use Rattle.directory_questions.specs.Answers.{Sense, Settled, Lists, Describes, Names, IsCutReply, IsListed, advert_code, advert_outcome, agents_outcome, is_agent_for, language_outcome, question_of, sense_of_reading, sense_under, sense_within, sense_of_message, sense_of_question, IsAnswerTo, IsAnswer}
 use Rattle.directory_questions.specs.Calls.{Opening, Call, standpoint, standpoint_of}
 use Rattle.directory_questions.specs.Cuts.{attributes_with, types_with}
 use Rattle.directory_questions.specs.Outcomes.{Outcome, silence, outcome, sent_of, code_outcome, code_outcome_as, decider_of_fault, denial_outcome, fault_outcome, acknowledgement_of}
 use Rattle.attr_list.specs.Lists.{Attributes}
 use Rattle.std.specs.Option.{option_map_or}
-use Rattle.std.proofs.lemmas.Bool.Decides.{nat_tests}
 use Rattle.slp_headers.specs.Headers.{reply_function_of}
 use Rattle.directory_questions.specs.Items.{attribute_texts, kind_asked, AreAttributesOf, AreServices, AreTypesOf, IsAskedAbout, IsElsewhere, IsForeign, IsOpenNow}
 use Rattle.directory_questions.specs.declared.query.QueryFault.{QueryFault}
@@ -39,19 +39,19 @@ use Rattle.directory_questions.specs.declared.query.TypeQuery.{TypeQuery}
 use Rattle.directory_questions.specs.declared.question.Question.{Question}
 use Rattle.directory_questions.specs.declared.question.Question.TheVariants as question
 use Rattle.directory_questions.specs.Readings.{may_change, IsAsked}
-use Rattle.directory_questions.specs.Requests.{function_in, is_change_function}
-use Rattle.directory_questions.specs.declared.request.Request.{Request}
-use Rattle.directory_questions.specs.declared.request.Request.TheVariants as request
+use Rattle.directory_questions.specs.Requests.{is_change_function, IsUnanswered, IsUnheard}
 use Rattle.directory_questions.specs.Verdicts.{IsLegal, IsVerdict, change_in, history_with}
 use Rattle.directory_judge.specs.Contents.{content}
+use Rattle.directory_questions.proofs.Requests.{unanswered_reply, unanswered_still}
 use Rattle.directory_state.specs.Fronts.{IsFront}
 use Rattle.directory_state.specs.Folds.{Fold, StandsFor, IsJudgedAs, HandsOut}
 use Rattle.directory_state.specs.State.{State}
 use Rattle.directory_state.specs.declared.search.Room.{Room}
 use Rattle.directory_state.proofs.Histories.{legal_next}
 use Rattle.slp_answer.specs.ServiceReplies.{service_reply}
-use Rattle.slp_answer.specs.Answers.{Tells, Replies, Acknowledges, IsCallAnswered, Steps, outcome_of_finding}
+use Rattle.slp_answer.specs.Answers.{Tells, Replies, Acknowledges, Steps, outcome_of_finding, query_fault_outcome}
 use Rattle.slp_answer.proofs.Sizes.{front-cut, front-empty}
+use Rattle.slp_answer.specs.declared.answer.Answer.{Answer}
 use Rattle.slp_answer.specs.declared.answer.Sent.{Sent}
 use Rattle.slp_answer.specs.declared.answer.Sent.TheVariants as sent
 
@@ -86,7 +86,7 @@ module _ (o : Opening) (h : History) (c : Call) where
       subst (λ (s : Sense). IsAnswerTo o h c s r change) (sym (ap₂ (sense_under o.site c.own) head is)) answer
 
   -- nothing is told where no header is readable
-  pub unheaded-answer : heading_of c.bytes ≡ None → IsAnswer o h c silence None
+  unheaded-answer : heading_of c.bytes ≡ None → IsAnswer o h c silence None
   unheaded-answer none = headed-answer None (reading c.bytes) silence None none refl (refl, refl)
 
   pub fault-answer : (head : Heading) (e : WireFault) → heading_of c.bytes ≡ Some head → reading c.bytes ≡ Err e → IsAnswer o h c (fault_outcome head e) None
@@ -128,7 +128,7 @@ module _ (o : Opening) (h : History) (c : Call) (head : Heading) where
   within-answer scopes kind sense r supported answer =
       subst (λ b. IsAnswerTo o h c (cond b sense (Settled (code_outcome head 4 (by_step decider.Scope kind)))) r None) (sym supported) answer
 
-  pub unsupported-answer : (scopes : List (List ℕ)) (kind : Option (List ℕ)) (sense : Sense) → list_any (supports o.site) scopes ≡ false
+  unsupported-answer : (scopes : List (List ℕ)) (kind : Option (List ℕ)) (sense : Sense) → list_any (supports o.site) scopes ≡ false
       → IsAnswerTo o h c (sense_within o.site head scopes kind sense) (code_outcome head 4 (by_step decider.Scope kind)) None
   unsupported-answer scopes kind sense none =
       let it = code_outcome head 4 (by_step decider.Scope kind) in
@@ -162,7 +162,7 @@ module _ (o : Opening) (h : History) (c : Call) (head : Heading) where
       )
 
   -- nothing is in the language that is asked for
-  pub foreign-answer : (query : ServiceQuery) → list_any (supports o.site) query.scopes ≡ true → IsForeign (IsOpenNow (standpoint_of o h c) query.scopes) query
+  foreign-answer : (query : ServiceQuery) → list_any (supports o.site) query.scopes ≡ true → IsForeign (IsOpenNow (standpoint_of o h c) query.scopes) query
       → IsAnswerTo o h c (sense_of_question o.site c.own head (question.Services query)) (language_outcome head (Some query.kind)) None
   foreign-answer query supported foreign = listing-answer query (language_outcome head (Some query.kind)) supported (inl (foreign, refl))
 
@@ -173,7 +173,7 @@ module _ (o : Opening) (h : History) (c : Call) (head : Heading) where
   described-answer query a r supported spoken are cut =
       within-answer query.scopes (kind_asked query.target) (Describes head query) r supported (inr (spoken, record { attributes = a; are = are; reply = cut }), refl)
 
-  pub elsewhere-answer : (query : AttrQuery) → list_any (supports o.site) query.scopes ≡ true
+  elsewhere-answer : (query : AttrQuery) → list_any (supports o.site) query.scopes ≡ true
       → IsElsewhere (IsAskedAbout (IsOpenNow (standpoint_of o h c) query.scopes) query) query.language
       → IsAnswerTo o h c (sense_of_question o.site c.own head (question.Attributes query)) (language_outcome head (kind_asked query.target)) None
   elsewhere-answer query supported elsewhere =
@@ -298,122 +298,66 @@ quiet-fault head e none = elim (decider_of_fault e) as (λ d. option_map_or (den
   | Some d ↦ ap (λ f. option_map_or (code_outcome_as head (code_by d) (by_step d None)) f silence) none
 ]
 
--- no reply answers a function that is neither
-no-reply-function : (f : ℕ) → (f ≡ 1 → ⊥) → (f ≡ 6 → ⊥) → (f ≡ 9 → ⊥) → is_change_function f ≡ false → reply_function_of f ≡ None
-no-reply-function f a b c still = grind (arith, nat_tests)
-
-no-change-function : (f : ℕ) → (f ≡ 3 → ⊥) → (f ≡ 4 → ⊥) → is_change_function f ≡ false
-no-change-function f a b = grind (arith, nat_tests)
-
-pub quiet-answer : (o : Opening) (h : History) (c : Call) (head : Heading) → heading_of c.bytes ≡ Some head → (head.function ≡ 1 → ⊥) → (head.function ≡ 6 → ⊥) → (head.function ≡ 9 → ⊥) → is_change_function head.function ≡ false
-    → IsAnswer o h c silence None
-quiet-answer o h c head is a b d still =
+quiet-answer : (o : Opening) (h : History) (c : Call) (head : Heading) → heading_of c.bytes ≡ Some head → IsUnanswered head.function → IsAnswer o h c silence None
+quiet-answer o h c head is other =
     let sense : (read : Result Message WireFault) → reading c.bytes ≡ read → sense_of_reading o.site c.own head read ≡ Settled silence =
     λ read. elim read as (λ x. reading c.bytes ≡ x → sense_of_reading o.site c.own head x ≡ Settled silence) [
       | Ok m ↦ λ same.
           let f : head.function ≡ function_of m = sym (message_function c.bytes head m is same) in
-          quiet-message o.site c.own head m (λ e. a (f ∙ e)) (λ e. b (f ∙ e)) (λ e. d (f ∙ e)) (ap is_change_function (sym f) ∙ still)
-      | Err e ↦ λ _. ap Settled (quiet-fault head e (no-reply-function head.function a b d still))
+          quiet-message o.site c.own head m (λ e. other.0 (f ∙ e)) (λ e. other.1.1.1.0 (f ∙ e)) (λ e. other.1.1.1.1 (f ∙ e)) (ap is_change_function (sym f) ∙ unanswered_still head.function other)
+      | Err e ↦ λ _. ap Settled (quiet-fault head e (unanswered_reply head.function other))
     ] in
     headed-answer o h c (Some head) (reading c.bytes) silence None is refl (subst (λ (s : Sense). IsAnswerTo o h c s silence None) (sym (sense (reading c.bytes) refl)) (refl, refl))
 
--- ---- calls
+-- ---- what is heard, and what is not
 
--- whether bytes ask for a change is told by their function
-pub asks-change : (bytes : List ℕ) (head : Heading) (f : ℕ) (b : Bool) → heading_of bytes ≡ Some head → f ≡ head.function → is_change_function f ≡ b → is_change_of bytes ≡ b
-unfolding is_change_of
-asks-change bytes head f b is same asks = ap (λ (x : Option Heading). option_map_or (λ (y : Heading). is_change_function y.function) x false) is ∙ ap is_change_function (sym same) ∙ asks
-
--- what asks for no change is a question
-pub asks-question : (r : Request) → is_change_function (function_in r) ≡ false → (function_in r ≡ 1) ⊎ ((function_in r ≡ 6) ⊎ (function_in r ≡ 9))
-asks-question request.Services still = inl refl
-asks-question request.Registration still = absurd cc
-asks-question request.Withdrawal still = absurd cc
-asks-question request.Attributes still = inr (inl refl)
-asks-question request.Types still = inr (inr refl)
-
-both : {A : Type 0} (b : Bool) → b ≡ true → b ≡ false → A
-both b is not = let k = sym is ∙ not in absurd cc
+-- nothing is answered to what is unheard
+pub unheard-answer : (o : Opening) (h : History) (c : Call) → IsUnheard c.bytes → IsAnswer o h c silence None
+unheard-answer o h c unheard =
+    elim (heading_of c.bytes) as (λ x. heading_of c.bytes ≡ x → IfSome x (λ head. IsUnanswered head.function) → IsAnswer o h c silence None) [
+      | None ↦ λ is _. unheaded-answer o h c is
+      | Some head ↦ λ is no. quiet-answer o h c head is no
+    ] refl unheard
 
 module _ (o : Opening) (h : History) (c : Call) (reply line : List ℕ) where
-  -- nothing is answered, whatever loop the bytes came to
-  silent-call : ((own limit : ℕ) → IsAnswer o h (record { own = own; moment = c.moment; asker = c.asker; bytes = c.bytes; limit = limit }) silence None) → reply ≡ [] → line ≡ [] → IsCallAnswered o h c sent.Silence None reply line
-  silent-call silent r l = record {
+  pub unheard-replies : IsUnheard c.bytes → reply ≡ [] → line ≡ [] → Replies o h c sent.Silence reply line
+  unheard-replies unheard r l = record {
     outcome = silence;
-    event = None;
-    is = silent c.own c.limit;
-    still = λ _. refl;
-    anywhere = λ _ own limit. silent own limit;
+    is = unheard-answer o h c unheard;
     told = silence-tells (rules o.rules h) c.asker (heading_of c.bytes) reply line r l;
-    handed = refl;
   }
 
-  pub unheaded-call : heading_of c.bytes ≡ None → reply ≡ [] → line ≡ [] → IsCallAnswered o h c sent.Silence None reply line
-  unheaded-call none = silent-call (λ own limit. unheaded-answer o h (record { own = own; moment = c.moment; asker = c.asker; bytes = c.bytes; limit = limit }) none)
-
-  pub quiet-call : (head : Heading) → heading_of c.bytes ≡ Some head → (head.function ≡ 1 → ⊥) → (head.function ≡ 3 → ⊥) → (head.function ≡ 4 → ⊥) → (head.function ≡ 6 → ⊥) → (head.function ≡ 9 → ⊥) → reply ≡ [] → line ≡ []
-      → IsCallAnswered o h c sent.Silence None reply line
-  quiet-call head is a r w b d =
-      silent-call (λ own limit. quiet-answer o h (record { own = own; moment = c.moment; asker = c.asker; bytes = c.bytes; limit = limit }) head is a b d (no-change-function head.function r w))
-
-  module _ (what : Sent) where
-    pub acknowledged-call : (change : Option Change) → is_change_of c.bytes ≡ true → Acknowledges o h c.moment c.asker c.bytes what change reply line → IsCallAnswered o h c what change reply line
-    acknowledged-call change asks a = record {
+  module _ (what : Sent) (after : State) where
+    -- a question changes nothing
+    pub replied-steps : Replies o h c what reply line → IsLegal o h → Fold o h after → Steps o h c what reply line after
+    replied-steps a legal fold = record {
       outcome = a.outcome;
-      event = a.event;
-      is = a.is c.own c.limit;
-      still = λ not. both (is_change_of c.bytes) asks not;
-      anywhere = λ _ own limit. a.is own limit;
-      told = a.told;
-      handed = a.handed;
-    }
-
-    pub replied-call : is_change_of c.bytes ≡ false → Replies o h c what reply line → IsCallAnswered o h c what None reply line
-    replied-call not r = record {
-      outcome = r.outcome;
       event = None;
-      is = r.is;
-      still = λ _. refl;
-      anywhere = λ asks. both (is_change_of c.bytes) asks not;
-      told = r.told;
-      handed = refl;
-    }
-
-    pub call-replies : (change : Option Change) → is_change_of c.bytes ≡ false → IsCallAnswered o h c what change reply line → Replies o h c what reply line
-    call-replies change not a = record {
-      outcome = a.outcome;
-      is = subst (λ (e : Option Event). IsAnswer o h c a.outcome e) (a.still not) a.is;
+      is = a.is;
       told = a.told;
-    }
-
-    pub call-acknowledges : (change : Option Change) → is_change_of c.bytes ≡ true → IsCallAnswered o h c what change reply line → Acknowledges o h c.moment c.asker c.bytes what change reply line
-    call-acknowledges change asks a = record {
-      outcome = a.outcome;
-      event = a.event;
-      is = a.anywhere asks;
-      told = a.told;
-      handed = a.handed;
+      legal = legal;
+      fold = fold;
     }
 
     -- the change that is handed out is made
-    pub changed-steps : (change : Change) (after : State) → IsCallAnswered o h c what (Some change) reply line
+    pub changed-steps : (change : Change) → Acknowledges o h c.moment c.asker c.bytes what (Some change) reply line
         → ((event : Event) → IsLegal o (event ∷ h) → StandsFor h (content change) event → Fold o (event ∷ h) after) → Steps o h c what reply line after
-    changed-steps change after a folds =
+    changed-steps change a folds =
         let out = a.handed in record {
           outcome = a.outcome;
           event = a.event;
-          is = a.is;
+          is = a.is c.own c.limit;
           told = a.told;
           legal = subst (λ (x : Option Event). IsLegal o (history_with x h)) (sym out.1) out.3;
           fold = subst (λ (x : Option Event). Fold o (history_with x h) after) (sym out.1) (folds out.0 out.3 out.2);
         }
 
     -- and none is made where none is
-    pub still-steps : (after : State) → IsCallAnswered o h c what None reply line → IsLegal o h → Fold o h after → Steps o h c what reply line after
-    still-steps after a legal fold = record {
+    pub still-steps : Acknowledges o h c.moment c.asker c.bytes what None reply line → IsLegal o h → Fold o h after → Steps o h c what reply line after
+    still-steps a legal fold = record {
       outcome = a.outcome;
       event = a.event;
-      is = a.is;
+      is = a.is c.own c.limit;
       told = a.told;
       legal = subst (λ (x : Option Event). IsLegal o (history_with x h)) (sym a.handed) legal;
       fold = subst (λ (x : Option Event). Fold o (history_with x h) after) (sym a.handed) fold;
@@ -430,9 +374,44 @@ ok_err x e h = cc
 pub found-supported : {A E : Type 0} (x : A) (e : E) (b : Bool) → IsErrOf (Ok x) e ↔ (b ≡ false) → b ≡ true
 found-supported x e b h = not-false b (λ f. ok_err x e (h.1 f))
 
-other_fault : {A : Type 0} (e : QueryFault) → e ≡ query_fault.Language → ◌≡◌ {A = Result A QueryFault} (Err e) (Err query_fault.Scope) → ⊥
-other_fault e is h = cc
+other_fault : {A : Type 0} → ◌≡◌ {A = Result A QueryFault} (Err query_fault.Language) (Err query_fault.Scope) → ⊥
+other_fault h = cc
 
--- nor is what is refused for its language refused for its scopes
-pub refused-supported : {A : Type 0} (r : Result A QueryFault) (e : QueryFault) (b : Bool) → r ≡ Err e → e ≡ query_fault.Language → IsErrOf r query_fault.Scope ↔ (b ≡ false) → b ≡ true
-refused-supported r e b was is h = not-false b (λ f. other_fault e is (sym was ∙ h.1 f))
+-- what was told into an answer that is whole holds of it
+pub whole-told : {A : Type 0} (told r : Result A NoMemory) (x : A) (P : A → Answer → Type 0) (a b : Answer) → IfOk told (λ y. P y a) → r ≡ told → r ≡ Ok x → OnOk r (b ≡ a) → P x b
+whole-told {A = A} told r x P a b holds is was same =
+    subst (P x) (sym (subst (λ (q : Result A NoMemory). OnOk q (b ≡ a)) was same)) (subst (λ (q : Result A NoMemory). IfOk q (λ y. P y a)) (sym is ∙ was) holds)
+
+-- ---- questions that are refused
+
+-- what is refused for its language is not refused for its scopes
+language_alone : {A : Type 0} (b : Bool) → IsErrOf {T = A} (Err query_fault.Language) query_fault.Scope ↔ (b ≡ false) → b ≡ true
+language_alone b scope = not-false b (λ f. other_fault (scope.1 f))
+
+module _ (o : Opening) (site : Site) (placed : site ≡ o.site) (scopes : List (List ℕ)) where
+  -- a scope is supported, or none
+  none_here : list_any (supports site) scopes ≡ false → list_any (supports o.site) scopes ≡ false
+  none_here none = subst (λ (s : Site). list_any (supports s) scopes ≡ false) placed none
+
+  some_here : list_any (supports site) scopes ≡ true → list_any (supports o.site) scopes ≡ true
+  some_here some = subst (λ (s : Site). list_any (supports s) scopes ≡ true) placed some
+
+module _ {A : Type 0} (o : Opening) (h : History) (c : Call) (head : Heading) (site : Site) (placed : site ≡ o.site) where
+  pub refused-services : (query : ServiceQuery) (fault : QueryFault) → fault ≢ query_fault.NoMemory → IsErrOf {T = A} (Err fault) query_fault.Scope ↔ (list_any (supports site) query.scopes ≡ false)
+      → (IsErrOf {T = A} (Err fault) query_fault.Language → IsForeign (IsOpenNow (standpoint_of o h c) query.scopes) query) → IsAnswerTo o h c (sense_of_question o.site c.own head (question.Services query)) (query_fault_outcome head (Some query.kind) fault) None
+  refused-services query query_fault.Scope some scope foreign = unsupported-answer o h c head query.scopes (Some query.kind) (Lists head query) (none_here o site placed query.scopes (scope.0 refl))
+  refused-services query query_fault.Language some scope foreign = foreign-answer o h c head query (some_here o site placed query.scopes (language_alone (list_any (supports site) query.scopes) scope)) (foreign refl)
+  refused-services query query_fault.NoMemory some scope foreign = absurd (some refl)
+
+  pub refused-attributes : (query : AttrQuery) (fault : QueryFault) → fault ≢ query_fault.NoMemory → IsErrOf {T = A} (Err fault) query_fault.Scope ↔ (list_any (supports site) query.scopes ≡ false)
+      → (IsErrOf {T = A} (Err fault) query_fault.Language → IsElsewhere (IsAskedAbout (IsOpenNow (standpoint_of o h c) query.scopes) query) query.language)
+      → IsAnswerTo o h c (sense_of_question o.site c.own head (question.Attributes query)) (query_fault_outcome head (kind_asked query.target) fault) None
+  refused-attributes query query_fault.Scope some scope elsewhere = unsupported-answer o h c head query.scopes (kind_asked query.target) (Describes head query) (none_here o site placed query.scopes (scope.0 refl))
+  refused-attributes query query_fault.Language some scope elsewhere = elsewhere-answer o h c head query (some_here o site placed query.scopes (language_alone (list_any (supports site) query.scopes) scope)) (elsewhere refl)
+  refused-attributes query query_fault.NoMemory some scope elsewhere = absurd (some refl)
+
+  pub refused-types : (query : TypeQuery) (fault : QueryFault) → fault ≢ query_fault.NoMemory → IsErrOf {T = A} (Err fault) query_fault.Scope ↔ (list_any (supports site) query.scopes ≡ false)
+      → (IsErrOf {T = A} (Err fault) query_fault.Language → ⊥) → IsAnswerTo o h c (sense_of_question o.site c.own head (question.Types query)) (query_fault_outcome head None fault) None
+  refused-types query query_fault.Scope some scope never = unsupported-answer o h c head query.scopes None (Names head query) (none_here o site placed query.scopes (scope.0 refl))
+  refused-types query query_fault.Language some scope never = absurd (never refl)
+  refused-types query query_fault.NoMemory some scope never = absurd (some refl)

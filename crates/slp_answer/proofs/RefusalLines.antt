@@ -1,10 +1,11 @@
 -- The line of a message that found no memory.
-use Rattle.std.proofs.Common.{◌≡◌, ℕ, suc, ◌<◌, ◌≤◌, ◌+◌, ◌^◌, ◌/◌, ◌%◌, List, [], ◌∷◌, ◌++◌, length, codes, Option, Some, None, refl, ap, ◌∙◌, arith}
+use Rattle.std.proofs.Common.{◌≡◌, ℕ, suc, ◌<◌, ◌≤◌, ◌+◌, ◌^◌, ◌/◌, ◌%◌, List, [], ◌∷◌, ◌++◌, length, codes, Option, Some, None, refl, sym, ap, ◌∙◌, arith}
+use Rattle.std.specs.Prelude.{IfSome}
 use Rattle.std.specs.Fmt.{decimal}
 use Rattle.std.specs.Option.{option_map_or}
 use Rattle.std.proofs.lemmas.Fmt.{length-decimal-le}
 use Rattle.std.proofs.lemmas.List.{length-append}
-use Rattle.slp_headers.specs.Headers.{Heading, reply_function_of}
+use Rattle.slp_headers.specs.Headers.{Heading, heading_of, reply_function_of}
 use Rattle.access_rules.specs.declared.rule.Action.{Action}
 use Rattle.access_rules.specs.declared.rule.Action.TheVariants.{Register, Withdraw, See}
 use Rattle.access_rules.specs.Deciding.{no_rules}
@@ -14,9 +15,10 @@ use Rattle.slp_answer.specs.Audits.{action_text, audit_text, line_text}
 use Rattle.directory_judge.specs.Judgements.{by_step}
 use Rattle.directory_questions.specs.Outcomes.{code_outcome_as, refusal_outcome, silence}
 use Rattle.slp_answer.specs.declared.copies.Audit.{Audit}
-use Rattle.directory_questions.specs.Requests.{action_of, function_in}
+use Rattle.directory_questions.specs.Requests.{action_of, function_in, IsUnanswered, IsUnheard}
 use Rattle.directory_questions.specs.declared.request.Request.{Request}
 use Rattle.directory_questions.specs.declared.request.Request.TheVariants as request
+use Rattle.directory_questions.proofs.Requests.{unanswered_reply}
 use Rattle.slp_answer.specs.Answers.{line_by, line_of}
 use Rattle.slp_answer.proofs.AuditLines.{head_length, line_length, tail_length}
 use Rattle.slp_text.specs.Ascii.{dot}
@@ -67,7 +69,19 @@ answered request.Attributes = (7, refl)
 answered request.Types = (10, refl)
 
 pub line_is_refused : (asker : ℕ) (h : Heading) (f : ℕ) (a : Action) (line : List ℕ) → Some f ≡ reply_function_of h.function
-    → a ≡ action_of h.function → line ≡ audit_text no_rules (lacking a asker) → line ≡ line_of no_rules asker (Some h) (refusal_outcome (Some h))
+    → a ≡ action_of h → line ≡ audit_text no_rules (lacking a asker) → line ≡ line_of no_rules asker (Some h) (refusal_outcome (Some h))
 line_is_refused asker h f a line known action written =
     written ∙ ap (λ (x : Action). audit_text no_rules (lacking x asker)) action
     ∙ ap (λ (o : Option ℕ). line_by no_rules asker h (option_map_or (code_outcome_as h 10 (by_step Memory None)) o silence)) known
+
+-- nothing is told of what is unheard
+pub unheard_is : (asker : ℕ) (bytes : List ℕ) → IsUnheard bytes → ([] ≡ line_of no_rules asker (heading_of bytes) (refusal_outcome (heading_of bytes))) × ([] ≡ (refusal_outcome (heading_of bytes)).reply)
+unheard_is asker bytes unheard =
+    elim (heading_of bytes) as (λ x. IfSome x (λ head. IsUnanswered head.function) → ([] ≡ line_of no_rules asker x (refusal_outcome x)) × ([] ≡ (refusal_outcome x).reply)) [
+      | None ↦ λ _. (refl, refl)
+      | Some head ↦ λ no.
+          let none = sym (unanswered_reply head.function no) in (
+            ap (λ (o : Option ℕ). line_by no_rules asker head (option_map_or (code_outcome_as head 10 (by_step Memory None)) o silence)) none,
+            ap (λ (o : Option ℕ). (option_map_or (code_outcome_as head 10 (by_step Memory None)) o silence).reply) none,
+          )
+    ] unheard

@@ -1,17 +1,21 @@
 -- What is told of bytes: the reply, and the line that tells what came of them.
-use Rattle.std.specs.Prelude.{◌≡◌, ℕ, true, false, List, [], Option, Some, None}
+use Rattle.std.specs.Prelude.{◌≡◌, ℕ, List, [], Option, Some, None}
 use Rattle.std.specs.Option.{option_map_or}
 use Rattle.slp_headers.specs.Headers.{Heading, heading_in, heading_of}
 use Rattle.access_rules.specs.Deciding.{SiteRules}
 use Rattle.directory_judge.specs.History.{History, Event}
 use Rattle.directory_judge.specs.Meaning.{rules}
+use Rattle.directory_judge.specs.Judgements.{by_step, code_by}
 use Rattle.directory_judge.specs.declared.reason.Because.{Because}
+use Rattle.directory_judge.specs.declared.reason.Decider.TheVariants as decider
 use Rattle.directory_judge.specs.declared.change.Change.{Change}
-use Rattle.directory_questions.specs.Answers.{is_change_of, sense_of_question, IsAnswer, IsAnswerTo}
+use Rattle.directory_questions.specs.Answers.{language_outcome, sense_of_question, IsAnswer, IsAnswerTo}
 use Rattle.directory_questions.specs.Calls.{Opening, Call, call_in}
-use Rattle.directory_questions.specs.Outcomes.{Outcome, code_outcome, code_sent}
+use Rattle.directory_questions.specs.Outcomes.{Outcome, code_outcome, code_sent, silence}
 use Rattle.directory_questions.specs.Requests.{action_of}
 use Rattle.directory_questions.specs.Verdicts.{IsLegal, history_with}
+use Rattle.directory_questions.specs.declared.query.QueryFault.{QueryFault}
+use Rattle.directory_questions.specs.declared.query.QueryFault.TheVariants.{Scope, Language, NoMemory}
 use Rattle.directory_questions.specs.declared.question.Question.{Question}
 use Rattle.directory_state.specs.Folds.{Fold, HandsOut}
 use Rattle.directory_state.specs.State.{State}
@@ -25,7 +29,7 @@ use Rattle.slp_answer.specs.declared.replies.Reply.{Reply}
 
 -- what the line tells: a code and why, what was asked for, and by whom
 abbrev pub audit_in : ℕ → Heading → ℕ × Because → Audit
-audit_in asker h v = record { code = v.0; because = v.1; action = action_of h.function; asker = asker }
+audit_in asker h v = record { code = v.0; because = v.1; action = action_of h; asker = asker }
 
 -- the line of an outcome, where there is a verdict
 abbrev pub line_by : SiteRules → ℕ → Heading → Outcome → List ℕ
@@ -37,6 +41,12 @@ line_of rs asker heading r = option_map_or (λ h. line_by rs asker h r) heading 
 -- what is told of what was decided
 abbrev pub outcome_of_finding : Heading → ℕ × Because → Outcome
 outcome_of_finding h found = code_outcome h found.0 found.1
+
+-- what is told of a question about a type, if it is about one, that is refused; of want of memory nothing is told this way
+abbrev pub query_fault_outcome : Heading → Option (List ℕ) → QueryFault → Outcome
+query_fault_outcome h kind Scope = code_outcome h (code_by decider.Scope) (by_step decider.Scope kind)
+query_fault_outcome h kind Language = language_outcome h kind
+query_fault_outcome h kind NoMemory = silence
 
 -- ---- what the code answers
 
@@ -51,14 +61,14 @@ pub record Tells (rs : SiteRules) (asker : ℕ) (heading : Option Heading) (r : 
   pub lined : line ≡ line_of rs asker heading r
   pub sent : code_of what ≡ code_sent r
 
--- the same of a call that asks for something
+-- the same of what is heard
 abbrev pub TellsOf : Reply → Outcome → Sent → List ℕ → List ℕ → Type 0
-TellsOf to r what reply line = Tells to.rules.now to.call.now.asker (Some (heading_in to.header.now)) r what reply line
+TellsOf to r what reply line = Tells to.rules.now to.heard.now.call.now.asker (Some (heading_in to.heard.now.header)) r what reply line
 
--- what was answered to a question that a call asks
+-- what was answered to a question that is heard
 abbrev pub IsQuestionAnswered : Opening → History → Reply → Question → Sent → List ℕ → List ℕ → Type 0
 IsQuestionAnswered o h to posed what reply line =
-    (r : Outcome) × IsAnswerTo o h (call_in to.call.now) (sense_of_question o.site to.call.now.own (heading_in to.header.now) posed) r None × TellsOf to r what reply line
+    (r : Outcome) × IsAnswerTo o h (call_in to.heard.now.call.now) (sense_of_question o.site to.heard.now.call.now.own (heading_in to.heard.now.header) posed) r None × TellsOf to r what reply line
 
 -- what was answered to bytes that change nothing
 pub record Replies (o : Opening) (h : History) (c : Call) (what : Sent) (reply line : List ℕ) : Type 0 where
@@ -72,16 +82,6 @@ pub record Acknowledges (o : Opening) (h : History) (m asker : ℕ) (bytes : Lis
   pub event : Option Event
   pub is : (own limit : ℕ) → IsAnswer o h (record { own = own; moment = m; asker = asker; bytes = bytes; limit = limit }) outcome event
   pub told : Tells (rules o.rules h) asker (heading_of bytes) outcome what reply line
-  pub handed : HandsOut o h change event
-
--- what was answered to a call, and the change that is handed out: none, where the bytes ask for none, and where they ask for one the same whatever loop they came to
-pub record IsCallAnswered (o : Opening) (h : History) (c : Call) (what : Sent) (change : Option Change) (reply line : List ℕ) : Type 0 where
-  pub outcome : Outcome
-  pub event : Option Event
-  pub is : IsAnswer o h c outcome event
-  pub still : is_change_of c.bytes ≡ false → event ≡ None
-  pub anywhere : is_change_of c.bytes ≡ true → (own limit : ℕ) → IsAnswer o h (record { own = own; moment = c.moment; asker = c.asker; bytes = c.bytes; limit = limit }) outcome event
-  pub told : Tells (rules o.rules h) c.asker (heading_of c.bytes) outcome what reply line
   pub handed : HandsOut o h change event
 
 -- what was answered to bytes, and the state after them: that of the history with their change

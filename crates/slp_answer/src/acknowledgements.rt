@@ -15,7 +15,7 @@ ghost use Rattle.slp_answer.specs.Answers.{Acknowledges, TellsOf};
 use crate::answer::{Answer, Sent};
 use crate::replies::Reply;
 use directory_judge::Change;
-use directory_questions::asked_change;
+use directory_questions::{Heard, asked_change};
 use directory_state::Directory;
 use registry_core::Registry;
 use slp_text::NoMemory;
@@ -34,11 +34,11 @@ fn acknowledge_change<R: Registry>(
     requires no_reply { answer.old.bytes.items ≡ [] }
     requires no_line { answer.old.audit.items ≡ [] }
     ensures { (o : Opening) (h : History) → Fold o h directory.now → IsLegal o h
-        → IfOk result (λ p. (v : Judgement) × IsVerdict (standpoint o h reply.now.call.now.moment reply.now.call.now.asker) (message_in change.now) v
-        × TellsOf reply.now (acknowledgement_of (heading_in reply.now.header.now) v) p.0 answer.new.bytes.items answer.new.audit.items
+        → IfOk result (λ p. (v : Judgement) × IsVerdict (standpoint o h reply.now.heard.now.call.now.moment reply.now.heard.now.call.now.asker) (message_in change.now) v
+        × TellsOf reply.now (acknowledgement_of (heading_in reply.now.heard.now.header) v) p.0 answer.new.bytes.items answer.new.audit.items
         × HandsOut o h p.1 (change_in v)) }
 {
-    let call = reply.call;
+    let call = reply.heard.call;
     let decided = directory.judge_change(alloc, call.moment, call.asker, change)?;
     let told = reply.code(decided.finding(), answer);
     let change = decided.change();
@@ -51,23 +51,26 @@ fn acknowledge_change<R: Registry>(
     }
 }
 
-/// Acknowledges a message that asks for a change, and hands out the change where one is accepted. It is
-/// not made yet.
-pub fn acknowledge_request<R: Registry>(
+/// Acknowledges a message that asks for a change, into an answer that is empty, and hands out the change where one is accepted. It is
+/// not made yet. After `NoMemory` the answer may hold anything.
+pub fn acknowledge_heard<R: Registry>(
     alloc: Global,
     directory: &Directory<R>,
-    reply: &Reply<'_>,
+    heard: &Heard<'_>,
     answer: &mut Answer,
 ) -> Result<(Sent, Option<Change>), NoMemory>
-    requires change { is_change_function (function_in reply.now.request) ≡ true }
-    requires ruled { reply.now.rules.now ≡ directory.now.rules }
+    requires change { is_change_function (function_in heard.now.request) ≡ true }
     requires no_reply { answer.old.bytes.items ≡ [] }
     requires no_line { answer.old.audit.items ≡ [] }
     ensures { (o : Opening) (h : History) → Fold o h directory.now → IsLegal o h
-        → IfOk result (λ p. Acknowledges o h reply.now.call.now.moment reply.now.call.now.asker reply.now.call.now.bytes.now p.0 p.1 answer.new.bytes.items answer.new.audit.items) }
+        → IfOk result (λ p. Acknowledges o h heard.now.call.now.moment heard.now.call.now.asker heard.now.call.now.bytes.now p.0 p.1 answer.new.bytes.items answer.new.audit.items) }
 {
-    match asked_change(reply.header, reply.call.bytes)? {
-        Ok(change) => acknowledge_change(alloc, directory, reply, &change, answer),
+    let reply = Reply {
+        rules: directory.rules(),
+        heard,
+    };
+    match asked_change(heard)? {
+        Ok(change) => acknowledge_change(alloc, directory, &reply, &change, answer),
         Err(fault) => {
             let sent = reply.fault(fault, answer)?;
             Ok((sent, None))

@@ -28,7 +28,7 @@ use std::alloc::Global;
 impl Reply<'_> {
     // The advert of a site, in answer to who came to an address.
     fn advert_in(&self, alloc: Global, site: &Site, own: Addr) -> Result<Message, NoMemory>
-        ensures is { IfOk result (λ m. m ≡ advert_of site.now own (heading_in self.now.header.now)) }
+        ensures is { IfOk result (λ m. m ≡ advert_of site.now own (heading_in self.now.heard.now.header)) }
         ensures short { IfOk result (λ m. length (plain_bytes m) ≤ 65535) }
     {
         let url = format!(in alloc; "service:directory-agent://{own}")?;
@@ -55,10 +55,10 @@ impl Reply<'_> {
     ) -> Result<Sent, NoMemory>
         requires no_reply { answer.old.bytes.items ≡ [] }
         requires no_line { answer.old.audit.items ≡ [] }
-        ensures { let head = heading_in self.now.header.now in
-            IfOk result (λ what. TellsOf self.now (outcome (sent_of head 0 false (plain_bytes (advert_of site.now self.now.call.now.own head))) 0 (by_step decider.Nobody (Some kind.now))) what answer.new.bytes.items answer.new.audit.items) }
+        ensures { let head = heading_in self.now.heard.now.header in
+            IfOk result (λ what. TellsOf self.now (outcome (sent_of head 0 false (plain_bytes (advert_of site.now self.now.heard.now.call.now.own head))) 0 (by_step decider.Nobody (Some kind.now))) what answer.new.bytes.items answer.new.audit.items) }
     {
-        let message = self.advert_in(alloc, site, self.call.own)?;
+        let message = self.advert_in(alloc, site, self.heard.call.own)?;
         let sent = self.message(Some(kind), &message, answer);
         drop(message);
         sent

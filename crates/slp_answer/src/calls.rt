@@ -1,82 +1,22 @@
-//! What comes of a call: the reply, its line, and the change that it asks for.
+//! What comes of bytes: the reply, their line, and the change that they ask for.
 ghost use Rattle.std.specs.Prelude.{◌≡◌, ◌≤◌, [], true, false, IfOk, OnErr};
 ghost use Rattle.directory_judge.specs.History.{History};
 ghost use Rattle.directory_questions.specs.Answers.{is_change_of};
 ghost use Rattle.directory_questions.specs.Calls.{Opening, call_in};
 ghost use Rattle.directory_questions.specs.Verdicts.{IsLegal};
 ghost use Rattle.directory_state.specs.Folds.{Fold};
-ghost use Rattle.slp_answer.specs.Answers.{Acknowledges, IsCallAnswered, Replies, Steps};
+ghost use Rattle.slp_answer.specs.Answers.{Acknowledges, Replies, Steps};
 
-use crate::acknowledgements::acknowledge_request;
-use crate::answer::{Answer, Sent};
-use crate::questions::answer_request;
-use crate::replies::Reply;
+use crate::acknowledgements::acknowledge_heard;
+use crate::answer::{Answer, Sent, told_whole};
+use crate::questions::answer_heard;
 use access_rules::Addr;
 use directory_judge::Change;
-use directory_questions::{Call, Request};
+use directory_questions::{Call, Heard};
 use directory_state::Directory;
 use registry_core::Registry;
 use slp_text::NoMemory;
-use slp_wire::read_header;
 use std::alloc::Global;
-
-// Answers a call into an answer that is empty, and hands out the change where one is accepted. Where no header is readable, or
-// the function is none that is answered, it stays empty.
-fn answer_into<R: Registry>(
-    alloc: Global,
-    directory: &Directory<R>,
-    call: &Call<'_>,
-    answer: &mut Answer,
-) -> Result<(Sent, Option<Change>), NoMemory>
-    requires datagram { 1400 ≤ call.now.limit }
-    requires stream { call.now.limit ≤ 65535 }
-    requires no_reply { answer.old.bytes.items ≡ [] }
-    requires no_line { answer.old.audit.items ≡ [] }
-    ensures { (o : Opening) (h : History) → Fold o h directory.now → IsLegal o h
-        → IfOk result (λ p. IsCallAnswered o h (call_in call.now) p.0 p.1 answer.new.bytes.items answer.new.audit.items) }
-{
-    let Some(header) = read_header(call.bytes) else {
-        return Ok((Sent::Silence, None));
-    };
-    let Some(request) = Request::of(header.function) else {
-        return Ok((Sent::Silence, None));
-    };
-    let reply = Reply {
-        rules: directory.rules(),
-        call,
-        header: &header,
-        request,
-    };
-    if request.is_change() {
-        return acknowledge_request(alloc, directory, &reply, answer);
-    }
-    let sent = answer_request(alloc, directory, &reply, answer)?;
-    Ok((sent, None))
-}
-
-// The same, into an answer that may hold another.
-fn answer_call<R: Registry>(
-    alloc: Global,
-    directory: &Directory<R>,
-    call: &Call<'_>,
-    answer: &mut Answer,
-) -> Result<(Sent, Option<Change>), NoMemory>
-    requires datagram { 1400 ≤ call.now.limit }
-    requires stream { call.now.limit ≤ 65535 }
-    ensures told { (o : Opening) (h : History) → Fold o h directory.now → IsLegal o h
-        → IfOk result (λ p. IsCallAnswered o h (call_in call.now) p.0 p.1 answer.new.bytes.items answer.new.audit.items) }
-    ensures no_reply { OnErr result (answer.new.bytes.items ≡ []) }
-    ensures no_line { OnErr result (answer.new.audit.items ≡ []) }
-{
-    answer.clear();
-    match answer_into(alloc, directory, call, answer) {
-        Ok(told) => Ok(told),
-        Err(fault) => {
-            answer.clear();
-            Err(fault)
-        }
-    }
-}
 
 /// The step of an agent: answers bytes, and makes the change that they ask for where it is accepted.
 /// `NoMemory` changes nothing, and leaves the answer empty.
@@ -94,7 +34,16 @@ pub fn step<R: Registry>(
     ensures no_reply { OnErr result (answer.new.bytes.items ≡ []) }
     ensures no_line { OnErr result (answer.new.audit.items ≡ []) }
 {
-    let (sent, change) = answer_call(alloc, directory, call, answer)?;
+    answer.clear();
+    let Some(heard) = Heard::of(call) else {
+        return Ok(Sent::Silence);
+    };
+    if !heard.request.is_change() {
+        let told = answer_heard(alloc, directory, &heard, answer);
+        return told_whole(told, answer);
+    }
+    let told = acknowledge_heard(alloc, directory, &heard, answer);
+    let (sent, change) = told_whole(told, answer)?;
     if let Some(change) = change {
         directory.apply(change);
     }
@@ -128,9 +77,12 @@ pub fn reply<R: Registry>(
         bytes,
         limit,
     };
-    let (sent, change) = answer_call(alloc, directory, &call, answer)?;
-    drop(change);
-    Ok(sent)
+    answer.clear();
+    let Some(heard) = Heard::of(&call) else {
+        return Ok(Sent::Silence);
+    };
+    let told = answer_heard(alloc, directory, &heard, answer);
+    told_whole(told, answer)
 }
 
 /// Acknowledges bytes that ask for a change, and hands out the change where one is accepted. It is
@@ -149,13 +101,11 @@ pub fn acknowledge<R: Registry>(
     ensures no_reply { OnErr result (answer.new.bytes.items ≡ []) }
     ensures no_line { OnErr result (answer.new.audit.items ≡ []) }
 {
-    // An acknowledgement is the same at whatever address, and fits everywhere.
-    let call = Call {
-        own: Addr(0),
-        moment,
-        asker,
-        bytes,
-        limit: 1_400,
+    let call = Call::anywhere(moment, asker, bytes);
+    answer.clear();
+    let Some(heard) = Heard::of(&call) else {
+        unreachable!();
     };
-    answer_call(alloc, directory, &call, answer)
+    let told = acknowledge_heard(alloc, directory, &heard, answer);
+    told_whole(told, answer)
 }

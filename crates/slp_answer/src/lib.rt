@@ -16,9 +16,11 @@ mod text_listing;
 mod text_replies;
 mod texts;
 
-pub use answer::{Answer, Sent};
+pub use acknowledgements::acknowledge_heard;
+pub use answer::{Answer, Sent, told_whole};
 pub use calls::{acknowledge, reply, step};
 pub use copies::{Audit, audit_line};
-pub use directory_questions::{Call, is_change};
-pub use refusals::{ShortReply, refusal, refused_line, refused_reply};
+pub use directory_questions::{Call, Heard, is_change};
+pub use questions::answer_heard;
+pub use refusals::{ShortReply, refusal, refused_line, refused_line_of, refused_reply};
 pub use sink::ShortLine;

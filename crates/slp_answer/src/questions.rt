@@ -22,7 +22,7 @@ use crate::listing::{put_found, room_in};
 use crate::replies::{Reply, is_unsent};
 use crate::text_replies::{answer_attributes, answer_types};
 use directory_judge::{Decider, Finding};
-use directory_questions::{QueryFault, Question, ServiceQuery, asked};
+use directory_questions::{Heard, Question, ServiceQuery, asked};
 use directory_state::{Directory, FoundItems};
 use registry_core::Registry;
 use service_url::ServiceType;
@@ -40,17 +40,17 @@ fn is_nothing(found: &FoundItems<'_>) -> bool
 impl Reply<'_> {
     // Writes the services that were found, where a reply is sent.
     fn put_services(&self, found: &FoundItems<'_>, bytes: &mut Vec<u8>) -> Result<Sent, NoMemory>
-        requires short { length (plain_bytes (service_reply (heading_in self.now.header.now) found.now.is_cut (items_in found.now))) ≤ 65535 }
+        requires short { length (plain_bytes (service_reply (heading_in self.now.heard.now.header) found.now.is_cut (items_in found.now))) ≤ 65535 }
         requires no_reply { bytes.old.items ≡ [] }
         ensures bytes { let is_empty = length (items_in found.now) == 0 && not found.now.is_cut in
-            IfOk result (λ _. bytes.new.items ≡ sent_of (heading_in self.now.header.now) 0 is_empty (plain_bytes (service_reply (heading_in self.now.header.now) found.now.is_cut (items_in found.now)))) }
+            IfOk result (λ _. bytes.new.items ≡ sent_of (heading_in self.now.heard.now.header) 0 is_empty (plain_bytes (service_reply (heading_in self.now.heard.now.header) found.now.is_cut (items_in found.now)))) }
         ensures sent { let is_empty = length (items_in found.now) == 0 && not found.now.is_cut in
-            IfOk result (λ what. what ≡ (if is_to_many (heading_in self.now.header.now) && (not (0 == 0) || is_empty) then sent.Silence else sent.Bytes 0)) }
+            IfOk result (λ what. what ≡ (if is_to_many (heading_in self.now.heard.now.header) && (not (0 == 0) || is_empty) then sent.Silence else sent.Bytes 0)) }
     {
-        if is_unsent(self.header, self.request, code::OK, is_nothing(found)) {
+        if is_unsent(self.heard, code::OK, is_nothing(found)) {
             return Ok(Sent::Silence);
         }
-        put_found(self.header, found, bytes)?;
+        put_found(&self.heard.header, found, bytes)?;
         Ok(Sent::Bytes(code::OK))
     }
 
@@ -61,10 +61,10 @@ impl Reply<'_> {
         found: &FoundItems<'_>,
         answer: &mut Answer,
     ) -> Result<Sent, NoMemory>
-        requires short { length (plain_bytes (service_reply (heading_in self.now.header.now) found.now.is_cut (items_in found.now))) ≤ 65535 }
+        requires short { length (plain_bytes (service_reply (heading_in self.now.heard.now.header) found.now.is_cut (items_in found.now))) ≤ 65535 }
         requires no_reply { answer.old.bytes.items ≡ [] }
         requires no_line { answer.old.audit.items ≡ [] }
-        ensures { let head = heading_in self.now.header.now in
+        ensures { let head = heading_in self.now.heard.now.header in
             let whole = plain_bytes (service_reply head found.now.is_cut (items_in found.now)) in
             let is_empty = length (items_in found.now) == 0 && not found.now.is_cut in
             IfOk result (λ what. TellsOf self.now (outcome (sent_of head 0 is_empty whole) 0 (by_step decider.Nobody (Some kind.now))) what answer.new.bytes.items answer.new.audit.items) }
@@ -84,23 +84,17 @@ fn answer_services<R: Registry>(
     query: &ServiceQuery,
     answer: &mut Answer,
 ) -> Result<Sent, NoMemory>
-    requires datagram { 1400 ≤ reply.now.call.now.limit }
-    requires stream { reply.now.call.now.limit ≤ 65535 }
     requires no_reply { answer.old.bytes.items ≡ [] }
     requires no_line { answer.old.audit.items ≡ [] }
     ensures { (o : Opening) (h : History) → Fold o h directory.now → IsLegal o h
         → IfOk result (λ what. IsQuestionAnswered o h reply.now (question.Services query.now) what answer.new.bytes.items answer.new.audit.items) }
 {
-    let call = reply.call;
-    let room = room_in(reply.header, call.limit);
+    let call = reply.heard.call;
+    let room = room_in(&reply.heard.header, call.limit);
     let kind = &query.kind;
     match directory.find(alloc, call.moment, call.asker, query, room) {
         Ok(found) => reply.services(kind, &found, answer),
-        Err(QueryFault::Scope) => reply.code(Finding::by(Decider::Scope, Some(kind)), answer),
-        Err(QueryFault::Language) => {
-            reply.code(Finding::by(Decider::Language, Some(kind)), answer)
-        }
-        Err(QueryFault::NoMemory) => Err(NoMemory),
+        Err(fault) => reply.query_fault(fault, Some(kind), answer),
     }
 }
 
@@ -112,8 +106,6 @@ fn answer_question<R: Registry>(
     posed: &Question,
     answer: &mut Answer,
 ) -> Result<Sent, NoMemory>
-    requires datagram { 1400 ≤ reply.now.call.now.limit }
-    requires stream { reply.now.call.now.limit ≤ 65535 }
     requires no_reply { answer.old.bytes.items ≡ [] }
     requires no_line { answer.old.audit.items ≡ [] }
     ensures { (o : Opening) (h : History) → Fold o h directory.now → IsLegal o h
@@ -129,26 +121,26 @@ fn answer_question<R: Registry>(
     }
 }
 
-/// Answers a message that asks a question.
-pub fn answer_request<R: Registry>(
+/// Answers a question, into an answer that is empty. After `NoMemory` that may hold anything.
+pub fn answer_heard<R: Registry>(
     alloc: Global,
     directory: &Directory<R>,
-    reply: &Reply<'_>,
+    heard: &Heard<'_>,
     answer: &mut Answer,
 ) -> Result<Sent, NoMemory>
-    requires question { is_change_function (function_in reply.now.request) ≡ false }
-    requires ruled { reply.now.rules.now ≡ directory.now.rules }
-    requires datagram { 1400 ≤ reply.now.call.now.limit }
-    requires stream { reply.now.call.now.limit ≤ 65535 }
+    requires question { is_change_function (function_in heard.now.request) ≡ false }
     requires no_reply { answer.old.bytes.items ≡ [] }
     requires no_line { answer.old.audit.items ≡ [] }
     ensures { (o : Opening) (h : History) → Fold o h directory.now → IsLegal o h
-        → IfOk result (λ what. Replies o h (call_in reply.now.call.now) what answer.new.bytes.items answer.new.audit.items) }
+        → IfOk result (λ what. Replies o h (call_in heard.now.call.now) what answer.new.bytes.items answer.new.audit.items) }
 {
-    let call = reply.call;
-    match asked(alloc, call.own, reply.header, call.bytes)? {
+    let reply = Reply {
+        rules: directory.rules(),
+        heard,
+    };
+    match asked(alloc, heard)? {
         Ok(question) => {
-            let told = answer_question(alloc, directory, reply, &question, answer);
+            let told = answer_question(alloc, directory, &reply, &question, answer);
             drop(question);
             told
         }

@@ -6,7 +6,6 @@ ghost use Rattle.directory_judge.specs.Judgements.{by_step};
 ghost use Rattle.directory_judge.specs.declared.reason.Decider.TheVariants.{Memory};
 ghost use Rattle.slp_answer.specs.Audits.{audit_text};
 ghost use Rattle.directory_questions.specs.Outcomes.{refusal_outcome};
-ghost use Rattle.directory_questions.specs.Requests.{function_in};
 ghost use Rattle.slp_answer.specs.Answers.{line_of};
 
 use crate::audit::{AuditView, write_line};
@@ -14,20 +13,19 @@ use crate::replies::is_unsent;
 use crate::sink::ShortLine;
 use access_rules::{Action, Addr};
 use directory_judge::{Decider, Reason};
-use directory_questions::Request;
-use slp_wire::{HeaderView, code, error_reply, read_header};
+use directory_questions::{Call, Heard};
+use slp_wire::{code, error_reply};
 
 // Writes a reply of code 10, where one is sent.
-fn put_reply(header: &HeaderView<'_>, request: Request, reply: &mut [u8; 80]) -> usize
-    requires { function_in request ≡ header.now.function }
-    ensures bytes { take result reply.new ≡ (refusal_outcome (Some (heading_in header.now))).reply }
+fn put_reply(heard: &Heard<'_>, reply: &mut [u8; 80]) -> usize
+    ensures bytes { take result reply.new ≡ (refusal_outcome (Some (heading_in heard.now.header))).reply }
     ensures room { result ≤ 80 }
 {
-    if is_unsent(header, request, code::INTERNAL_ERROR, false) {
+    if is_unsent(heard, code::INTERNAL_ERROR, false) {
         return 0;
     }
-    let function = request.reply_function();
-    error_reply(header, function, code::INTERNAL_ERROR, reply)
+    let function = heard.request.reply_function();
+    error_reply(&heard.header, function, code::INTERNAL_ERROR, reply)
 }
 
 // Writes the line of a message that found no memory.
@@ -69,42 +67,47 @@ impl ShortReply {
     }
 }
 
-/// The reply to a message that found no memory, with code 10. It is empty where the header is not readable, where the function
-/// is none that is answered, and where a request was sent to many. Takes no memory.
-pub fn refused_reply(bytes: &[u8]) -> ShortReply
-    ensures { take result.end result.bytes ≡ (refusal_outcome (heading_of bytes.now)).reply }
+// The reply to a message that found no memory, with code 10. It is empty where a question was sent to many. Takes no memory.
+fn refused_reply_to(heard: &Heard<'_>) -> ShortReply
+    ensures { take result.end result.bytes ≡ (refusal_outcome (heading_of heard.now.call.now.bytes.now)).reply }
 {
     let mut reply = [0; 80];
-    let Some(header) = read_header(bytes) else {
-        return ShortReply {
-            bytes: reply,
-            end: 0,
-        };
-    };
-    let Some(request) = Request::of(header.function) else {
-        return ShortReply {
-            bytes: reply,
-            end: 0,
-        };
-    };
-    let end = put_reply(&header, request, &mut reply);
+    let end = put_reply(heard, &mut reply);
     ShortReply { bytes: reply, end }
 }
 
-/// The audit line of a message that found no memory. It is empty where the header is not readable, and where the function is
+/// The audit line of a message that found no memory. Takes no memory.
+pub fn refused_line_of(heard: &Heard<'_>) -> ShortLine
+    ensures { result.bytes ≡ line_of no_rules heard.now.call.now.asker (heading_of heard.now.call.now.bytes.now) (refusal_outcome (heading_of heard.now.call.now.bytes.now)) }
+{
+    let mut told = ShortLine::new();
+    put_refusal(&mut told, heard.action(), heard.call.asker);
+    told
+}
+
+/// What is replied to bytes that found no memory. It is empty where the header is not readable, and where the function
+/// is none that is answered. Takes no memory.
+pub fn refused_reply(bytes: &[u8]) -> ShortReply
+    ensures { take result.end result.bytes ≡ (refusal_outcome (heading_of bytes.now)).reply }
+{
+    match Heard::of(&Call::anywhere(0, Addr(0), bytes)) {
+        Some(heard) => refused_reply_to(&heard),
+        None => ShortReply {
+            bytes: [0; 80],
+            end: 0,
+        },
+    }
+}
+
+/// The audit line of bytes that found no memory. It is empty where the header is not readable, and where the function is
 /// none that is answered. Takes no memory.
 pub fn refused_line(bytes: &[u8], asker: Addr) -> ShortLine
     ensures { result.bytes ≡ line_of no_rules asker (heading_of bytes.now) (refusal_outcome (heading_of bytes.now)) }
 {
-    let mut told = ShortLine::new();
-    let Some(header) = read_header(bytes) else {
-        return told;
-    };
-    let Some(request) = Request::of(header.function) else {
-        return told;
-    };
-    put_refusal(&mut told, request.action(), asker);
-    told
+    match Heard::of(&Call::anywhere(0, asker, bytes)) {
+        Some(heard) => refused_line_of(&heard),
+        None => ShortLine::new(),
+    }
 }
 
 /// Both, for who sends and tells at one place: what is written, with the number of bytes of each.

@@ -1,47 +1,39 @@
 //! One reply and the line that tells of it: a code alone, a message, or what is written already.
 ghost use Rattle.std.specs.Prelude.{◌≡◌, ◌≢◌, ◌≤◌, ◌==◌, ◌&&◌, ◌||◌, [], false, not, length, IfOk, Some, if◌then◌else◌};
 ghost use Rattle.std.specs.Option.{option_copied};
-ghost use Rattle.slp_headers.specs.Headers.{heading_in, heading_of, refusal_bytes};
+ghost use Rattle.slp_headers.specs.Headers.{heading_in, refusal_bytes};
 ghost use Rattle.slp_wire.specs.Spelling.{plain_bytes};
 ghost use Rattle.directory_judge.specs.Judgements.{because_of, by_step, finding_of};
 ghost use Rattle.directory_judge.specs.declared.reason.Decider.TheVariants as decider;
 ghost use Rattle.directory_questions.specs.Answers.{advert_code};
 ghost use Rattle.directory_questions.specs.Cuts as spec;
 ghost use Rattle.directory_questions.specs.Outcomes.{is_to_many, outcome, sent_of, code_outcome, code_outcome_as, fault_outcome};
-ghost use Rattle.directory_questions.specs.Requests.{function_in};
 ghost use Rattle.slp_answer.specs.declared.answer.Sent.TheVariants as sent;
 
 use crate::answer::{Answer, Sent};
 use crate::audit::{AuditView, put_line};
 use access_rules::Rules;
 use directory_judge::{Decider, Finding};
-use directory_questions::{Call, Request, decider_of};
+use directory_questions::{Heard, QueryFault, decider_of};
 use service_url::ServiceType;
 use slp_text::NoMemory;
-use slp_wire::{
-    Flags, Header, HeaderView, Message, Tag, WireFault, code, encode, error_reply, flag, function,
-};
+use slp_wire::{Flags, Header, Message, Tag, WireFault, code, encode, error_reply, flag, function};
 use std::alloc::Global;
 
-/// A call that asks for something, with its header and the rules whose names its line may tell. What is
-/// written of a reply and of its line goes into an answer.
+/// What is heard, with the rules whose names its line may tell. What is written of a reply and of its line goes
+/// into an answer.
 #[derive(Clone, Copy)]
 pub struct Reply<'a> {
     pub rules: &'a Rules,
-    pub call: &'a Call<'a>,
-    pub header: &'a HeaderView<'a>,
-    pub request: Request,
-    ghost headed: { heading_of call.now.bytes.now ≡ Some (heading_in header.now) },
-    ghost asked: { function_in request ≡ header.now.function },
+    pub heard: &'a Heard<'a>,
 }
 
 /// Whether a reply with a code, which may have nothing in it, is not sent: a question that was sent to
 /// many gets no error and nothing empty (RFC 2608, section 7).
-pub fn is_unsent(header: &HeaderView<'_>, request: Request, code: u16, is_empty: bool) -> bool
-    requires { function_in request ≡ header.now.function }
-    ensures { result ≡ (is_to_many (heading_in header.now) && (not (code == 0) || is_empty)) }
+pub fn is_unsent(heard: &Heard<'_>, code: u16, is_empty: bool) -> bool
+    ensures { result ≡ (is_to_many (heading_in heard.now.header) && (not (code == 0) || is_empty)) }
 {
-    let is_to_many = header.flags & flag::MULTICAST != 0 && request.is_question();
+    let is_to_many = heard.header.flags & flag::MULTICAST != 0 && heard.request.is_question();
     is_to_many && (code != code::OK || is_empty)
 }
 
@@ -60,20 +52,22 @@ fn put_message(message: &Message, bytes: &mut Vec<u8>) -> Result<(), NoMemory>
 
 impl Reply<'_> {
     ghost use Rattle.slp_answer.specs.Audits.{audit_text};
-    ghost use Rattle.slp_answer.specs.Answers.{audit_in, TellsOf};
+    ghost use Rattle.directory_questions.specs.declared.query.QueryFault.TheVariants as query_fault;
+    ghost use Rattle.slp_answer.specs.Answers.{audit_in, query_fault_outcome, TellsOf};
 
     /// The header of a reply.
     pub fn head(&self, alloc: Global, is_cut: bool) -> Result<Header, NoMemory>
-        ensures { IfOk result (λ h. h ≡ spec.reply_header (heading_in self.now.header.now) is_cut) }
+        ensures { IfOk result (λ h. h ≡ spec.reply_header (heading_in self.now.heard.now.header) is_cut) }
     {
-        let language = Tag::new(alloc, self.header.language)?;
+        let heard = self.heard;
+        let language = Tag::new(alloc, heard.header.language)?;
         Ok(Header {
             flags: Flags {
                 overflow: is_cut,
                 fresh: false,
                 multicast: false,
             },
-            xid: self.header.xid,
+            xid: heard.header.xid,
             language,
         })
     }
@@ -81,14 +75,14 @@ impl Reply<'_> {
     /// Tells of what was found.
     pub fn tell(&self, finding: Finding<'_>, line: &mut Vec<u8>) -> Result<(), NoMemory>
         requires { line.old.items ≡ [] }
-        ensures { IfOk result (λ _. line.new.items ≡ audit_text self.now.rules.now (audit_in self.now.call.now.asker (heading_in self.now.header.now) (finding_of finding.entry))) }
+        ensures { IfOk result (λ _. line.new.items ≡ audit_text self.now.rules.now (audit_in self.now.heard.now.call.now.asker (heading_in self.now.heard.now.header) (finding_of finding.entry))) }
     {
         let Finding { code, reason } = finding;
         let audit = AuditView {
             code,
             reason,
-            action: self.request.action(),
-            asker: self.call.asker,
+            action: self.heard.action(),
+            asker: self.heard.call.asker,
         };
         put_line(self.rules, &audit, line)
     }
@@ -96,14 +90,14 @@ impl Reply<'_> {
     // Writes a reply of a function that is a code alone, where one is sent.
     fn put_code(&self, function: u8, code: u16, bytes: &mut Vec<u8>) -> Result<Sent, NoMemory>
         requires { bytes.old.items ≡ [] }
-        ensures bytes { IfOk result (λ _. bytes.new.items ≡ sent_of (heading_in self.now.header.now) code false (refusal_bytes function code self.now.header.now.xid self.now.header.now.language.now)) }
-        ensures sent { IfOk result (λ what. what ≡ (if is_to_many (heading_in self.now.header.now) && not (code == 0) then sent.Silence else sent.Bytes code)) }
+        ensures bytes { IfOk result (λ _. bytes.new.items ≡ sent_of (heading_in self.now.heard.now.header) code false (refusal_bytes function code self.now.heard.now.header.xid self.now.heard.now.header.language.now)) }
+        ensures sent { IfOk result (λ what. what ≡ (if is_to_many (heading_in self.now.heard.now.header) && not (code == 0) then sent.Silence else sent.Bytes code)) }
     {
-        if is_unsent(self.header, self.request, code, false) {
+        if is_unsent(self.heard, code, false) {
             return Ok(Sent::Silence);
         }
         let mut reply = [0u8; 80];
-        let length = error_reply(self.header, function, code, &mut reply);
+        let length = error_reply(&self.heard.header, function, code, &mut reply);
         bytes.extend_from_slice(&reply[..length])?;
         Ok(Sent::Bytes(code))
     }
@@ -117,7 +111,7 @@ impl Reply<'_> {
     ) -> Result<Sent, NoMemory>
         requires no_reply { answer.old.bytes.items ≡ [] }
         requires no_line { answer.old.audit.items ≡ [] }
-        ensures { IfOk result (λ what. TellsOf self.now (code_outcome_as (heading_in self.now.header.now) finding.entry.code (because_of finding.entry.reason) function) what answer.new.bytes.items answer.new.audit.items) }
+        ensures { IfOk result (λ what. TellsOf self.now (code_outcome_as (heading_in self.now.heard.now.header) finding.entry.code (because_of finding.entry.reason) function) what answer.new.bytes.items answer.new.audit.items) }
     {
         let sent = self.put_code(function, finding.code, &mut answer.bytes)?;
         self.tell(finding, &mut answer.audit)?;
@@ -128,16 +122,16 @@ impl Reply<'_> {
     pub fn code(&self, finding: Finding<'_>, answer: &mut Answer) -> Result<Sent, NoMemory>
         requires no_reply { answer.old.bytes.items ≡ [] }
         requires no_line { answer.old.audit.items ≡ [] }
-        ensures { IfOk result (λ what. TellsOf self.now (code_outcome (heading_in self.now.header.now) finding.entry.code (because_of finding.entry.reason)) what answer.new.bytes.items answer.new.audit.items) }
+        ensures { IfOk result (λ what. TellsOf self.now (code_outcome (heading_in self.now.heard.now.header) finding.entry.code (because_of finding.entry.reason)) what answer.new.bytes.items answer.new.audit.items) }
     {
-        self.code_as(self.request.reply_function(), finding, answer)
+        self.code_as(self.heard.request.reply_function(), finding, answer)
     }
 
     /// Answers who asks for directory agents with a code alone: an advert stands for it.
     pub fn advert_code(&self, finding: Finding<'_>, answer: &mut Answer) -> Result<Sent, NoMemory>
         requires no_reply { answer.old.bytes.items ≡ [] }
         requires no_line { answer.old.audit.items ≡ [] }
-        ensures { IfOk result (λ what. TellsOf self.now (advert_code (heading_in self.now.header.now) finding.entry.code (because_of finding.entry.reason)) what answer.new.bytes.items answer.new.audit.items) }
+        ensures { IfOk result (λ what. TellsOf self.now (advert_code (heading_in self.now.heard.now.header) finding.entry.code (because_of finding.entry.reason)) what answer.new.bytes.items answer.new.audit.items) }
     {
         self.code_as(function::DIRECTORY_ADVERT, finding, answer)
     }
@@ -147,7 +141,7 @@ impl Reply<'_> {
     pub fn fault(&self, fault: WireFault, answer: &mut Answer) -> Result<Sent, NoMemory>
         requires no_reply { answer.old.bytes.items ≡ [] }
         requires no_line { answer.old.audit.items ≡ [] }
-        ensures { IfOk result (λ what. TellsOf self.now (fault_outcome (heading_in self.now.header.now) fault) what answer.new.bytes.items answer.new.audit.items) }
+        ensures { IfOk result (λ what. TellsOf self.now (fault_outcome (heading_in self.now.heard.now.header) fault) what answer.new.bytes.items answer.new.audit.items) }
     {
         match decider_of(fault) {
             Some(decider) => self.code(Finding::by(decider, None), answer),
@@ -155,12 +149,30 @@ impl Reply<'_> {
         }
     }
 
+    /// Answers a question that is refused, about a type, if it is about one: no scope of it is supported, or nothing is in its language.
+    pub fn query_fault(
+        &self,
+        fault: QueryFault,
+        kind: Option<&ServiceType>,
+        answer: &mut Answer,
+    ) -> Result<Sent, NoMemory>
+        requires no_reply { answer.old.bytes.items ≡ [] }
+        requires no_line { answer.old.audit.items ≡ [] }
+        ensures { IfOk result (λ what. (fault ≢ query_fault.NoMemory) × TellsOf self.now (query_fault_outcome (heading_in self.now.heard.now.header) (option_copied kind.entry) fault) what answer.new.bytes.items answer.new.audit.items) }
+    {
+        match fault {
+            QueryFault::Scope => self.code(Finding::by(Decider::Scope, kind), answer),
+            QueryFault::Language => self.code(Finding::by(Decider::Language, kind), answer),
+            QueryFault::NoMemory => Err(NoMemory),
+        }
+    }
+
     // What is sent of a reply that is written: nothing, where it has nothing in it and was asked of many.
     fn keep(&self, is_empty: bool, bytes: &mut Vec<u8>) -> Sent
-        ensures bytes { bytes.new.items ≡ sent_of (heading_in self.now.header.now) 0 is_empty bytes.old.items }
-        ensures sent { result ≡ (if is_to_many (heading_in self.now.header.now) && (not (0 == 0) || is_empty) then sent.Silence else sent.Bytes 0) }
+        ensures bytes { bytes.new.items ≡ sent_of (heading_in self.now.heard.now.header) 0 is_empty bytes.old.items }
+        ensures sent { result ≡ (if is_to_many (heading_in self.now.heard.now.header) && (not (0 == 0) || is_empty) then sent.Silence else sent.Bytes 0) }
     {
-        if is_unsent(self.header, self.request, code::OK, is_empty) {
+        if is_unsent(self.heard, code::OK, is_empty) {
             bytes.clear();
             return Sent::Silence;
         }
@@ -177,7 +189,7 @@ impl Reply<'_> {
     ) -> Result<Sent, NoMemory>
         requires written { answer.old.bytes.items ≢ [] }
         requires no_line { answer.old.audit.items ≡ [] }
-        ensures { let head = heading_in self.now.header.now in
+        ensures { let head = heading_in self.now.heard.now.header in
             IfOk result (λ what. TellsOf self.now (outcome (sent_of head 0 is_empty answer.old.bytes.items) 0 (by_step decider.Nobody (option_copied kind.entry))) what answer.new.bytes.items answer.new.audit.items) }
     {
         let sent = self.keep(is_empty, &mut answer.bytes);
@@ -195,7 +207,7 @@ impl Reply<'_> {
         requires short { length (plain_bytes message.now) ≤ 65535 }
         requires no_reply { answer.old.bytes.items ≡ [] }
         requires no_line { answer.old.audit.items ≡ [] }
-        ensures { let head = heading_in self.now.header.now in
+        ensures { let head = heading_in self.now.heard.now.header in
             IfOk result (λ what. TellsOf self.now (outcome (sent_of head 0 false (plain_bytes message.now)) 0 (by_step decider.Nobody (option_copied kind.entry))) what answer.new.bytes.items answer.new.audit.items) }
     {
         put_message(message, &mut answer.bytes)?;

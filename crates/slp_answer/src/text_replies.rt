@@ -1,5 +1,5 @@
 //! Replies with a list of texts: to attribute requests and to type requests (RFC 2608, sections 10.2 and 10.4).
-ghost use Rattle.std.specs.Prelude.{◌≡◌, ◌≤◌, [], IfOk};
+ghost use Rattle.std.specs.Prelude.{◌≡◌, [], IfOk};
 ghost use Rattle.std.specs.Option.{option_copied};
 ghost use Rattle.slp_headers.specs.Headers.{heading_in};
 ghost use Rattle.directory_judge.specs.History.{History};
@@ -18,8 +18,7 @@ use crate::answer::{Answer, Sent};
 use crate::replies::Reply;
 use crate::text_listing::{Form, Listing, put_listed};
 use crate::texts::{AttributeTexts, Texts, TypeTexts};
-use directory_judge::{Decider, Finding};
-use directory_questions::{AttrQuery, QueryFault, TypeQuery};
+use directory_questions::{AttrQuery, TypeQuery};
 use directory_state::Directory;
 use registry_core::Registry;
 use service_url::ServiceType;
@@ -36,17 +35,15 @@ impl Reply<'_> {
         texts: &T,
         answer: &mut Answer,
     ) -> Result<Sent, NoMemory>
-        requires datagram { 1400 ≤ self.now.call.now.limit }
-        requires stream { self.now.call.now.limit ≤ 65535 }
         requires no_reply { answer.old.bytes.items ≡ [] }
         requires no_line { answer.old.audit.items ≡ [] }
-        ensures { let head = heading_in self.now.header.now in
-            IfOk result (λ what. (r : Outcome) × IsCutReply (listed_with form head) self.now.call.now.limit head (by_step decider.Nobody (option_copied kind.entry)) (T.texts texts.now) r
+        ensures { let head = heading_in self.now.heard.now.header in
+            IfOk result (λ what. (r : Outcome) × IsCutReply (listed_with form head) self.now.heard.now.call.now.limit head (by_step decider.Nobody (option_copied kind.entry)) (T.texts texts.now) r
             × TellsOf self.now r what answer.new.bytes.items answer.new.audit.items) }
     {
         let listing = Listing {
-            header: self.header,
-            limit: self.call.limit,
+            header: &self.heard.header,
+            limit: self.heard.call.limit,
             form,
         };
         put_listed(alloc, &listing, texts, &mut answer.bytes)?;
@@ -65,14 +62,12 @@ pub fn answer_attributes<R: Registry>(
     query: &AttrQuery,
     answer: &mut Answer,
 ) -> Result<Sent, NoMemory>
-    requires datagram { 1400 ≤ reply.now.call.now.limit }
-    requires stream { reply.now.call.now.limit ≤ 65535 }
     requires no_reply { answer.old.bytes.items ≡ [] }
     requires no_line { answer.old.audit.items ≡ [] }
     ensures { (o : Opening) (h : History) → Fold o h directory.now → IsLegal o h
         → IfOk result (λ what. IsQuestionAnswered o h reply.now (question.Attributes query.now) what answer.new.bytes.items answer.new.audit.items) }
 {
-    let call = reply.call;
+    let call = reply.heard.call;
     let kind = query.target.kind();
     match directory.find_attributes(alloc, call.moment, call.asker, query) {
         Ok(attributes) => {
@@ -82,9 +77,7 @@ pub fn answer_attributes<R: Registry>(
             };
             reply.texts(alloc, kind, Form::Attributes, &texts, answer)
         }
-        Err(QueryFault::Scope) => reply.code(Finding::by(Decider::Scope, kind), answer),
-        Err(QueryFault::Language) => reply.code(Finding::by(Decider::Language, kind), answer),
-        Err(QueryFault::NoMemory) => Err(NoMemory),
+        Err(fault) => reply.query_fault(fault, kind, answer),
     }
 }
 
@@ -98,21 +91,17 @@ pub fn answer_types<R: Registry>(
     query: &TypeQuery,
     answer: &mut Answer,
 ) -> Result<Sent, NoMemory>
-    requires datagram { 1400 ≤ reply.now.call.now.limit }
-    requires stream { reply.now.call.now.limit ≤ 65535 }
     requires no_reply { answer.old.bytes.items ≡ [] }
     requires no_line { answer.old.audit.items ≡ [] }
     ensures { (o : Opening) (h : History) → Fold o h directory.now → IsLegal o h
         → IfOk result (λ what. IsQuestionAnswered o h reply.now (question.Types query.now) what answer.new.bytes.items answer.new.audit.items) }
 {
-    let call = reply.call;
+    let call = reply.heard.call;
     match directory.find_types(alloc, call.moment, call.asker, query) {
         Ok(entries) => {
             let texts = TypeTexts { entries: &entries };
             reply.texts(alloc, None, Form::Types, &texts, answer)
         }
-        Err(QueryFault::Scope) => reply.code(Finding::by(Decider::Scope, None), answer),
-        Err(QueryFault::Language) => unreachable!(),
-        Err(QueryFault::NoMemory) => Err(NoMemory),
+        Err(fault) => reply.query_fault(fault, None, answer),
     }
 }

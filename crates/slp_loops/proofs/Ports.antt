@@ -1,10 +1,10 @@
 -- What happens at a port, one part after the other.
-use Rattle.std.proofs.Common.{◌≡◌, ◌≤◌, ℕ, ◌+◌, List, [], ◌∷◌, ◌++◌, map, length, Option, Some, None, Result, Ok, Err, refl, sym, ap, ◌∙◌, subst, arith}
+use Rattle.std.proofs.Common.{◌≡◌, ◌≤◌, ℕ, ◌+◌, List, [], ◌∷◌, ◌++◌, map, length, Option, Some, None, Result, Ok, Err, refl, sym, ap, ◌∙◌, subst, arith, inl, inr}
 use Rattle.std.proofs.lemmas.List.{append-nil, append_assoc}
 use Rattle.std.proofs.lemmas.Option.{none-some}
 use Rattle.std.specs.declared.io.Error.{Error}
 use Rattle.slp_loops.specs.Exchanging.{Stopped}
-use Rattle.slp_loops.specs.Ports.{Datagram, Happening, Came, Paused, Left, Ports, Runs, ServedFor, AreAnswered, IsRound, Serves, Says, IsThrough, IsPausedBy, asker_of, owed, pausing, in_all, pause_after, effort}
+use Rattle.slp_loops.specs.Ports.{Datagram, Happening, Came, Paused, Left, Ports, Runs, ServedFor, AreAnswered, IsRound, Serves, Says, GoOnTo, NoPause, IsEnough, IsThrough, IsPausedBy, asker_of, owed, pausing, in_all, pause_after, effort}
 use Rattle.slp_loops.specs.Serving.{Steps, Settles}
 use Rattle.slp_loops.specs.declared.exchange.Rest.{Rest}
 use Rattle.slp_loops.specs.declared.exchange.Rest.TheVariants.{Nothing, More, Later}
@@ -92,7 +92,32 @@ last_is hs e ds = pause_on None (hs ++ Paused e ∷ []) (map Left ds) ∙ (pause
 effort_is : (cs : List Datagram) (pause : Option Error) (ds : List Datagram) → effort ((map Came cs ++ pausing pause) ++ map Left ds) ≡ length cs + effort (pausing pause)
 effort_is cs pause ds = omega (arith, effort_on (map Came cs ++ pausing pause) (map Left ds), effort_on (map Came cs) (pausing pause), effort_came cs, effort_left ds)
 
-paused_is : (cs : List Datagram) (told : Result Rest LoopFault) (e : Error) (ds : List Datagram) → Says e told → IsThrough 16 told ((map Came cs ++ Paused e ∷ []) ++ map Left ds)
+-- parts of which the first went on
+pub go_on : (told : Result Rest LoopFault) (hs gs : List Happening) → GoOnTo (Ok More) hs → GoOnTo told gs → GoOnTo told (hs ++ gs)
+go_on told [] gs first next = next
+go_on told (Came d ∷ hs) gs first next = go_on told hs gs first next
+go_on told (Paused e ∷ hs) gs first next = (inl (elim first.0 [ inl more ↦ more | inr more ↦ more.0 ]), go_on told hs gs first.1 next)
+go_on told (Left d ∷ hs) gs first next = go_on told hs gs first next
+
+came_go_on : (told : Result Rest LoopFault) (cs : List Datagram) → GoOnTo told (map Came cs)
+came_go_on told [] = tt
+came_go_on told (c ∷ cs) = came_go_on told cs
+
+left_go_on : (told : Result Rest LoopFault) (ds : List Datagram) → GoOnTo told (map Left ds)
+left_go_on told [] = tt
+left_go_on told (d ∷ ds) = left_go_on told ds
+
+left_no_pause : (ds : List Datagram) → NoPause (map Left ds)
+left_no_pause [] = tt
+left_no_pause (d ∷ ds) = left_no_pause ds
+
+-- the one pause of a round says what is answered
+paused_goes_on : (cs : List Datagram) (told : Result Rest LoopFault) (e : Error) (ds : List Datagram) → Says e told → GoOnTo told ((map Came cs ++ Paused e ∷ []) ++ map Left ds)
+paused_goes_on cs told e ds is =
+    subst (GoOnTo told) (sym (append_assoc (map Came cs) (Paused e ∷ []) (map Left ds)))
+    (go_on told (map Came cs) (Paused e ∷ map Left ds) (came_go_on (Ok More) cs) (inr (is, left_no_pause ds), left_go_on told ds))
+
+paused_is : (cs : List Datagram) (told : Result Rest LoopFault) (e : Error) (ds : List Datagram) → Says e told → IsEnough 16 told ((map Came cs ++ Paused e ∷ []) ++ map Left ds)
 paused_is cs (Ok More) e ds is = omega (arith, effort_is cs (Some e) ds)
 paused_is cs (Ok Nothing) e ds is = record { error = e; last = last_is (map Came cs) e ds; says = is }
 paused_is cs (Ok Later) e ds is = record { error = e; last = last_is (map Came cs) e ds; says = is }
@@ -102,5 +127,7 @@ pub through : (cs : List Datagram) (count all : ℕ) (told : Result Rest LoopFau
     → IsThrough 16 told ((map Came cs ++ pausing pause) ++ map Left ds)
 through cs count all told None ds len sixteen (whole, is) =
     let most : 16 ≤ effort ((map Came cs ++ []) ++ map Left ds) = omega (arith, effort_is cs None ds, len, sixteen, whole) in
-    subst (λ t. IsThrough 16 t ((map Came cs ++ []) ++ map Left ds)) (sym is) most
-through cs count all told (Some e) ds len sixteen is = paused_is cs told e ds is
+    let on : GoOnTo (Ok More) ((map Came cs ++ []) ++ map Left ds) =
+    go_on (Ok More) (map Came cs ++ []) (map Left ds) (subst (GoOnTo (Ok More)) (sym (append-nil (map Came cs))) (came_go_on (Ok More) cs)) (left_go_on (Ok More) ds) in
+    subst (λ t. IsThrough 16 t ((map Came cs ++ []) ++ map Left ds)) (sym is) (most, on)
+through cs count all told (Some e) ds len sixteen is = (paused_is cs told e ds is, paused_goes_on cs told e ds is)

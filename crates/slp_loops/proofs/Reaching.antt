@@ -1,4 +1,5 @@
 -- What is done by parts to the streams and the server of a loop.
+use Rattle.std.specs.Prelude.{◌⊎◌}
 use Rattle.std.proofs.Common.{◌≡◌, ℕ, List, [], ◌∷◌, ◌++◌, map, Option, refl, sym, ap, ◌∙◌, subst, inl, inr}
 use Rattle.std.proofs.lemmas.Bool.{cases_eq}
 use Rattle.std.proofs.lemmas.List.{append_assoc, map_push}
@@ -7,19 +8,15 @@ use Rattle.mio.specs.Event.{event_token}
 use Rattle.mio.specs.declared.event.event.Event.{Event}
 use Rattle.mio.specs.declared.token.Token.{Token}
 use Rattle.slp_loops.specs.Holding.{Seat}
-use Rattle.slp_loops.specs.Ports.{Happening, Serves}
+use Rattle.slp_loops.specs.Ports.{ServesAll}
 use Rattle.slp_loops.specs.Readiness.{token_of}
 use Rattle.slp_loops.specs.Serving.{Steps, Settles}
-use Rattle.slp_loops.specs.Turning.{Tended, AreServedAt, ComeOrGo, IsServedAt, IsSettled, IsPart, Passes, Reaches, ServesAt, SettlesFirst, datagrams_token, listener_token}
+use Rattle.slp_loops.specs.Turning.{Tended, AreServedAt, ComeOrGo, IsBegun, IsByPeers, IsPart, IsServedAt, IsSettled, Passes, Reaches, ReceivesAgain, ServesAt, SettlesFirst, SettlesLast, datagrams_token, listener_token}
 
 module _ {S : Type 0} (steps : Steps S) (settles : Settles S) where
   passes_on : (a : Tended S) (ss ts : List (Tended S)) (b c : Tended S) → Passes steps settles a ss b → Passes steps settles b ts c → Passes steps settles a (ss ++ ts) c
   passes_on a [] ts b c same next = subst (λ s. Passes steps settles s ts c) same next
   passes_on a (s ∷ ss) ts b c (one, rest) next = (one, passes_on s ss ts b c rest next)
-
-  -- nothing is done
-  pub reach_none : (a : Tended S) → Reaches steps settles a a
-  reach_none a = ([], refl)
 
   -- one part and then the next
   pub reach_on : (a b c : Tended S) → Reaches steps settles a b → Reaches steps settles b c → Reaches steps settles a c
@@ -32,10 +29,15 @@ module _ {S : Type 0} (steps : Steps S) (settles : Settles S) where
   pub reach_settled : (a b : Tended S) → IsSettled steps settles a b → Reaches steps settles a b
   reach_settled a b one = reach_part a b (inl one)
 
-  -- datagrams
-  pub reach_datagrams : (seats : List (Option Seat)) (a b : S) → (rounds : List (List Happening)) × Serves steps settles a rounds b
-      → Reaches steps settles (record { seats = seats; server = a }) (record { seats = seats; server = b })
-  reach_datagrams seats a b one = reach_part (record { seats = seats; server = a }) (record { seats = seats; server = b }) (inr (inl (one, refl)))
+  -- datagrams, if any are served
+  reach_again : (a b : Tended S) → ReceivesAgain steps settles a b → Reaches steps settles a b
+  reach_again a b (inl one) = reach_part a b (inr (inl one))
+  reach_again a b (inr same) = ([], same)
+
+  received_again : (seats : List (Option Seat)) (a b : S) → ServesAll steps settles a b ⊎ (b ≡ a)
+      → ReceivesAgain steps settles (record { seats = seats; server = a }) (record { seats = seats; server = b })
+  received_again seats a b (inl one) = inl (one, refl)
+  received_again seats a b (inr same) = inr (ap (λ s. record { seats = seats; server = s }) same)
 
   -- the stream with a key, if there is one
   pub reach_stream : (key : ℕ) (a b : Tended S) → ServesAt steps settles key a b → Reaches steps settles a b
@@ -43,11 +45,16 @@ module _ {S : Type 0} (steps : Steps S) (settles : Settles S) where
   reach_stream key a b (inr (none, same)) = ([], same)
 
   -- streams come, or are closed
-  pub reach_peers : (before after : List (Option Seat)) (server : S) → ComeOrGo before after → Reaches steps settles (record { seats = before; server = server }) (record { seats = after; server = server })
-  reach_peers before after server one = reach_part (record { seats = before; server = server }) (record { seats = after; server = server }) (inr (inr (inr (one, refl))))
+  pub reach_peers : (a b : Tended S) → IsByPeers steps settles a b → Reaches steps settles a b
+  reach_peers a b one = reach_part a b (inr (inr (inr one)))
 
-  pub reach_first : (a b : Tended S) → SettlesFirst steps settles a b → Reaches steps settles a b
-  reach_first a b (s, one, rest) = reach_on a s b (reach_settled a s one) rest
+  -- such parts, and then a turn
+  pub reach_turn : (a b c : Tended S) → Reaches steps settles a b → SettlesFirst steps settles b c → Reaches steps settles a c
+  reach_turn a b c before (s, one, rest) = reach_on a b c before (reach_on b s c (reach_settled b s one) rest)
+
+  -- such parts were done, and it settled
+  pub settled_last : (a b : Tended S) (seats : List (Option Seat)) (c d : S) → record { seats = seats; server = c } ≡ b → Reaches steps settles a b → settles c d → SettlesLast steps settles a (record { seats = seats; server = d })
+  settled_last a b seats c d is done one = (b, done, subst (λ s. IsSettled steps settles s (record { seats = seats; server = d })) is (one, refl))
 
   -- the socket with a token
   reach_token : (token : ℕ) (a b : Tended S) → IsServedAt steps settles token a b → Reaches steps settles a b
@@ -69,13 +76,23 @@ module _ {S : Type 0} (steps : Steps S) (settles : Settles S) where
   served_more a [] token b c same one = (c, subst (λ s. IsServedAt steps settles token s c) same one, refl)
   served_more a (t ∷ ts) token b c (between, first, rest) one = (between, first, served_more between ts token b c rest one)
 
-  -- it settled, streams came or went, and then such parts were done
-  pub settled_first : (before after : List (Option Seat)) (a b : S) (c : Tended S) → settles a b → ComeOrGo before after → Reaches steps settles (record { seats = after; server = b }) c → SettlesFirst steps settles (record { seats = before; server = a }) c
-  settled_first before after a b c settled come rest = (
-    record { seats = before; server = b },
-    (settled, refl),
-    reach_on (record { seats = before; server = b }) (record { seats = after; server = b }) c (reach_peers before after b come) rest,
-  )
+  -- what begins a turn
+  pub begins : (s : Tended S) (before between after : List (Option Seat)) (a b c : S) → record { seats = before; server = a } ≡ s → settles a b → between ≡ before → ComeOrGo between after → ServesAll steps settles b c ⊎ (c ≡ b)
+      → IsBegun steps settles s (record { seats = after; server = c })
+  begins s before between after a b c is settled same come served = subst (λ t. IsBegun steps settles t (record { seats = after; server = c })) is (record {
+    settled = record { seats = before; server = b };
+    accepted = record { seats = after; server = b };
+    settles_first = (settled, refl);
+    accepts = (subst (λ seats. ComeOrGo seats after) same come, refl);
+    receives = received_again after b c served;
+  })
+
+  pub begun_first : (a b : Tended S) → IsBegun steps settles a b → SettlesFirst steps settles a b
+  begun_first a b one = (one.settled, one.settles_first, reach_on one.settled one.accepted b (reach_peers one.settled one.accepted one.accepts) (reach_again one.accepted b one.receives))
+
+  -- it settled first, and more was done
+  pub first_on : (a b c : Tended S) → SettlesFirst steps settles a b → Reaches steps settles b c → SettlesFirst steps settles a c
+  first_on a b c (s, one, rest) next = (s, one, reach_on s b c rest next)
 
   -- the socket of one more event
   pub served_next : (a b c : Tended S) (front : List (Bor Event)) (e : Bor Event) (token : Token) → token ≡ event_token e.now → AreServedAt steps settles a (map token_of (map (λ x. x.now) front)) b

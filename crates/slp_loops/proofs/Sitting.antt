@@ -10,7 +10,7 @@ use Rattle.slab.specs.Slab.{Slab, Updates, get, slab_len, with_value}
 use Rattle.slab.proofs.SlabLemmas.{ContainsKey-within, Updates-with_value}
 use Rattle.slp_loops.specs.Holding.{Seat, HasNoOther, IsStillest, KeepsOthers, NoneSits, moment_of, seat_at, stiller}
 use Rattle.slp_loops.specs.Sitting.{seat, seats}
-use Rattle.slp_loops.specs.Turning.{Admits, ComeOrGo, IsNewcomer, fresh}
+use Rattle.slp_loops.specs.Turning.{Admits, ComeOrGo, IsNewcomer}
 use Rattle.slp_loops.specs.declared.peer.Peer.{Peer}
 
 abbrev pub moment_in : Option Seat → Option ℕ
@@ -98,20 +98,8 @@ module _ {T : Type 0} (old new : Slab (Peer T)) (key : ℕ) (peer : Peer T) (bef
   ]
 
 -- those that only go
-pub admits_none : (from : SocketAddr) (now : ℕ) (before after : List (Option Seat)) → HasNoOther before after → Admits from now before after
-admits_none from now before after only = λ key s is. inl (only key s is)
-
 pub only_gone : (before after : List (Option Seat)) → HasNoOther before after → ComeOrGo before after
 only_gone before after only = λ key s is. inl (only key s is)
-
-newcomer_is : (from : SocketAddr) (now : ℕ) (s : Seat) → IsNewcomer from now s → s.link ≡ fresh s.link.asker
-newcomer_is from now s (asker, is, same) = subst (λ (x : Seat). x.link ≡ fresh x.link.asker) (sym same) refl
-
-pub come_on : (from : SocketAddr) (now : ℕ) (a b c : List (Option Seat)) → ComeOrGo a b → Admits from now b c → ComeOrGo a c
-come_on from now a b c first next = λ key s is. elim (next key s is) [
-  | inl was ↦ first key s was
-  | inr came ↦ inr (newcomer_is from now s came)
-]
 
 -- where one goes, if it was there, there are no more than before
 pub removal_len : {T : Type 0} (old new : Slab T) (o : Option T) → OnSome o (slab_len new + 1 ≡ slab_len old) → IfNone o (new ≡ old) → slab_len new ≤ slab_len old

@@ -1,5 +1,7 @@
 -- What a desk does with a message.
-use Rattle.std.specs.Prelude.{◌≡◌, ◌⊎◌, ℕ, Bool, true, false, List, Result, Ok, Err, Some, None, IfOk, OnErr, OnOk}
+use Rattle.std.specs.Prelude.{◌≡◌, ◌⊎◌, ℕ, Bool, true, false, List, [], Option, Result, Ok, Err, Some, None, IfOk, OnErr, OnOk}
+use Rattle.std.specs.Borrow.{Bor}
+use Rattle.std.specs.Option.{option_map}
 use Rattle.slp_text.specs.declared.faults.NoMemory.{NoMemory}
 use Rattle.slp_headers.specs.Headers.{heading_of}
 use Rattle.access_rules.specs.Deciding.{no_rules}
@@ -8,11 +10,13 @@ use Rattle.directory_questions.specs.Answers.{is_change_of}
 use Rattle.directory_questions.specs.Calls.{Opening, Call}
 use Rattle.directory_questions.specs.Outcomes.{refusal_outcome}
 use Rattle.directory_questions.specs.Verdicts.{IsLegal}
+use Rattle.directory_questions.specs.declared.heard.Heard.{Heard}
 use Rattle.slp_answer.specs.Answers.{Replies, line_of}
 use Rattle.slp_answer.specs.declared.answer.Answer.{Answer}
 use Rattle.slp_answer.specs.declared.answer.Sent.{Sent}
 use Rattle.history_log.specs.Pasts.{IsPast}
 use Rattle.directory_runs.specs.Changes.{IsChanged}
+use Rattle.published_view.specs.declared.fault.ViewFault.{ViewFault}
 use Rattle.published_view.specs.Traces.{Trace, last_at, IsAsked}
 use Rattle.slp_loops.specs.Logging.{Logging, Logs, Lined}
 use Rattle.slp_loops.specs.Serving.{Ticks}
@@ -29,6 +33,20 @@ pub record Standing (M L : Type 0) : Type 0 where
 abbrev pub told_line : ℕ → List ℕ → Result Sent NoMemory → Answer → List ℕ
 told_line asker message (Ok _) answer = answer.audit.items
 told_line asker message (Err _) answer = line_of no_rules asker (heading_of message) (refusal_outcome (heading_of message))
+
+-- what a desk answers of what its view or its writer told
+abbrev pub IsOutcomeOf : Result Sent ViewFault → Result Sent NoMemory → Type 0
+IsOutcomeOf (Ok what) outcome = outcome ≡ Ok what
+IsOutcomeOf (Err e) outcome = (wanting : NoMemory) × (outcome ≡ Err wanting)
+
+-- the line that is told then, of what was heard
+abbrev pub line_told : Option Heard → Result Sent ViewFault → Answer → List ℕ
+line_told heard (Ok what) answer = answer.audit.items
+line_told None (Err e) answer = []
+line_told (Some heard) (Err e) answer = line_of no_rules heard.call.now.asker (heading_of heard.call.now.bytes.now) (refusal_outcome (heading_of heard.call.now.bytes.now))
+
+abbrev pub heard_lent : Option (Bor Heard) → Option Heard
+heard_lent = option_map (λ (b : Bor Heard). b.now)
 
 -- bytes that ask for a change were answered at a legal history, and what is seen goes on from the history after them, where that was told
 pub record IsServedChange (o : Opening) (c : Call) (what : Sent) (answer : Answer) (is_told : Bool) (seen : History) : Type 0 where

@@ -1,5 +1,5 @@
 -- What happens at a socket of datagrams, and what it is to serve those that come.
-use Rattle.std.specs.Prelude.{◌≡◌, ◌≤◌, ℕ, ◌+◌, Bool, true, false, List, [], ◌∷◌, ◌++◌, map, take, Option, Some, None, Result, Ok, Err}
+use Rattle.std.specs.Prelude.{◌≡◌, ◌⊎◌, ◌≤◌, ℕ, ◌+◌, Bool, true, false, List, [], ◌∷◌, ◌++◌, map, take, Option, Some, None, Result, Ok, Err}
 use Rattle.std.specs.IoError.{error_kind}
 use Rattle.std.specs.declared.io.Error.{Error}
 use Rattle.std.specs.declared.io.ErrorKind.{ErrorKind}
@@ -127,6 +127,20 @@ effort (Came d ∷ hs) = 1 + effort hs
 effort (Paused e ∷ hs) = 16 + effort hs
 effort (Left d ∷ hs) = effort hs
 
+-- there was no pause
+abbrev pub NoPause : List Happening → Type 0
+NoPause [] = Unit {0}
+NoPause (Came d ∷ hs) = NoPause hs
+NoPause (Paused e ∷ hs) = ⊥
+NoPause (Left d ∷ hs) = NoPause hs
+
+-- each pause says that there may be more, but for the last, which says what is answered
+abbrev pub GoOnTo : Result Rest LoopFault → List Happening → Type 0
+GoOnTo told [] = Unit {0}
+GoOnTo told (Came d ∷ hs) = GoOnTo told hs
+GoOnTo told (Paused e ∷ hs) = (Says e (Ok More) ⊎ (Says e told × NoPause hs)) × GoOnTo told hs
+GoOnTo told (Left d ∷ hs) = GoOnTo told hs
+
 -- the last pause says what is answered
 pub record IsPausedBy (told : Result Rest LoopFault) (hs : List Happening) : Type 0 where
   pub error : Error
@@ -134,8 +148,17 @@ pub record IsPausedBy (told : Result Rest LoopFault) (hs : List Happening) : Typ
   pub says : Says error told
 
 -- much was served where there may be more; else the last pause says why no more were received
+abbrev pub IsEnough : ℕ → Result Rest LoopFault → List Happening → Type 0
+IsEnough least (Ok More) hs = least ≤ effort hs
+IsEnough least (Ok Nothing) hs = IsPausedBy (Ok Nothing) hs
+IsEnough least (Ok Later) hs = IsPausedBy (Ok Later) hs
+IsEnough least (Err e) hs = IsPausedBy (Err e) hs
+
+-- the same, and no other pause said so
 abbrev pub IsThrough : ℕ → Result Rest LoopFault → List Happening → Type 0
-IsThrough least (Ok More) hs = least ≤ effort hs
-IsThrough least (Ok Nothing) hs = IsPausedBy (Ok Nothing) hs
-IsThrough least (Ok Later) hs = IsPausedBy (Ok Later) hs
-IsThrough least (Err e) hs = IsPausedBy (Err e) hs
+IsThrough least told hs = IsEnough least told hs × GoOnTo told hs
+
+module _ {S : Type 0} (steps : Steps S) (settles : Settles S) where
+  -- Rounds, until 128 or more have come, where a pause counts for 16, or a pause says that no more are to be received now.
+  abbrev pub ServesAll : S → S → Type 0
+  ServesAll before after = (rounds : List (List Happening)) × (told : Result Rest LoopFault) × Serves steps settles before rounds after × IsThrough 128 told (in_all rounds)

@@ -3,7 +3,7 @@ use Rattle.std.specs.Prelude.{◌≡◌, ◌≢◌, ◌⊎◌, ℕ, ⊤, Bool, t
 use Rattle.std.specs.declared.net.socket_addr.SocketAddr.{SocketAddr}
 use Rattle.slp_loops.specs.Holding.{Seat, Looping, seat_at}
 use Rattle.slp_loops.specs.Linking.{Link}
-use Rattle.slp_loops.specs.Ports.{Happening, Serves, asker_of}
+use Rattle.slp_loops.specs.Ports.{ServesAll, asker_of}
 use Rattle.slp_loops.specs.Serving.{Steps, Settles}
 use Rattle.slp_loops.specs.Streaming.{Talk, Goes}
 use Rattle.slp_loops.specs.declared.connection.Next.{Next}
@@ -109,9 +109,13 @@ module _ {S : Type 0} (steps : Steps S) (settles : Settles S) where
   abbrev pub IsSettled : Tended S → Tended S → Type 0
   IsSettled before after = settles before.server after.server × (after.seats ≡ before.seats)
 
-  -- datagrams that came are served, in rounds
+  -- datagrams are served in rounds, until there were enough or no more are to be received now
   abbrev pub IsByDatagrams : Tended S → Tended S → Type 0
-  IsByDatagrams before after = ((rounds : List (List Happening)) × Serves steps settles before.server rounds after.server) × (after.seats ≡ before.seats)
+  IsByDatagrams before after = ServesAll steps settles before.server after.server × (after.seats ≡ before.seats)
+
+  -- the same, if there were any that could not be received at the last turn
+  abbrev pub ReceivesAgain : Tended S → Tended S → Type 0
+  ReceivesAgain before after = IsByDatagrams before after ⊎ (after ≡ before)
 
   -- streams come, or are closed
   abbrev pub IsByPeers : Tended S → Tended S → Type 0
@@ -149,15 +153,17 @@ module _ {S : Type 0} (steps : Steps S) (settles : Settles S) where
   abbrev pub SettlesLast : Tended S → Tended S → Type 0
   SettlesLast before after = (s : Tended S) × Reaches before s × IsSettled s after
 
-  -- The server settles. Streams and datagrams come that could not at the last turn. Each socket that is ready is served.
-  pub record IsServing (before : Tended S) (ready : List ℕ) (after : Tended S) : Type 0 where
+  -- The server settles. Streams and datagrams come that could not at the last turn.
+  pub record IsBegun (before after : Tended S) : Type 0 where
     pub settled : Tended S
     pub accepted : Tended S
-    pub received : Tended S
     pub settles_first : IsSettled before settled
     pub accepts : IsByPeers settled accepted
-    pub receives : IsByDatagrams accepted received
-    pub serves : AreServedAt received ready after
+    pub receives : ReceivesAgain accepted after
+
+  -- it is begun, and each socket that is ready is served
+  abbrev pub IsServing : Tended S → List ℕ → Tended S → Type 0
+  IsServing before ready after = (begun : Tended S) × IsBegun before begun × AreServedAt begun ready after
 
   -- a turn that lost no socket of the loop's own: streams that sat there too long are closed then
   abbrev pub IsTurn : Tended S → List ℕ → Tended S → Type 0

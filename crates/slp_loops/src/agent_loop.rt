@@ -1,7 +1,7 @@
 ghost use Rattle.std.specs.Prelude.{◌≡◌, ◌≢◌, ◌≤◌, ◌<◌, ◌↔◌, ◌++◌, ℕ, List, [], length, slice_get, Some, Err, IfOk, IfErr, IsTrue};
 ghost use Rattle.slp_loops.specs.Holding.{NoneSits, longest_stay};
 ghost use Rattle.slp_loops.specs.Readiness.{tokens_of};
-ghost use Rattle.slp_loops.specs.Turning.{AreServedAt, IsServedAt, IsServing, IsTurn, Reaches, SettlesFirst, SettlesLast, tended};
+ghost use Rattle.slp_loops.specs.Turning.{AreServedAt, IsBegun, IsServedAt, IsTurn, SettlesFirst, SettlesLast, tended};
 ghost use Rattle.slp_loops.specs.declared.fault.LoopFault.TheVariants.{Io as Failing};
 
 use crate::clock::{Moments, SteadyClock};
@@ -269,16 +269,26 @@ impl<S: Serve + Drop> AgentLoop<S> {
         ensures served { SettlesFirst S.steps S.settles (tended self.old) (tended self.new) }
         ensures whole { result ≢ Err Failing → IsTurn S.steps S.settles (tended self.old) self.new.ready (tended self.new) }
     {
-        let told = self.serve_ready(steady);
+        let told = match self.begin(steady) {
+            Ok(()) => serve_events(
+                self.poll.registry(),
+                &self.events,
+                &mut self.datagrams,
+                &mut self.streams,
+                &mut self.server,
+            ),
+            Err(fault) => Err(fault),
+        };
         self.streams.close_still();
         told
     }
 
-    // Waits, and serves what is ready.
-    fn serve_ready<M: Moments>(&mut self, steady: &mut M) -> Result<(), LoopFault>
+    // Has the lines of the last turn out, waits, and serves what could not be served then.
+    fn begin<M: Moments>(&mut self, steady: &mut M) -> Result<(), LoopFault>
         ensures limit { self.new.limit ≡ self.old.limit }
+        ensures fault { IfErr result (λ e. e ≡ Failing) }
         ensures served { SettlesFirst S.steps S.settles (tended self.old) (tended self.new) }
-        ensures whole { result ≢ Err Failing → IsServing S.steps S.settles (tended self.old) self.new.ready (tended self.new) }
+        ensures begun { IfOk result (λ _. IsBegun S.steps S.settles (tended self.old) (tended self.new)) }
     {
         self.server.settle();
         let wait = Duration::from_millis(LONGEST_WAIT);
@@ -286,32 +296,7 @@ impl<S: Serve + Drop> AgentLoop<S> {
         self.streams.go_on_to(steady.now());
         self.streams.accept_again(self.poll.registry())?;
         self.datagrams
-            .serve_again(self.poll.registry(), &mut self.server)?;
-        serve_events(
-            self.poll.registry(),
-            &self.events,
-            &mut self.datagrams,
-            &mut self.streams,
-            &mut self.server,
-        )
-    }
-
-    // Takes turns until the flag is set, or a turn answers `Io`.
-    fn take_turns<R: Wait + Clock>(&mut self, rt: &R, stop: &AtomicBool) -> Result<(), LoopFault>
-        ensures limit { self.new.limit ≡ self.old.limit }
-        ensures fault { IfErr result (λ e. e ≡ Failing) }
-        ensures served { Reaches S.steps S.settles (tended self.old) (tended self.new) }
-    {
-        let mut steady = SteadyClock::new(rt);
-        for _ in rt.forever() {
-            if stop.load(Ordering::SeqCst) {
-                return Ok(());
-            }
-            if is_lost(self.turn(&mut steady)) {
-                return Err(LoopFault::Io);
-            }
-        }
-        unreachable!()
+            .serve_again(self.poll.registry(), &mut self.server)
     }
 
     /// Takes turns until the flag is set, or a turn answers `Io`, which is its only fault. What was told of the last
@@ -321,8 +306,17 @@ impl<S: Serve + Drop> AgentLoop<S> {
         ensures fault { IfErr result (λ e. e ≡ Failing) }
         ensures served { SettlesLast S.steps S.settles (tended self.old) (tended self.new) }
     {
-        let told = self.take_turns(rt, stop);
-        self.server.settle();
-        told
+        let mut steady = SteadyClock::new(rt);
+        for _ in rt.forever() {
+            if stop.load(Ordering::SeqCst) {
+                self.server.settle();
+                return Ok(());
+            }
+            if is_lost(self.turn(&mut steady)) {
+                self.server.settle();
+                return Err(LoopFault::Io);
+            }
+        }
+        unreachable!()
     }
 }

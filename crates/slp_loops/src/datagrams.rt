@@ -1,10 +1,9 @@
 //! The datagrams of a loop: they are received, served and answered together.
-ghost use Rattle.std.specs.Prelude.{◌≡◌, ◌≤◌, ℕ, [], ◌++◌, take, map, length, List, Option, IfErr, IfOk};
+ghost use Rattle.std.specs.Prelude.{◌≡◌, ◌⊎◌, ◌≤◌, ℕ, [], ◌++◌, take, map, length, List, Option, IfErr, IfOk};
 ghost use Rattle.std.specs.declared.io.Error.{Error};
-ghost use Rattle.slp_loops.specs.Ports.{Happening, Came, Left, Runs, ServedFor, AreAnswered, IsRound, Serves, Says, IsThrough, owed, pausing, in_all};
+ghost use Rattle.slp_loops.specs.Ports.{Happening, Came, Left, Runs, ServedFor, AreAnswered, IsRound, Serves, ServesAll, Says, IsThrough, owed, pausing, in_all};
 ghost use Rattle.slp_loops.specs.Ports as spec;
-ghost use Rattle.slp_loops.specs.Serving.{IsServed};
-ghost use Rattle.slp_loops.specs.Exchanging.{datagram, datagrams, back, back_by, dues, all_dues, received_into, Stopped};
+ghost use Rattle.slp_loops.specs.Exchanging.{datagram, datagrams, back, dues, all_dues, received_into, Stopped};
 ghost use Rattle.slp_loops.specs.declared.fault.LoopFault.TheVariants.{Io as Failing};
 
 use crate::exchange::{Back, Exchange, Rest};
@@ -78,18 +77,6 @@ impl Exchange {
         Ok(())
     }
 
-    // Serves it for its asker, and answers what goes back.
-    fn ask<S: Serve>(&mut self, asker: Addr, server: &mut S) -> Back
-        ensures kept { datagram self.new ≡ datagram self.old }
-        ensures served { IsServed S.steps asker 1400 server.old (datagram self.old).bytes (back_by result (datagram self.old).bytes self.new.answer.bytes.items) server.new }
-    {
-        let message = &self.buffer[..self.length];
-        match server.serve(asker, message, LONGEST_REPLY, &mut self.answer) {
-            Ok(_) => Back::Answered,
-            Err(_) => Back::Refused,
-        }
-    }
-
     // Serves it, where its sender may ask.
     fn serve<S: Serve>(&mut self, server: &mut S)
         ensures kept { datagram self.new ≡ datagram self.old }
@@ -99,7 +86,11 @@ impl Exchange {
             self.back = Back::Nothing;
             return;
         };
-        self.back = self.ask(asker, server);
+        let message = &self.buffer[..self.length];
+        self.back = match server.serve(asker, message, LONGEST_REPLY, &mut self.answer) {
+            Ok(_) => Back::Answered,
+            Err(_) => Back::Refused,
+        };
     }
 
     // Sends what goes back.
@@ -214,19 +205,12 @@ impl<P: Port + Drop> Datagrams<P> {
         })
     }
 
-    // Receives as many as there are exchanges, at most, and answers them: what the socket has then.
-    fn serve_some<S: Serve>(&mut self, server: &mut S) -> Result<Rest, LoopFault>
-        ensures { (hs : List Happening) × Runs P.may self.old hs self.new × IsRound S.steps S.settles server.old hs server.new × IsThrough 16 result hs }
-    {
-        serve_round(self.exchanges.as_mut_slice(), &mut self.port, server)
-    }
-
     /// Serves what has come, a bounded number at most: what the socket has then, or `Io` where the socket itself failed.
     pub fn serve<S: Serve>(&mut self, server: &mut S) -> Result<Rest, LoopFault>
         ensures { (rounds : List (List Happening)) × Runs P.may self.old (in_all rounds) self.new × Serves S.steps S.settles server.old rounds server.new × IsThrough 128 result (in_all rounds) }
     {
         for _ in 0..ROUNDS {
-            let told = self.serve_some(server);
+            let told = serve_round(self.exchanges.as_mut_slice(), &mut self.port, server);
             if is_over(told) {
                 return told;
             }
@@ -256,7 +240,7 @@ impl Datagrams<UdpSocket> {
         server: &mut S,
     ) -> Result<(), LoopFault>
         ensures fault { IfErr result (λ e. e ≡ Failing) }
-        ensures served { (rounds : List (List Happening)) × Serves S.steps S.settles server.old rounds server.new }
+        ensures served { ServesAll S.steps S.settles server.old server.new }
     {
         let told = self.serve(server);
         self.note(told, registry)
@@ -269,7 +253,7 @@ impl Datagrams<UdpSocket> {
         server: &mut S,
     ) -> Result<(), LoopFault>
         ensures fault { IfErr result (λ e. e ≡ Failing) }
-        ensures served { (rounds : List (List Happening)) × Serves S.steps S.settles server.old rounds server.new }
+        ensures served { ServesAll S.steps S.settles server.old server.new ⊎ (server.new ≡ server.old) }
     {
         if self.receives_again {
             self.serve_event(registry, server)

@@ -1,20 +1,20 @@
 //! The desk: what serves the messages of one address.
-ghost use Rattle.std.specs.Prelude.{◌≡◌, ◌⊎◌, ◌≤◌, [], true, false, None, Some, IfOk, OnErr, OnOk};
-ghost use Rattle.directory_questions.specs.Answers.{is_change_of};
+ghost use Rattle.std.specs.Prelude.{◌≡◌, ◌⊎◌, [], true, None, IfOk, OnErr, OnOk};
 ghost use Rattle.directory_questions.specs.Calls.{call_in};
+ghost use Rattle.directory_questions.specs.Requests.{function_in, is_change_function};
 ghost use Rattle.directory_questions.specs.Verdicts.{IsLegal};
 ghost use Rattle.history_log.specs.Pasts.{IsPast};
 ghost use Rattle.directory_runs.specs.Changes.{IsChanged};
 ghost use Rattle.published_view.specs.Traces.{last_at, IsAsked};
-ghost use Rattle.slp_answer.specs.Answers.{Replies};
-ghost use Rattle.slp_loops.specs.Desks.{IsServedChange};
+ghost use Rattle.slp_loops.specs.Desks.{heard_lent, line_told, IsOutcomeOf, IsServedChange};
+ghost use Rattle.slp_loops.specs.Logging.{Lined};
 
 use crate::clock::Moments;
 use crate::log::{Lines, Log, SharedOutput};
 use crate::serve::Serve;
 use access_rules::Addr;
 use published_view::{DirectoryWriter, Gate, LoopView, Naming, Note, ViewFault};
-use slp_answer::{Answer, Call, Sent, is_change, refused_line};
+use slp_answer::{Answer, Call, Heard, Sent, refused_line_of};
 use slp_text::NoMemory;
 use std::alloc::Global;
 use std::io::Write;
@@ -51,15 +51,15 @@ pub struct Desk<'r, 's, J: Naming, R: Wait, M: Moments + Drop, G: Gate, L: Log +
 fn change_and_note<J: Naming, Q: Wait + Drop>(
     writer: &mut DirectoryWriter<J, Q>,
     alloc: Global,
-    call: &Call<'_>,
+    heard: &Heard<'_>,
     answer: &mut Answer,
 ) -> Result<(Sent, Result<Note<J>, ViewFault>), ViewFault>
-    requires { is_change_of call.now.bytes.now ≡ true }
-    ensures made { IfOk result (λ p. IsChanged J.opening writer.old.history call.now.moment call.now.asker call.now.bytes.now p.0 answer.new.bytes.items answer.new.audit.items writer.new.history) }
+    requires { is_change_function (function_in heard.now.request) ≡ true }
+    ensures made { IfOk result (λ p. IsChanged J.opening writer.old.history heard.now.call.now.moment heard.now.call.now.asker heard.now.call.now.bytes.now p.0 answer.new.bytes.items answer.new.audit.items writer.new.history) }
     ensures legal { OnOk result (IsLegal J.opening writer.new.history) }
     ensures noted { IfOk result (λ p. IfOk p.1 (λ n. n ≡ writer.new.history)) }
 {
-    let sent = writer.change(alloc, call.moment, call.asker, call.bytes, answer)?;
+    let sent = writer.hear(alloc, heard, answer)?;
     Ok((sent, writer.note()))
 }
 
@@ -113,16 +113,16 @@ impl<'r, 's, J: Naming, R: Wait, M: Moments + Drop, G: Gate, L: Log + Drop> Desk
     L,
 > {
     // Has the writer make a change, gives its lock back, and then sees what it published.
-    fn change(&mut self, call: &Call<'_>, answer: &mut Answer) -> Result<Sent, ViewFault>
-        requires { is_change_of call.now.bytes.now ≡ true }
+    fn change(&mut self, heard: &Heard<'_>, answer: &mut Answer) -> Result<Sent, ViewFault>
+        requires { is_change_function (function_in heard.now.request) ≡ true }
         ensures later { IsPast (last_at self.old.view) (last_at self.new.view) }
         ensures looked { (self.new.view ≡ self.old.view) ⊎ IsAsked J.opening self.old.view None self.new.view }
-        ensures served { IfOk result (λ what. IsServedChange J.opening (call_in call.now) what answer.new self.new.told (last_at self.new.view)) }
+        ensures served { IfOk result (λ what. IsServedChange J.opening (call_in heard.now.call.now) what answer.new self.new.told (last_at self.new.view)) }
         ensures refused { OnErr result (self.new.told ≡ self.old.told) }
         ensures kept { self.new ≡ record self.old { view = self.new.view; told = self.new.told } }
     {
         let mut writer = self.writer.lock(self.rt);
-        let changed = change_and_note(&mut *writer, self.alloc, call, answer);
+        let changed = change_and_note(&mut *writer, self.alloc, heard, answer);
         drop(writer);
         let (sent, note) = changed?;
         self.told = match note {
@@ -132,33 +132,30 @@ impl<'r, 's, J: Naming, R: Wait, M: Moments + Drop, G: Gate, L: Log + Drop> Desk
         Ok(sent)
     }
 
-    // Answers a message.
-    fn answer(&mut self, call: &Call<'_>, answer: &mut Answer) -> Result<Sent, ViewFault>
-        requires least { 1400 ≤ call.now.limit }
-        requires most { call.now.limit ≤ 65535 }
-        ensures later { IsPast (last_at self.old.view) (last_at self.new.view) }
-        ensures asked { is_change_of call.now.bytes.now ≡ false → OnOk result (IsAsked J.opening self.old.view (Some (call_in call.now)) self.new.view) }
-        ensures replied { is_change_of call.now.bytes.now ≡ false → IfOk result (λ what. Replies J.opening (last_at self.new.view) (call_in call.now) what answer.new.bytes.items answer.new.audit.items) }
-        ensures untold { is_change_of call.now.bytes.now ≡ false → OnErr result ((self.new.view ≡ self.old.view) ⊎ IsAsked J.opening self.old.view (Some (call_in call.now)) self.new.view) }
-        ensures looked { is_change_of call.now.bytes.now ≡ true → (self.new.view ≡ self.old.view) ⊎ IsAsked J.opening self.old.view None self.new.view }
-        ensures served { is_change_of call.now.bytes.now ≡ true → IfOk result (λ what. IsServedChange J.opening (call_in call.now) what answer.new self.new.told (last_at self.new.view)) }
-        ensures refused { OnErr result (self.new.told ≡ self.old.told) }
-        ensures unasked { is_change_of call.now.bytes.now ≡ false → self.new.told ≡ self.old.told }
-        ensures kept { self.new ≡ record self.old { view = self.new.view; told = self.new.told } }
+    // Has the line of a message wait: that of its answer, or of a refusal. Of what is unheard there is none.
+    fn tell(
+        &mut self,
+        told: Result<Sent, ViewFault>,
+        heard: Option<&Heard<'_>>,
+        answer: &Answer,
+    ) -> Result<Sent, NoMemory>
+        ensures told { IsOutcomeOf told result }
+        ensures lined { Lined L.writes self.old.lines (line_told (heard_lent heard.entry) told answer.now) self.new.lines }
+        ensures kept { self.new ≡ record self.old { lines = self.new.lines } }
     {
-        if is_change(call.bytes) {
-            return self.change(call, answer);
+        match told {
+            Ok(sent) => {
+                self.lines.push(answer.audit.as_slice());
+                Ok(sent)
+            }
+            Err(_) => {
+                if let Some(heard) = heard {
+                    let line = refused_line_of(heard);
+                    self.lines.push(line.as_str().as_bytes());
+                }
+                Err(NoMemory)
+            }
         }
-        self.view.answer(
-            self.alloc,
-            self.gate,
-            call.own,
-            call.moment,
-            call.asker,
-            call.bytes,
-            call.limit,
-            answer,
-        )
     }
 }
 
@@ -189,17 +186,16 @@ impl<'r, 's, J: Naming, R: Wait, M: Moments + Drop, G: Gate, L: Log + Drop> Serv
             bytes: message,
             limit,
         };
-        match self.answer(&call, answer) {
-            Ok(sent) => {
-                self.lines.push(answer.audit.as_slice());
-                Ok(sent)
-            }
-            Err(_) => {
-                let line = refused_line(message, asker);
-                self.lines.push(line.as_str().as_bytes());
-                Err(NoMemory)
-            }
+        let Some(heard) = Heard::of(&call) else {
+            let told = self.view.pass(self.alloc, self.gate, &call, answer);
+            return self.tell(told, None, answer);
+        };
+        if heard.request.is_change() {
+            let told = self.change(&heard, answer);
+            return self.tell(told, Some(&heard), answer);
         }
+        let told = self.view.hear(self.alloc, self.gate, &heard, answer);
+        self.tell(told, Some(&heard), answer)
     }
 
     fn settle(&mut self) {

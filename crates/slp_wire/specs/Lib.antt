@@ -1,3 +1,4 @@
+pub mod Asking
 pub mod Bodies
 pub mod Extensions
 pub mod Reading

@@ -5,12 +5,12 @@
 mod body;
 mod extensions;
 pub mod laws;
+mod question;
 mod reading;
 mod writing;
 
-pub use reading::{
-    decode, read_attribute_request, read_change, read_service_request, read_type_request,
-};
+pub use question::QuestionView;
+pub use reading::{decode, read_change, read_question};
 pub use slp_fields::{WireFault, append, entry_length, put_entry};
 pub use slp_headers::{
     HeaderView, error_reply, flag, offset, read_header, reply_function, reply_opening, two_bytes,

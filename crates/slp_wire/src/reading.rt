@@ -1,26 +1,24 @@
 ghost use Rattle.std.specs.Prelude.{◌≡◌, ◌<◌, ◌^◌, ◌⊎◌, IfOk, IfErr, Some, Ok, Err};
-ghost use Rattle.slp_messages.specs.declared.message.Message.TheVariants as message;
 ghost use Rattle.slp_messages.specs.declared.message.Message as code;
 ghost use Rattle.slp_messages.specs.Views as views;
-ghost use Rattle.slp_messages.specs.Views.{attribute_request_in, message_in, request_in, type_request_in};
+ghost use Rattle.slp_messages.specs.Views.{message_in};
 ghost use Rattle.slp_headers.specs.Headers.{flags_of, heading_in, heading_of};
 ghost use Rattle.slp_fields.specs.Steps.{Gives};
+ghost use Rattle.slp_wire.specs.Asking.{question_in};
 ghost use Rattle.slp_wire.specs.Bodies.{body_at};
 ghost use Rattle.slp_wire.specs.Reading.{is_known, kept_header, tail_of, ends_at, reading_to_end, reading_after, reading, marked_bytes};
 ghost use Rattle.slp_wire.specs.Spelling.{Spells};
 
 use crate::body::body_of;
 use crate::extensions::skip_extensions;
+use crate::question::QuestionView;
 use slp_bodies::{
     attribute_request_view_of, registration_view_of, service_request_view_of, type_request_view_of,
     withdrawal_view_of,
 };
 use slp_fields::WireFault;
 use slp_headers::{HeaderView, VERSION, flag, offset, read_header};
-use slp_messages::{
-    AttributeRequestView, ChangeView, Flags, Header, KeptHeader, Message, ServiceRequestView, Tag,
-    TypeRequestView, function,
-};
+use slp_messages::{ChangeView, Flags, Header, KeptHeader, Message, Tag, function};
 use std::alloc::Global;
 
 fn is_read(function: u8) -> bool
@@ -138,52 +136,31 @@ fn message_after(alloc: Global, view: &HeaderView<'_>, bytes: &[u8]) -> Result<M
     whole_body(alloc, view, header, body)
 }
 
-/// The service request in front of the bytes, whose header was read from them. Its texts are lent.
+/// The service, attribute or type request in front of the bytes, whose header was read from them. Its texts
+/// are lent.
 #[tactic(auto, unfolding(crate::specs::Reading::reading, crate::specs::Reading::reading_to_end, crate::specs::Bodies::body_at))]
-pub fn read_service_request<'a>(
+pub fn read_question<'a>(
     view: &HeaderView<'_>,
     bytes: &'a [u8],
-) -> Result<ServiceRequestView<'a>, WireFault>
+) -> Result<QuestionView<'a>, WireFault>
     requires header { heading_of bytes.now ≡ Some (heading_in view.now) }
-    requires function { view.now.function ≡ 1 }
-    ensures { Gives (λ r. message.ServiceRequest (kept_header (heading_in view.now)) (request_in r)) result (reading bytes.now) }
+    requires function { (view.now.function ≡ 1) ⊎ ((view.now.function ≡ 6) ⊎ (view.now.function ≡ 9)) }
+    ensures { Gives (question_in (kept_header (heading_in view.now))) result (reading bytes.now) }
 {
     let body = body_after(view, bytes)?;
-    let (request, rest) = service_request_view_of(body)?;
-    check_end(view.ext as usize, view.length as usize, rest)?;
-    Ok(request)
-}
-
-/// The attribute request in front of the bytes, whose header was read from them. Its texts are lent.
-#[tactic(auto, unfolding(crate::specs::Reading::reading, crate::specs::Reading::reading_to_end, crate::specs::Bodies::body_at))]
-pub fn read_attribute_request<'a>(
-    view: &HeaderView<'_>,
-    bytes: &'a [u8],
-) -> Result<AttributeRequestView<'a>, WireFault>
-    requires header { heading_of bytes.now ≡ Some (heading_in view.now) }
-    requires function { view.now.function ≡ 6 }
-    ensures { Gives (λ r. message.AttributeRequest (kept_header (heading_in view.now)) (attribute_request_in r)) result (reading bytes.now) }
-{
-    let body = body_after(view, bytes)?;
-    let (request, rest) = attribute_request_view_of(body)?;
-    check_end(view.ext as usize, view.length as usize, rest)?;
-    Ok(request)
-}
-
-/// The type request in front of the bytes, whose header was read from them. Its texts are lent.
-#[tactic(auto, unfolding(crate::specs::Reading::reading, crate::specs::Reading::reading_to_end, crate::specs::Bodies::body_at))]
-pub fn read_type_request<'a>(
-    view: &HeaderView<'_>,
-    bytes: &'a [u8],
-) -> Result<TypeRequestView<'a>, WireFault>
-    requires header { heading_of bytes.now ≡ Some (heading_in view.now) }
-    requires function { view.now.function ≡ 9 }
-    ensures { Gives (λ r. message.TypeRequest (kept_header (heading_in view.now)) (type_request_in r)) result (reading bytes.now) }
-{
-    let body = body_after(view, bytes)?;
+    if view.function == function::SERVICE_REQUEST {
+        let (request, rest) = service_request_view_of(body)?;
+        check_end(view.ext as usize, view.length as usize, rest)?;
+        return Ok(QuestionView::Services(request));
+    }
+    if view.function == function::ATTRIBUTE_REQUEST {
+        let (request, rest) = attribute_request_view_of(body)?;
+        check_end(view.ext as usize, view.length as usize, rest)?;
+        return Ok(QuestionView::Attributes(request));
+    }
     let (request, rest) = type_request_view_of(body)?;
     check_end(view.ext as usize, view.length as usize, rest)?;
-    Ok(request)
+    Ok(QuestionView::Types(request))
 }
 
 /// The registration or the withdrawal in front of the bytes, whose header was read from them. Its texts

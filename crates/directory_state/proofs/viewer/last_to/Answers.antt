@@ -1,4 +1,4 @@
-use Rattle.std.proofs.Common.{◌≡◌, ◌-◌, Some, length, sym, ap, ap₂, ◌∙◌}
+use Rattle.std.proofs.Common.{◌≡◌, ◌-◌, Bor, Some, length, sym, ap, ap₂, ◌∙◌}
 use Rattle.std.specs.Prelude.{slice_get}
 use Rattle.std.specs.Option.{option_map}
 use Rattle.std.proofs.lemmas.List.{length-map}
@@ -7,8 +7,8 @@ use Rattle.std.proofs.lemmas.Option.{slice_get_within, get_or_from_slice_get, sl
 use Rattle.slp_text.specs.Words.{bytes_cmp}
 use Rattle.registry_core.specs.declared.entry.Entry.{Entry}
 use Rattle.directory_state.specs.Searches.{entries_lent}
-use Rattle.directory_state.proofs.ArrangedEntries.{lent-has}
 use Rattle.directory_state.proofs.EachKind.{push-last}
+use Rattle.directory_state.proofs.OpenEntries.{mapped-has}
 use Rattle.directory_state.proofs.viewer.last_to.Goals as goal
 
 pub returns-in-Some-clause-equal : goal.returns-in-Some-clause-equal
@@ -17,7 +17,7 @@ returns-in-Some-clause-equal c = λ t.
     let at = sym c.in-Some.ensures.value in
     let n = length found - 1 in (
       c.in-Some.last.now.now,
-      lent-has found c.in-Some.last.now (n, slice_get_within found n c.in-Some.last.now at, get_or_from_slice_get found n c.in-Some.last.now c.in-Some.last.now at),
+      mapped-has (λ (p : Bor Entry). p.now) found c.in-Some.last.now (n, slice_get_within found n c.in-Some.last.now at, get_or_from_slice_get found n c.in-Some.last.now c.in-Some.last.now at),
       exact_bytes c.in-Some.last.now.now.kind c.args.entry.now.kind (ap₂ bytes_cmp (sym c.text.ensures) (sym c.text-in-Some.ensures) ∙ sym c.cmp.ensures ∙ t),
     )
 

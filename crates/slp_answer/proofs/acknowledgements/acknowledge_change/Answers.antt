@@ -7,6 +7,6 @@ use Rattle.slp_answer.proofs.acknowledgements.acknowledge_change.Goals as goal
 pub returns-in-Ok : goal.returns-in-Ok
 returns-in-Ok g c = λ o h fold legal.
     let reply = c.args.reply.now in
-    judged-told o h reply.call.now.moment reply.call.now.asker (heading_in reply.header.now) (message_in c.args.change.now) reply.rules.now c.in-Ok.sent c.code-told.new.answer.bytes.items c.code-told.new.answer.audit.items
+    judged-told o h reply.heard.now.call.now.moment reply.heard.now.call.now.asker (heading_in reply.heard.now.header) (message_in c.args.change.now) reply.rules.now c.in-Ok.sent c.code-told.new.answer.bytes.items c.code-told.new.answer.audit.items
     (judgement_in c.in_ok-decided.decided) (finding_of c.finding.result) c.change-change.result c.requires.sound legal (c.in_ok-decided.ensures o h fold legal) c.finding.ensures c.change-change.ensures
     c.in-Ok.ensures

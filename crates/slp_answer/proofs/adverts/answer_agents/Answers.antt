@@ -17,8 +17,8 @@ use Rattle.slp_answer.proofs.adverts.answer_agents.Goals.{else-not-is_empty-via-
 pub returns : goal.returns
 returns g c = λ o h fold legal.
     let query = c.args.query.now in
-    let call = call_in c.args.reply.now.call.now in
-    let head = heading_in c.args.reply.now.header.now in
+    let call = call_in c.args.reply.now.heard.now.call.now in
+    let head = heading_in c.args.reply.now.heard.now.header in
     let scopes : List (List ℕ) = c.in-Some.scopes in
     let site-is = c.site.ensures ∙ fold.placed in
     let either : (scopes ≡ []) ⊎ (list_any (supports c.args.directory.now.site) scopes ≡ true) = elim c.else-not-is_empty.branch [
@@ -37,8 +37,8 @@ returns g c = λ o h fold legal.
 pub returns-in_default : goal.returns-in_default
 returns-in_default g c = λ o h fold legal.
     let query = c.args.query.now in
-    let call = call_in c.args.reply.now.call.now in
-    let head = heading_in c.args.reply.now.header.now in
+    let call = call_in c.args.reply.now.heard.now.call.now in
+    let head = heading_in c.args.reply.now.heard.now.header in
     IfOk-weaker c.advert_code.result _ _
     (λ what tells. (advert_code head 2 (by_step decider.Parse None), (sym (ap (agents_outcome o.site call.own head query.kind) c.in_default.is), refl), tells))
     (rw (c.by.ensures.code, c.by.ensures.reason) at c.advert_code.ensures)
@@ -50,14 +50,14 @@ no-agent-for site (s ∷ scopes) some none = none
 pub returns-then-not-supports : goal.returns-then-not-supports
 returns-then-not-supports g c = λ o h fold legal.
     let query = c.args.query.now in
-    let head = heading_in c.args.reply.now.header.now in
+    let head = heading_in c.args.reply.now.heard.now.header in
     let scopes : List (List ℕ) = c.in-Some.scopes in
     let some : scopes ≡ [] → ⊥ = λ none. false≢true (sym c.if-not-is_empty.true ∙ c.is_empty.ensures.1 none) in
     let none = ap (λ (s : Site). list_any (supports s) scopes) (sym fold.placed) ∙ sym c.supports.ensures ∙ c.if-not-supports.true in
     IfOk-weaker c.advert_code-then-not-supports.result _ _
     (λ what tells. (
       advert_code head 4 (by_step decider.Scope (Some query.kind)),
-      agents-answer o h (call_in c.args.reply.now.call.now) head query scopes false c.in-Some.is (no-agent-for o.site scopes some none),
+      agents-answer o h (call_in c.args.reply.now.heard.now.call.now) head query scopes false c.in-Some.is (no-agent-for o.site scopes some none),
       tells,
     ))
     (rw (c.by-then-not-supports.ensures.code, c.by-then-not-supports.ensures.reason) at c.advert_code-then-not-supports.ensures)

@@ -11,8 +11,8 @@ use Rattle.slp_answer.proofs.questions.answer_question.Goals as goal
 
 pub returns-in-Silent : goal.returns-in-Silent
 returns-in-Silent g c = λ o h fold legal.
-    let call = call_in c.args.reply.now.call.now in
-    let head = heading_in c.args.reply.now.header.now in (
+    let call = call_in c.args.reply.now.heard.now.call.now in
+    let head = heading_in c.args.reply.now.heard.now.header in (
       silence,
       subst (λ (q : Question). IsAnswerTo o h call (sense_of_question o.site call.own head q) silence None) (sym c.in-Silent.is) (refl, refl),
       silence-tells c.args.reply.now.rules.now call.asker (Some head) c.args.answer.now.bytes.items c.args.answer.now.audit.items c.requires.no_reply c.requires.no_line,

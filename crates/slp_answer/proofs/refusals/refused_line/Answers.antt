@@ -1,15 +1,20 @@
-use Rattle.std.proofs.Common.{Option, take, sym, ap, ◌∙◌}
-use Rattle.slp_headers.specs.Headers.{Heading, heading_in, reply_function_of}
+use Rattle.std.proofs.Common.{List, ℕ, ap, subst, ◌∙◌}
 use Rattle.access_rules.specs.Deciding.{no_rules}
+use Rattle.slp_headers.specs.Headers.{heading_of}
 use Rattle.directory_questions.specs.Outcomes.{refusal_outcome}
-use Rattle.directory_questions.specs.Requests.{action_of}
+use Rattle.directory_questions.specs.Requests.{IsUnheard}
+use Rattle.directory_questions.specs.declared.call.Call.{Call}
 use Rattle.slp_answer.specs.Answers.{line_of}
-use Rattle.slp_answer.proofs.RefusalLines.{answered, line_is_refused}
+use Rattle.slp_answer.proofs.RefusalLines.{unheard_is}
 use Rattle.slp_answer.proofs.refusals.refused_line.Goals as goal
 
-pub returns : goal.returns
-returns c =
-    let some = answered c.in-Some-of.request in
-    line_is_refused c.args.asker (heading_in c.in-Some.header) some.0 c.action.result c.put_refusal.new.told.bytes
-    (some.1 ∙ ap reply_function_of c.in-Some-of.ensures.some) (c.action.ensures ∙ ap action_of c.in-Some-of.ensures.some) c.put_refusal.ensures
-    ∙ sym (ap (λ (o : Option Heading). line_of no_rules c.args.asker o (refusal_outcome o)) c.in-Some.ensures)
+abbrev refused : ℕ → List ℕ → List ℕ
+refused asker bytes = line_of no_rules asker (heading_of bytes) (refusal_outcome (heading_of bytes))
+
+pub returns-in-Some : goal.returns-in-Some
+returns-in-Some c =
+    c.refused_line_of.ensures
+    ∙ (ap (λ (k : Call). refused k.asker k.bytes.now) c.in-Some.ensures ∙ (ap (λ (a : ℕ). refused a c.anywhere.result.bytes.now) c.anywhere.ensures.asker ∙ ap (refused c.args.asker) c.anywhere.ensures.bytes))
+
+pub returns-in-None : goal.returns-in-None
+returns-in-None c = c.new.ensures ∙ (unheard_is c.args.asker c.args.bytes.now (subst IsUnheard c.anywhere.ensures.bytes c.in-None.ensures)).0

@@ -1,4 +1,4 @@
-use Rattle.std.proofs.Common.{map, sym, ap, subst, ◌∙◌}
+use Rattle.std.proofs.Common.{None, map, sym, ap, subst, ◌∙◌}
 use Rattle.std.specs.List.{list_any}
 use Rattle.std.proofs.lemmas.Result.{IfOk-weaker}
 use Rattle.slp_headers.specs.Headers.{heading_in}
@@ -7,14 +7,15 @@ use Rattle.directory_judge.specs.Sites.{Site}
 use Rattle.directory_questions.specs.Calls.{call_in, standpoint_of}
 use Rattle.directory_questions.specs.Items.{AreTypesOf}
 use Rattle.directory_state.specs.Searches.{entries_lent}
-use Rattle.slp_answer.proofs.AnswersTold.{found-supported, named-answer}
+use Rattle.slp_answer.specs.Answers.{query_fault_outcome}
+use Rattle.slp_answer.proofs.AnswersTold.{found-supported, named-answer, refused-types}
 use Rattle.slp_answer.proofs.text_replies.answer_types.Goals as goal
 
 pub returns-in-Ok : goal.returns-in-Ok
 returns-in-Ok g c = λ o h fold legal.
     let q = c.args.query.now in
-    let call = call_in c.args.reply.now.call.now in
-    let head = heading_in c.args.reply.now.header.now in
+    let call = call_in c.args.reply.now.heard.now.call.now in
+    let head = heading_in c.args.reply.now.heard.now.header in
     let supported = ap (λ (p : Site). list_any (supports p) q.scopes) (sym fold.placed) ∙ found-supported c.in-Ok.entries _ _ c.in-Ok.ensures.scope in
     IfOk-weaker c.texts.result _ _
     (λ what k. (
@@ -24,3 +25,16 @@ returns-in-Ok g c = λ o h fold legal.
       k.2,
     ))
     c.texts.ensures
+
+pub returns-in-Err : goal.returns-in-Err
+returns-in-Err g c = λ o h fold legal.
+    let q = c.args.query.now in
+    let head = heading_in c.args.reply.now.heard.now.header in
+    let fault = c.in-Err.fault in
+    IfOk-weaker c.query_fault.result _ _
+    (λ what told. (
+      query_fault_outcome head None fault,
+      refused-types o h (call_in c.args.reply.now.heard.now.call.now) head c.args.directory.now.site fold.placed q fault told.0 c.in-Err.ensures.scope c.in-Err.ensures.spoken,
+      told.1,
+    ))
+    c.query_fault.ensures

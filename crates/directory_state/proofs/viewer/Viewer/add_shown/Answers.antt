@@ -2,14 +2,14 @@ use Rattle.std.proofs.Common.{rules, ◌≡◌, ◌++◌, ℕ, Bool, List, sym, 
 use Rattle.std.specs.Prelude.{IfOk}
 use Rattle.slp_text.specs.Tags.{selects}
 use Rattle.attr_list.specs.Maps.{elements_in, kept_attributes}
-use Rattle.directory_state.proofs.ShownEntries.{no-tables, seen-whole}
+use Rattle.directory_state.proofs.ShownEntries.{no-tables, open-whole}
 use Rattle.directory_state.proofs.viewer.Viewer.add_shown.Goals as goal
 
 pub returns-then-hides-eq0 : goal.returns-then-hides-eq0
-returns-then-hides-eq0 c = λ seen.
+returns-then-hides-eq0 c =
     let v = c.args.self.now in
-    let e = c.args.entry.now in
+    let seen = c.args.seen in
     let p : List ℕ → Bool = selects c.args.tags.now in
     let none = no-tables v c.hides.result c.hides.ensures c.if-hides-eq0.true in
-    subst (λ a. IfOk c.add.result (λ _. c.add.new.self ≡ c.args.gathering.now ++ elements_in (kept_attributes a p))) (sym (seen-whole v e none seen))
+    subst (λ a. IfOk c.add.result (λ _. c.add.new.self ≡ c.args.gathering.now ++ elements_in (kept_attributes a p))) (sym (open-whole v seen.entry.now seen.first none c.requires))
     (c.add.ensures p (λ tag r met. search rules))

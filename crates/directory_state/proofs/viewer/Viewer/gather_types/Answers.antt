@@ -1,5 +1,5 @@
 use Rattle.std.proofs.Common.{◌≡◌, ◌++◌, ℕ, List, [], ◌∷◌, cond, true, None, sym, ap, subst, ◌∙◌}
-use Rattle.std.specs.Prelude.{filter, Contains}
+use Rattle.std.specs.Prelude.{filter, not, Contains}
 use Rattle.std.specs.List.{AllByRecursion}
 use Rattle.std.proofs.lemmas.List.{append_assoc, map-append}
 use Rattle.std.proofs.lemmas.List.Elements.{Contains-append_right}
@@ -7,6 +7,7 @@ use Rattle.registry_core.specs.declared.entry.Entry.{Entry}
 use Rattle.directory_state.specs.Searches.{entries_lent, is_seen, AreByKind, HasEachKind}
 use Rattle.directory_state.proofs.EachKind.{each-itself, each-past}
 use Rattle.directory_state.proofs.SeenUrls.{here}
+use Rattle.directory_state.proofs.ShownEntries.{seen-some}
 use Rattle.directory_state.proofs.viewer.Viewer.gather_types.Goals as goal
 
 pub loop-entry-init : goal.loop-entry-init
@@ -39,7 +40,7 @@ loop-entry-preserved g c =
     let e : Entry = c.in-Some.entry.now in
     let found : List Entry = entries_lent c.loop-entry.entries.items in
     let pushed : entries_lent c.push.new.self.items ≡ found ++ e ∷ [] = ap entries_lent c.in_ok-push.ensures.items ∙ map-append (λ p. p.now) c.loop-entry.entries.items (c.in-Some.entry ∷ []) in
-    let is : seen e ≡ true = sym c.sees.ensures ∙ c.if-not-sees.false in
+    let is : seen e ≡ true = seen-some c.args.self.now e c.sees.result c.sees.ensures ∙ c.is_none.ensures ∙ ap not c.if-is_none.false in
     let next : filter seen (rest c.loop-entry.from) ≡ e ∷ filter seen (rest c.in-Some.next) = ap (filter seen) c.in-Some.ensures.next ∙ ap (λ b. cond b (e ∷ filter seen (rest c.in-Some.next)) (filter seen (rest c.in-Some.next))) is in
     let there : HasEachKind (filter seen (rest 0)) ((found ++ e ∷ []) ++ filter seen (rest c.in-Some.next)) =
     subst (HasEachKind (filter seen (rest 0))) (ap (λ xs. found ++ xs) next ∙ sym (append_assoc found (e ∷ []) (filter seen (rest c.in-Some.next)))) c.loop-entry.invariant.each in

@@ -10,7 +10,7 @@ use Rattle.slp_answer.proofs.replies.Reply.advert_in.Goals as goal
 pub returns-clause-short : goal.returns-clause-short
 returns-clause-short c =
     let site = c.args.site.now in
-    let head = heading_in c.args.self.now.header.now in
+    let head = heading_in c.args.self.now.heard.now.header in
     let own = c.args.own in
     let datagram : length (plain_bytes (advert_of site own head)) ≤ 1400 = advert_size site own head (omega arith) (omega arith) c.scopes.ensures.limits.short_scopes in
     let size : length (plain_bytes (advert_of site own head)) ≤ 65535 = omega (arith, datagram) in

@@ -18,7 +18,7 @@ told false (b ∷ bs) because some = refl
 
 pub returns : goal.returns
 returns c =
-    let head = heading_in c.args.self.now.header.now in
+    let head = heading_in c.args.self.now.heard.now.header in
     let because = by_step decider.Nobody (option_copied c.args.kind) in
     record {
       replied = c.keep-sent.ensures.bytes;
