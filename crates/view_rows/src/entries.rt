@@ -1,10 +1,10 @@
 //! Loops that are inside their entries at the same time, on two threads.
-use crate::scene::{Asked, Scene, ask, print_whether};
+use crate::scene::{Scene, ask, call_of, print_whether};
 use crate::words::message_of;
 use access_rules::Addr;
 use history_log::Naming;
 use published_view::{DirectoryWriter, Gate, LoopView, OpenGate, ViewFault};
-use slp_answer::{Answer, Sent, is_change};
+use slp_answer::{Answer, Call, Sent, is_change};
 use std::alloc::Global;
 use std::io::{self, Write};
 use std::sync::atomic::{AtomicBool, AtomicU64, Ordering};
@@ -73,12 +73,8 @@ struct Hold<'a, J: Naming, R> {
 
 impl<'a, J: Naming, R: Wait> Hold<'a, J, R> {
     // What is asked of both loops.
-    fn asked(&self) -> Asked<'_> {
-        Asked {
-            moment: self.moment,
-            asker: self.asker,
-            bytes: self.question.as_slice(),
-        }
+    fn call(&self) -> Call<'_> {
+        call_of(self.moment, self.asker, self.question.as_slice())
     }
 
     // Asks the other loop, and counts the answers.
@@ -86,7 +82,7 @@ impl<'a, J: Naming, R: Wait> Hold<'a, J, R> {
         let mut other = self.other.lock(self.rt);
         if let Some(view) = &mut *other {
             for _ in 0..QUESTIONS {
-                if is_answered(self.alloc, view, &OpenGate, &self.asked()) {
+                if is_answered(self.alloc, view, &OpenGate, &self.call()) {
                     self.answered.fetch_add(1, Ordering::SeqCst);
                 }
             }
@@ -99,7 +95,7 @@ fn is_answered<J: Naming, G: Gate>(
     alloc: Global,
     view: &mut LoopView<J>,
     gate: &G,
-    question: &Asked<'_>,
+    question: &Call<'_>,
 ) -> bool {
     let mut answer = Answer::new(alloc);
     ask(alloc, view, gate, question, &mut answer) == Ok(Sent::Bytes(0))
@@ -110,7 +106,7 @@ fn is_answered_first<J: Naming>(
     alloc: Global,
     view: &mut LoopView<J>,
     meeting: &Meeting,
-    question: &Asked<'_>,
+    question: &Call<'_>,
 ) -> bool {
     let is_answered = is_answered(alloc, view, meeting, question);
     meeting.has_answered.store(true, Ordering::SeqCst);
@@ -119,7 +115,7 @@ fn is_answered_first<J: Naming>(
 
 // The same of the loop that is held.
 fn is_held_answered<J: Naming, R: Wait>(view: &mut LoopView<J>, hold: &Hold<'_, J, R>) -> bool {
-    is_answered(hold.alloc, view, hold, &hold.asked())
+    is_answered(hold.alloc, view, hold, &hold.call())
 }
 
 impl<'a, J: Naming, R: Wait> Gate for Hold<'a, J, R> {
@@ -139,7 +135,7 @@ impl<'a, J: Naming, R: Wait> Hold<'a, J, R> {
     fn new(
         rt: &'a R,
         alloc: Global,
-        question: &Asked<'_>,
+        question: &Call<'_>,
         bytes: Vec<u8>,
         other: LoopView<J>,
     ) -> Hold<'a, J, R> {
@@ -177,8 +173,8 @@ impl<'a, J: Naming, R: Wait> Hold<'a, J, R> {
 fn change_twice<J: Naming, R: Wait, Q: Wait + Drop>(
     hold: &Hold<'_, J, R>,
     writer: &mut DirectoryWriter<J, Q>,
-    first: &Asked<'_>,
-    second: &Asked<'_>,
+    first: &Call<'_>,
+    second: &Call<'_>,
 ) -> bool {
     if !is_set_in_time(&hold.is_inside) {
         return false;
@@ -195,7 +191,7 @@ fn change_twice<J: Naming, R: Wait, Q: Wait + Drop>(
 fn is_changed<J: Naming, Q: Wait + Drop>(
     alloc: Global,
     writer: &mut DirectoryWriter<J, Q>,
-    change: &Asked<'_>,
+    change: &Call<'_>,
 ) -> bool {
     if !is_change(change.bytes) {
         return false;
@@ -253,7 +249,7 @@ where
     }
 
     // Whether both loops answered, and whether both were inside at once.
-    fn meet(&mut self, question: &Asked<'_>) -> Option<(bool, bool)> {
+    fn meet(&mut self, question: &Call<'_>) -> Option<(bool, bool)> {
         let (mut one, mut other) = self.take_two()?;
         let meeting = Meeting {
             has_answered: AtomicBool::new(false),
@@ -275,7 +271,7 @@ where
     /// Both loops answer, the first of them once the other has.
     pub(crate) fn ask_two_at_once(&mut self, text: &str, out: &mut Vec<u8>) -> io::Result<()> {
         let bytes = message_of(self.alloc, text)?;
-        let question = self.asked_now(bytes.as_slice());
+        let question = self.call_now(bytes.as_slice());
         let Some((are_answered, were_both)) = self.meet(&question) else {
             return writeln!(out, "! loops");
         };
@@ -284,7 +280,7 @@ where
     }
 
     // What was seen while the first loop stayed inside its entry, and two changes were made.
-    fn hold_one(&mut self, bytes: Vec<u8>, first: &Asked<'_>, second: &Asked<'_>) -> Option<Held> {
+    fn hold_one(&mut self, bytes: Vec<u8>, first: &Call<'_>, second: &Call<'_>) -> Option<Held> {
         let (mut one, other) = self.take_two()?;
         let alloc = self.alloc;
         let hold = Hold::new(self.rt, alloc, first, bytes, other);
@@ -308,8 +304,8 @@ where
         let first = message_of(self.alloc, first)?;
         let second = message_of(self.alloc, second)?;
         let question = message_of(self.alloc, question)?;
-        let first = self.asked_now(first.as_slice());
-        let second = self.asked_now(second.as_slice());
+        let first = self.call_now(first.as_slice());
+        let second = self.call_now(second.as_slice());
         let Some(held) = self.hold_one(question, &first, &second) else {
             return writeln!(out, "! loops");
         };

@@ -1,10 +1,11 @@
 //! Changes in which no order is seen, through the writer and on a directory of its own.
 use crate::numbers::Numbers;
 use crate::opening::OPENING_RULES;
-use crate::scene::{Asked, Scene};
+use crate::scene::{Scene, call_of};
 use crate::words::message_of;
 use access_rules::Addr;
 use history_log::Naming;
+use slp_answer::Call;
 use std::alloc::{AllocError, Global};
 use std::io;
 use std::sync::Wait;
@@ -109,9 +110,9 @@ fn some_question(alloc: Global, numbers: &mut Numbers) -> Result<Vec<u8>, AllocE
 
 impl<'r, J: Naming, R: Wait> Scene<'r, J, R> {
     // Whether what is published and the directory of its own answer the same.
-    fn is_answered_alike(&mut self, asked_now: &Asked<'_>) -> bool {
-        let told = self.send(asked_now);
-        let stepped = self.step(asked_now);
+    fn is_answered_alike(&mut self, call: &Call<'_>) -> bool {
+        let told = self.send(call);
+        let stepped = self.step(call);
         let is_same = self.answer.bytes.as_slice() == self.plain_answer.bytes.as_slice()
             && self.answer.audit.as_slice() == self.plain_answer.audit.as_slice();
         told == stepped && told.is_ok() && is_same
@@ -127,8 +128,8 @@ impl<'r, J: Naming, R: Wait> Scene<'r, J, R> {
             }
             _ => {
                 let bytes = some_change(self.alloc, numbers)?;
-                let asked_now = some_asked(numbers, moment, bytes.as_slice());
-                Ok(self.is_answered_alike(&asked_now))
+                let call = some_call(numbers, moment, bytes.as_slice());
+                Ok(self.is_answered_alike(&call))
             }
         }
     }
@@ -149,8 +150,8 @@ impl<'r, J: Naming, R: Wait> Scene<'r, J, R> {
             }
             self.turn_to(numbers.below(2));
             let bytes = some_question(self.alloc, &mut numbers)?;
-            let asked_now = some_asked(&mut numbers, moment, bytes.as_slice());
-            if !is_alike || !self.is_answered_alike(&asked_now) {
+            let call = some_call(&mut numbers, moment, bytes.as_slice());
+            if !is_alike || !self.is_answered_alike(&call) {
                 return Ok(count);
             }
         }
@@ -159,15 +160,12 @@ impl<'r, J: Naming, R: Wait> Scene<'r, J, R> {
 }
 
 // One of two askers, about now.
-fn some_asked<'a>(numbers: &mut Numbers, moment: u32, bytes: &'a [u8]) -> Asked<'a> {
+fn some_call<'a>(numbers: &mut Numbers, moment: u32, bytes: &'a [u8]) -> Call<'a> {
     let asker = if numbers.below(2) == 0 {
         Addr(0x0a00_0001)
     } else {
         Addr(0x0a00_0002)
     };
-    Asked {
-        moment: moment.saturating_sub(numbers.below(2) as u32),
-        asker,
-        bytes,
-    }
+    let moment = moment.saturating_sub(numbers.below(2) as u32);
+    call_of(moment, asker, bytes)
 }

@@ -81,7 +81,7 @@ pub(crate) fn ask<J: Naming, G: Gate>(
     alloc: Global,
     view: &mut LoopView<J>,
     gate: &G,
-    question: &Asked<'_>,
+    question: &Call<'_>,
     answer: &mut Answer,
 ) -> Result<Sent, ViewFault> {
     if is_change(question.bytes) {
@@ -99,12 +99,15 @@ pub(crate) fn ask<J: Naming, G: Gate>(
     )
 }
 
-/// Bytes, when they come, and from whom.
-#[derive(Clone, Copy)]
-pub(crate) struct Asked<'a> {
-    pub moment: u32,
-    pub asker: Addr,
-    pub bytes: &'a [u8],
+/// Bytes that come as a datagram, when they come, and from whom.
+pub(crate) fn call_of<'a>(moment: u32, asker: Addr, bytes: &'a [u8]) -> Call<'a> {
+    Call {
+        own: OWN,
+        moment,
+        asker,
+        bytes,
+        limit: DATAGRAM,
+    }
 }
 
 impl<'r, J: Naming, R: Wait> Scene<'r, J, R> {
@@ -139,26 +142,20 @@ impl<'r, J: Naming, R: Wait> Scene<'r, J, R> {
     }
 
     /// Bytes that come now.
-    pub(crate) fn asked_now<'a>(&self, bytes: &'a [u8]) -> Asked<'a> {
-        Asked {
-            moment: self.moment,
-            asker: self.asker,
-            bytes,
-        }
+    pub(crate) fn call_now<'a>(&self, bytes: &'a [u8]) -> Call<'a> {
+        call_of(self.moment, self.asker, bytes)
     }
 
     /// Bytes that come to the agent: a change goes to the writer, a question to the loop.
-    pub(crate) fn send(&mut self, asked_now: &Asked<'_>) -> Result<Sent, u8> {
-        let Asked {
-            moment,
-            asker,
-            bytes,
-        } = *asked_now;
-        if is_change(bytes) {
-            return match self
-                .writer
-                .change(self.alloc, moment, asker, bytes, &mut self.answer)
-            {
+    pub(crate) fn send(&mut self, call: &Call<'_>) -> Result<Sent, u8> {
+        if is_change(call.bytes) {
+            return match self.writer.change(
+                self.alloc,
+                call.moment,
+                call.asker,
+                call.bytes,
+                &mut self.answer,
+            ) {
                 Ok(sent) => Ok(sent),
                 Err(fault) => Err(fault as u8),
             };
@@ -166,39 +163,19 @@ impl<'r, J: Naming, R: Wait> Scene<'r, J, R> {
         let Some(view) = self.views.get_mut(self.place) else {
             return Err(0);
         };
-        let told = view.answer(
-            self.alloc,
-            &OpenGate,
-            OWN,
-            moment,
-            asker,
-            bytes,
-            DATAGRAM,
-            &mut self.answer,
-        );
-        match told {
+        match ask(self.alloc, view, &OpenGate, call, &mut self.answer) {
             Ok(sent) => Ok(sent),
             Err(fault) => Err(fault as u8),
         }
     }
 
     /// The same bytes, as one directory answers them.
-    pub(crate) fn step(&mut self, asked_now: &Asked<'_>) -> Result<Sent, u8> {
-        let Asked {
-            moment,
-            asker,
-            bytes,
-        } = *asked_now;
-        let call = Call {
-            own: OWN,
-            moment,
-            asker,
-            bytes,
-            limit: DATAGRAM,
-        };
+    pub(crate) fn step(&mut self, call: &Call<'_>) -> Result<Sent, u8> {
         // It costs what the agent pays to tell a change from a question.
-        self.changes = self.changes.saturating_add(u64::from(is_change(bytes)));
-        let told = step(self.alloc, &mut *self.plain, &call, &mut self.plain_answer);
+        self.changes = self
+            .changes
+            .saturating_add(u64::from(is_change(call.bytes)));
+        let told = step(self.alloc, &mut *self.plain, call, &mut self.plain_answer);
         match told {
             Ok(sent) => Ok(sent),
             Err(NoMemory) => Err(2),
@@ -283,15 +260,15 @@ where
     // A row with a message.
     fn tell(&mut self, word: &str, rest: &str, out: &mut Vec<u8>) -> io::Result<()> {
         let bytes = message_of(self.alloc, rest)?;
-        let asked_now = self.asked_now(bytes.as_slice());
+        let call = self.call_now(bytes.as_slice());
         let is_quiet = self.is_quiet;
         match word {
             "send" => {
-                let told = self.send(&asked_now);
+                let told = self.send(&call);
                 print_answer(out, told, &self.answer, is_quiet)
             }
             "step" => {
-                let told = self.step(&asked_now);
+                let told = self.step(&call);
                 print_answer(out, told, &self.plain_answer, is_quiet)
             }
             _ => Ok(()),
