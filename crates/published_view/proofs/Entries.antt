@@ -1,5 +1,5 @@
 -- Each step of a thread goes on with the run.
-use Rattle.std.proofs.Common.{◌≡◌, ℕ, ◌+◌, ◌<◌, ◌≤◌, ◌≢◌, Bool, true, false, cond, List, [], ◌∷◌, ◌++◌, length, set, suc, zero, refl, sym, ap, subst, ◌∙◌, arith, Option, Some, None, inl, inr, ⊎_elim}
+use Rattle.std.proofs.Common.{◌≡◌, ℕ, ◌<◌, ◌≤◌, ◌≢◌, Bool, true, false, cond, List, [], ◌∷◌, ◌++◌, length, set, suc, zero, refl, sym, ap, subst, ◌∙◌, arith, Option, Some, None, inl, inr, ⊎_elim}
 use Rattle.std.specs.Prelude.{◌⊎◌, ◌==◌, Contains}
 use Rattle.std.specs.List.{AllByRecursion}
 use Rattle.std.proofs.lemmas.Bool.Decides.{nat_tests}
@@ -12,10 +12,10 @@ use Rattle.directory_judge.specs.History.{History}
 use Rattle.directory_questions.specs.Calls.{Opening, Call}
 use Rattle.directory_questions.specs.Outcomes.{Outcome}
 use Rattle.history_log.specs.Pasts.{IsPast}
-use Rattle.history_log.proofs.Pasts.{IsPast-self, IsPast-nil, IsPast-trans}
-use Rattle.directory_runs.specs.Runs.{Happening, Publish, Sweep, Reload, Entry, Look, Tell, Learn, Refusal, World, Run, IsRun, May, happened, world}
+use Rattle.history_log.proofs.Pasts.{IsPast-self, IsPast-trans}
+use Rattle.directory_runs.specs.Runs.{Happening, Publish, Sweep, Reload, Entry, Look, Tell, Learn, Refusal, Run, IsRun, world}
 use Rattle.directory_runs.specs.Served.{Visit, IsTold, last_seen, visits_of, is_write}
-use Rattle.published_view.specs.Traces.{Mark, Asked, Wrote, Trace, last_at, told_of, told_visits, AreTold, AreAllTold, AreMade, HasWrite, HaveRuns, HasRuns, IsMade, IsRunBehind, IsWriteFor, IsWritten, IsWrittenIn}
+use Rattle.published_view.specs.Traces.{Mark, Asked, Wrote, Trace, last_at, told_of, told_visits, AreTold, AreAllTold, AreMade, HaveRuns, HasRuns, IsMade, IsWriteFor, IsWritten, IsWrittenIn}
 use Rattle.directory_runs.proofs.Kept.{grows}
 use Rattle.directory_runs.proofs.Merging.{visit_by, visit_may, visit_alike, newest, others-newest}
 

@@ -1,10 +1,9 @@
 //! What answers in one thread, and what it learns of the writer.
 ghost use Rattle.std.specs.Prelude.{◌≡◌, ◌⊎◌, ◌≤◌, [], None, Some, false, length, All, vec_len, IfOk, IfErr, OnOk, OnErr, IsErrOf};
 ghost use Rattle.directory_questions.specs.Answers.{is_change_of};
-ghost use Rattle.directory_questions.specs.Calls.{call_in};
-ghost use Rattle.directory_questions.specs.Requests.{function_in, is_change_function, IsUnheard};
 ghost use Rattle.history_log.specs.Pasts.{IsPast};
 ghost use Rattle.slp_answer.specs.Answers.{Replies};
+ghost use Rattle.published_view.specs.Rules.{call_heard, IsQuestion};
 ghost use Rattle.published_view.specs.Traces.{last_at, IsAsked};
 
 use crate::fault::ViewFault;
@@ -58,19 +57,19 @@ impl<J: Naming> Model for LoopView<J> {
 }
 
 impl<J: Naming> LoopView<J> {
-    /// Answers a question, at one history that was published, which goes on from all that was seen before. It takes no lock, and never
-    /// waits. After a refusal the answer is empty; where memory was wanting, what was published counts as seen.
+    /// Answers a question, at one history that was published, which goes on from all that was seen before; what is unheard is answered with nothing.
+    /// It takes no lock, and never waits. After a refusal the answer is empty; where memory was wanting, what was published counts as seen.
     pub fn hear<G: Gate>(
         &mut self,
         alloc: Global,
         gate: &G,
-        heard: &Heard<'_>,
+        heard: Result<&Heard<'_>, &Call<'_>>,
         answer: &mut Answer,
     ) -> Result<Sent, ViewFault>
-        requires { is_change_function (function_in heard.now.request) ≡ false }
-        ensures asked { OnOk result (IsAsked J.opening self.old (Some (call_in heard.now.call.now)) self.new) }
-        ensures told { IfOk result (λ what. Replies J.opening (last_at self.new) (call_in heard.now.call.now) what answer.new.bytes.items answer.new.audit.items) }
-        ensures untold { OnErr result ((self.new ≡ self.old) ⊎ IsAsked J.opening self.old (Some (call_in heard.now.call.now)) self.new) }
+        requires { IsQuestion heard }
+        ensures asked { OnOk result (IsAsked J.opening self.old (Some (call_heard heard.entry)) self.new) }
+        ensures told { IfOk result (λ what. Replies J.opening (last_at self.new) (call_heard heard.entry) what answer.new.bytes.items answer.new.audit.items) }
+        ensures untold { OnErr result ((self.new ≡ self.old) ⊎ IsAsked J.opening self.old (Some (call_heard heard.entry)) self.new) }
         ensures later { IsPast (last_at self.old) (last_at self.new) }
         ensures no_reply { OnErr result (answer.new.bytes.items ≡ []) }
         ensures no_line { OnErr result (answer.new.audit.items ≡ []) }
@@ -79,48 +78,11 @@ impl<J: Naming> LoopView<J> {
     {
         let reader = self.reader.take().unwrap();
         let (reader, entered) = answered::<J, G, Brand>(
-            alloc,
-            reader,
-            gate,
-            self.place,
-            Ok(heard),
-            answer,
+            alloc, reader, gate, self.place, heard, answer,
         );
         self.reader = Some(reader);
         let sent = entered?;
         Ok(sent?)
-    }
-
-    /// Answers with nothing what is unheard. It is an entry all the same.
-    pub fn pass<G: Gate>(
-        &mut self,
-        alloc: Global,
-        gate: &G,
-        call: &Call<'_>,
-        answer: &mut Answer,
-    ) -> Result<Sent, ViewFault>
-        requires { IsUnheard call.now.bytes.now }
-        ensures asked { OnOk result (IsAsked J.opening self.old (Some (call_in call.now)) self.new) }
-        ensures told { IfOk result (λ what. Replies J.opening (last_at self.new) (call_in call.now) what answer.new.bytes.items answer.new.audit.items) }
-        ensures untold { OnErr result ((self.new ≡ self.old) ⊎ IsAsked J.opening self.old (Some (call_in call.now)) self.new) }
-        ensures later { IsPast (last_at self.old) (last_at self.new) }
-        ensures no_reply { OnErr result (answer.new.bytes.items ≡ []) }
-        ensures no_line { OnErr result (answer.new.audit.items ≡ []) }
-        ensures closed { IsErrOf result ViewFault.Closed → self.new ≡ self.old }
-        ensures faults { IfErr result (λ e. (e ≡ ViewFault.NoMemory) ⊎ (e ≡ ViewFault.Closed)) }
-    {
-        let reader = self.reader.take().unwrap();
-        let (reader, entered) = answered::<J, G, Brand>(
-            alloc,
-            reader,
-            gate,
-            self.place,
-            Err(call),
-            answer,
-        );
-        self.reader = Some(reader);
-        let passed = entered?;
-        Ok(passed?)
     }
 
     /// Answers bytes that ask for no change, in at most `limit` bytes, in the same way. `own` is the address of the loop that
@@ -156,8 +118,8 @@ impl<J: Naming> LoopView<J> {
             limit,
         };
         match Heard::of(&call) {
-            Some(heard) => self.hear(alloc, gate, &heard, answer),
-            None => self.pass(alloc, gate, &call, answer),
+            Some(heard) => self.hear(alloc, gate, Ok(&heard), answer),
+            None => self.hear(alloc, gate, Err(&call), answer),
         }
     }
 

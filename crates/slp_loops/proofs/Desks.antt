@@ -1,5 +1,5 @@
 -- What a desk answers, by what its view or its writer told.
-use Rattle.std.proofs.Common.{◌≡◌, ℕ, true, false, [], List, Option, Some, None, Result, Ok, Err, refl, sym, ap, ◌∙◌, subst}
+use Rattle.std.proofs.Common.{◌≡◌, ℕ, true, false, List, Some, None, Result, Ok, Err, sym, ap, ◌∙◌, subst}
 use Rattle.std.proofs.lemmas.Bool.{true≢false}
 use Rattle.std.specs.Prelude.{◌⊎◌, IfOk, OnErr, OnOk}
 use Rattle.slp_text.specs.declared.faults.NoMemory.{NoMemory}

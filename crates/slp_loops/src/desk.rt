@@ -187,14 +187,14 @@ impl<'r, 's, J: Naming, R: Wait, M: Moments + Drop, G: Gate, L: Log + Drop> Serv
             limit,
         };
         let Some(heard) = Heard::of(&call) else {
-            let told = self.view.pass(self.alloc, self.gate, &call, answer);
+            let told = self.view.hear(self.alloc, self.gate, Err(&call), answer);
             return self.tell(told, None, answer);
         };
         if heard.request.is_change() {
             let told = self.change(&heard, answer);
             return self.tell(told, Some(&heard), answer);
         }
-        let told = self.view.hear(self.alloc, self.gate, &heard, answer);
+        let told = self.view.hear(self.alloc, self.gate, Ok(&heard), answer);
         self.tell(told, Some(&heard), answer)
     }
 

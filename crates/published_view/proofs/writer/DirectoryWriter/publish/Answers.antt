@@ -1,14 +1,13 @@
-use Rattle.std.proofs.Common.{◌≡◌, List, [], ◌∷◌, Option, Some, true, false, sym, ap, ◌∙◌, subst, Result, Ok, Err}
+use Rattle.std.proofs.Common.{◌≡◌, [], ◌∷◌, Option, Some, true, false, sym, ap, ◌∙◌, subst, Result, Ok, Err}
 use Rattle.std.specs.Option.{option_map_or}
 use Rattle.std.specs.Prelude.{MatchResult, IsSomeAnd}
 use Rattle.std.specs.Result.{is_err}
 use Rattle.left_right.specs.Sides.{view}
 use Rattle.directory_judge.specs.Contents.{content}
-use Rattle.directory_judge.specs.History.{History}
 use Rattle.directory_state.specs.State.{state_made}
 use Rattle.history_log.specs.Events.{history_in}
 use Rattle.published_view.specs.Changes.{Writing}
-use Rattle.published_view.specs.Traces.{Trace, Wrote}
+use Rattle.published_view.specs.Traces.{Wrote}
 use Rattle.published_view.specs.declared.copies.PublishedCopy.{PublishedCopy}
 use Rattle.published_view.specs.declared.copies.Step.{Step}
 use Rattle.published_view.specs.Rules.{IsAfter, history_of}

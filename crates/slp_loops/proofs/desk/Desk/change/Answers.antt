@@ -1,4 +1,4 @@
-use Rattle.std.proofs.Common.{◌≡◌, true, Result, Ok, Err, rules, sym, ◌∙◌, subst}
+use Rattle.std.proofs.Common.{◌≡◌, true, Result, Ok, Err, sym, ◌∙◌, subst}
 use Rattle.std.specs.Prelude.{IfOk, OnOk}
 use Rattle.std.specs.Result.{is_ok}
 use Rattle.std.proofs.lemmas.Bool.{true≢false}
