@@ -1,10 +1,11 @@
 -- Which rule decides, and which tags are hidden.
-use Rattle.std.specs.Prelude.{ℕ, Bool, true, false, ◌-◌, ◌/◌, ◌^◌, ◌==◌, ◌&&◌, ◌||◌, not, nat_le, List, [], length, position, slice_get, Option, Some, None}
+use Rattle.std.specs.Prelude.{◌≡◌, ℕ, Bool, true, false, ◌-◌, ◌/◌, ◌^◌, ◌==◌, ◌&&◌, ◌||◌, not, nat_le, if◌then◌else◌, List, [], ◌∷◌, ◌++◌, length, position, slice_get, Option, Some, None}
 use Rattle.std.specs.List.{list_all, list_any}
 use Rattle.std.specs.Option.{option_map_or}
 use Rattle.slp_text.specs.Tags.{selects}
 use Rattle.slp_text.specs.Words.{bytes_eq}
 use Rattle.service_url.specs.Types.{covers}
+use Rattle.access_rules.specs.declared.about.RulesAbout.{RulesAbout}
 use Rattle.access_rules.specs.declared.hide.FittingHides.{FittingHides}
 use Rattle.access_rules.specs.declared.hide.Hide.{Hide}
 use Rattle.access_rules.specs.declared.rule.Action.{Action}
@@ -91,6 +92,11 @@ verdict_at rules (Some index) = record { allow = option_map_or (λ r. r.allow) (
 abbrev pub deciding : SiteRules → Deed → List ℕ → Verdict
 deciding rules d scope = verdict_at rules (position (fits d scope) (rules_in rules))
 
+-- whether the first rule that fits allows; without one all is denied
+abbrev pub allowed_by : List Rule → Deed → List ℕ → Bool
+allowed_by [] d scope = false
+allowed_by (r ∷ rs) d scope = if fits d scope r then r.allow else allowed_by rs d scope
+
 -- a rule is about owners, if it is about this action
 abbrev pub is_owners : Action → Rule → Bool
 is_owners action r = not (action_eq r.action action) || r.owner
@@ -122,3 +128,30 @@ is_hidden_by f d scope tag = selects f.first.now.tags tag || some_hides f.rest.n
 abbrev pub is_hidden_from : Option FittingHides → Deed → List ℕ → List ℕ → Bool
 is_hidden_from None d scope tag = false
 is_hidden_from (Some f) d scope tag = is_hidden_by f d scope tag
+
+-- ---- what is about one asker
+
+-- the rule is about what this asker sees
+abbrev pub is_rule_about : Rule → ℕ → Bool
+is_rule_about r asker = action_eq r.action See && list_any (λ p. holds p asker) r.from
+
+-- the table hides from this asker
+abbrev pub is_hide_about : Hide → ℕ → Bool
+is_hide_about h asker = list_any (λ p. holds p asker) h.from
+
+-- a part of a list: what is in front of it and behind it is none of these
+pub record IsPart {A : Type 0} (is : A → Bool) (part all : List A) : Type 0 where
+  pub before : List A
+  pub after : List A
+  pub whole : all ≡ before ++ (part ++ after)
+  pub none_before : list_any is before ≡ false
+  pub none_after : list_any is after ≡ false
+
+-- what is about an asker, wherever it lies
+abbrev pub part_in : RulesAbout → SiteRules
+part_in a = record { rules = a.rules.now; hides = a.hides.now }
+
+-- some rules and tables decide of what an asker sees as all do
+pub record SeeAlike (asker : ℕ) (some all : SiteRules) : Type 0 where
+  pub opens : (d : Deed) (scope : List ℕ) → d.asker ≡ asker → d.action ≡ See → allowed_by (rules_in some) d scope ≡ (deciding all d scope).allow
+  pub hides : (d : Deed) (scope tag : List ℕ) → d.asker ≡ asker → is_hidden some d scope tag ≡ is_hidden all d scope tag

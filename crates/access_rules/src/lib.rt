@@ -2,6 +2,7 @@
 //! decides. And which tags are hidden from whom.
 #![tactic(auto)]
 
+mod about;
 mod address;
 mod fault;
 pub mod fields;
@@ -12,6 +13,7 @@ mod rule;
 mod rules;
 mod version;
 
+pub use about::RulesAbout;
 pub use address::{Addr, number};
 pub use fault::RuleFault;
 pub use hide::{FittingHides, Hide};

@@ -1,10 +1,10 @@
-ghost use Rattle.std.specs.Prelude.{◌≡◌, ◌<◌, ℕ, List, length, position, slice_get, Some, IfSome};
+ghost use Rattle.std.specs.Prelude.{◌≡◌, ◌<◌, length, position, slice_get, Some, IfSome};
 ghost use Rattle.std.specs.Option.{option_map};
-ghost use Rattle.access_rules.specs.Deciding.{deciding, deed, deed_in, fits, hides_in, is_hidden, is_hidden_from, number, rules_in};
+ghost use Rattle.access_rules.specs.Deciding.{deciding, deed, deed_in, fits, hides_in, is_hidden, number, rules_in};
 ghost use Rattle.access_rules.specs.declared.rule.Action.TheVariants.{See};
 
 use crate::address::Addr;
-use crate::hide::{FittingHides, Hide, fitting, some_hides};
+use crate::hide::{Hide, some_hides};
 use crate::rule::{Action, Deed, Rule};
 use service_url::ServiceType;
 use slp_text::Key;
@@ -138,21 +138,7 @@ impl Rules {
         )
     }
 
-    /// The hide tables that fit what is asked in a scope, if there are any: each is asked once, up to the first that fits. Takes no memory.
-    pub fn fitting_hides<'a>(&'a self, deed: &Deed<'_>, scope: &Key) -> Option<FittingHides<'a>>
-        ensures { (tag : List ℕ) → is_hidden_from result (deed_in deed.now) scope.now tag ≡ is_hidden self.now (deed_in deed.now) scope.now tag }
-    {
-        fitting(&self.hides, deed, scope)
-    }
-
-    /// Whether some hide table that fits what is asked in a scope selects a tag: no rule is asked. Takes no memory.
-    pub fn hides_tag(&self, deed: &Deed<'_>, scope: &Key, tag: &Key) -> bool
-        ensures { result ≡ is_hidden self.now (deed_in deed.now) scope.now tag.now }
-    {
-        some_hides(&self.hides, deed, scope, tag)
-    }
-
-    /// The same, where what is asked comes in parts.
+    /// Whether some hide table that fits what an asker sees in a scope selects a tag: no rule is asked. Takes no memory.
     pub fn hidden(
         &self,
         asker: Addr,
@@ -163,7 +149,8 @@ impl Rules {
     ) -> bool
         ensures { result ≡ is_hidden self.now (deed asker See kind.now registrant) scope.now tag.now }
     {
-        self.hides_tag(
+        some_hides(
+            &self.hides,
             &Deed {
                 asker,
                 action: Action::See,

@@ -21,6 +21,9 @@ use Rattle.slp_wire.specs.Spelling.{plain_bytes}
 use Rattle.registry_core.specs.declared.entry.Entry.{Entry}
 use Rattle.registry_core.specs.Entries.{Entries, entries_of_list, if_kept, is_kind, outlives, pair_of, passing_entries, IsDistinct, IsListing}
 use Rattle.registry_core.proofs.Lists.{entries_of_list-placed, find-if_kept, get-entries_of_list, passing_entries-is, placed, IsDistinct-filter, IsDistinct-placed, listing}
+use Rattle.access_rules.specs.Deciding.{is_hide_about, is_rule_about}
+use Rattle.access_rules.proofs.Abouts.{see_alike}
+use Rattle.access_rules.proofs.Parts.{whole_part}
 use Rattle.directory_judge.specs.Contents.{Content, Stores, Edits, Withdraws, Sweeps, Reloads, content_on, moment_in}
 use Rattle.directory_judge.specs.History.{Event, History, now}
 use Rattle.directory_judge.specs.Judgements.{by_step, code_by, judgement, supports}
@@ -47,7 +50,7 @@ use Rattle.directory_state.specs.Searches.{deadlines_with, is_seen, item_at, see
 use Rattle.directory_state.specs.State.{State, is_full_for, state_after, state_changed, swept}
 use Rattle.directory_state.specs.Viewers.{IsViewerOf}
 use Rattle.directory_state.specs.declared.search.Spoken.TheVariants.{Nothing, Others, Asked}
-use Rattle.directory_state.specs.declared.viewer.Viewer.{Viewer}
+use Rattle.directory_state.specs.declared.asked.Viewer.{Viewer}
 use Rattle.directory_state.proofs.ArrangedEntries.{all_elsewhere, arranged-in_order, none_here, some_here, types-in_order}
 use Rattle.directory_state.proofs.Joins.{is_same, reversed}
 use Rattle.directory_state.proofs.Judgements.{AreLive-state}
@@ -228,7 +231,7 @@ module _ (o : Opening) (h : History) (legal : IsLegal o h) (c : Call) (datagram 
   held = held-after o h
 
   abbrev viewer : List (List ℕ) → Viewer
-  viewer scopes = record { asker = c.asker; moment = max c.moment s.clock; rules = record { ref_ptr = (0, 0); now = s.rules }; asked = asked_scopes s.site scopes }
+  viewer scopes = record { asker = c.asker; moment = max c.moment s.clock; rules = record { ref_ptr = (0, 0); now = s.rules }; about = record { rules = record { ref_ptr = (0, 0); now = s.rules.rules }; hides = record { ref_ptr = (0, 0); now = s.rules.hides } }; asked = asked_scopes s.site scopes; alike = see_alike c.asker s.rules s.rules (whole_part (λ r. is_rule_about r c.asker) s.rules.rules) (whole_part (λ h. is_hide_about h c.asker) s.rules.hides) }
 
   views : (scopes : List (List ℕ)) → IsViewerOf s c.moment c.asker scopes (viewer scopes)
   views scopes = record { rules = refl; asked = refl; asks = refl; acts = refl }

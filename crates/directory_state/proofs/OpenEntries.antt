@@ -26,7 +26,7 @@ use Rattle.attr_list.specs.Lists.{Attributes}
 use Rattle.directory_state.specs.Folds.{Fold}
 use Rattle.directory_state.specs.Searches.{is_allowed, is_open, is_seen, seen_of, HasOneOfEachPair, IsIn}
 use Rattle.directory_state.specs.Viewers.{IsViewerOf}
-use Rattle.directory_state.specs.declared.viewer.Viewer.{Viewer}
+use Rattle.directory_state.specs.declared.asked.Viewer.{Viewer}
 use Rattle.directory_state.specs.State.{State}
 use Rattle.directory_state.proofs.Folds.{if_kept-some, some-if_kept}
 use Rattle.directory_state.proofs.Joins.{is_same-itself}

@@ -1,6 +1,7 @@
 -- Entries, and what is shown of them.
 use Rattle.std.proofs.Common.{◌≡◌, ◌<◌, ◌+◌, ℕ, Bool, true, false, cond, not, List, [], ◌∷◌, ◌++◌, length, get_or, map, Option, Some, None, refl, sym, ap, subst, ◌∙◌, arith, inl, inr}
-use Rattle.std.specs.Prelude.{◌&&◌, ◌||◌, filter, flat_map, is_some, slice_get, Contains, IfSome, IsTrue, MatchOption}
+use Rattle.std.specs.Prelude.{◌&&◌, ◌||◌, nat_eq, filter, flat_map, is_some, slice_get, Contains, IfSome, IsTrue, MatchOption}
+use Rattle.std.proofs.lemmas.Bool.Decides.{nat_tests}
 use Rattle.std.proofs.lemmas.List.{nil_from_length}
 use Rattle.std.proofs.lemmas.List.Elements.{Contains-append_cases}
 use Rattle.std.proofs.lemmas.Option.{get_or_from_slice_get, slice_get-get_or}
@@ -13,7 +14,7 @@ use Rattle.attr_list.proofs.KeptAttributes.{get-kept, joined-kept, kept-all, kep
 use Rattle.slp_text.proofs.KeySets.{member_cases}
 use Rattle.slp_text.specs.Tags.{Part, selects}
 use Rattle.slp_text.specs.Words.{bytes_eq, IsAscending}
-use Rattle.access_rules.specs.Deciding.{Deed, deed, hides_in, is_hidden, is_hidden_by, is_hidden_from, some_hides}
+use Rattle.access_rules.specs.Deciding.{Deed, deed, hides_in, is_hidden, is_hidden_by, is_hidden_from, part_in, some_hides}
 use Rattle.access_rules.specs.declared.hide.FittingHides.{FittingHides}
 use Rattle.access_rules.specs.declared.rule.Action.TheVariants.{See}
 use Rattle.registry_core.specs.Entries.{outlives}
@@ -25,7 +26,7 @@ use Rattle.directory_state.specs.Deadlines.{UrlDeadline, with_deadline}
 use Rattle.directory_state.specs.Searches.{deadlines_with, is_allowed, is_seen, open_scopes, seen_of, shown_elements, shows_in, AreSeenBy, IsFirst, IsIn, IsInAnd, IsSeenFrom, IsSight, ShowsAll}
 use Rattle.directory_state.specs.declared.shown.Sight.{Sight}
 use Rattle.directory_state.specs.declared.viewer.Seen.{Seen}
-use Rattle.directory_state.specs.declared.viewer.Viewer.{Viewer}
+use Rattle.directory_state.specs.declared.asked.Viewer.{Viewer}
 use Rattle.directory_state.proofs.OpenEntries.{any-none, any-some, mapped-from, mapped-has}
 use Rattle.directory_state.proofs.SeenUrls.{drop_here}
 
@@ -88,6 +89,11 @@ HidesAs v e o d s = (tag : List ℕ) → is_hidden_from o d s tag ≡ is_hidden 
 abbrev pub seeing : Viewer → Entry → Deed
 seeing v e = deed v.asker See e.kind e.owner
 
+-- what is about who asks is asked alone
+module _ (v : Viewer) (e : Entry) (d : Deed) (s : List ℕ) (is : d ≡ seeing v e) where
+  pub hides-about : (tag : List ℕ) → is_hidden (part_in v.about) d s tag ≡ is_hidden v.rules.now d s tag
+  hides-about tag = v.alike.hides d s tag (ap (λ (x : Deed). x.asker) is)
+
 -- the same, by the place of the scope
 pub hides-there : (v : Viewer) (e : Entry) (o : Option FittingHides) (d : Deed) (place : ℕ) (s : List ℕ) → d ≡ seeing v e → slice_get v.asked place ≡ Some s → HidesAs v e o d s
     → HidesAs v e o (seeing v e) (get_or v.asked place [])
@@ -105,8 +111,10 @@ by-sight v e s tag d scope hidden sight is at by =
 
 -- ---- where nothing is hidden
 
-pub no-tables : (v : Viewer) (n : ℕ) → n ≡ length (hides_in v.rules.now) → n ≡ 0 → hides_in v.rules.now ≡ []
-no-tables v n is none = nil_from_length (hides_in v.rules.now) (sym is ∙ none)
+pub no-tables : (v : Viewer) (b : Bool) → b ≡ nat_eq (length (hides_in (part_in v.about))) 0 → b ≡ true → hides_in (part_in v.about) ≡ []
+no-tables v b is none =
+    let count : nat_eq (length (hides_in (part_in v.about))) 0 ≡ true = sym is ∙ none in
+    nil_from_length (hides_in (part_in v.about)) (grind (arith, nat_tests))
 
 pub kept-same : (a : Attributes) (p q : List ℕ → Bool) → ((tag : List ℕ) → p tag ≡ q tag) → kept_attributes a p ≡ kept_attributes a q
 kept-same a p q same = same_attributes _ _ (λ tag. get-kept a p tag ∙ ap (λ b. cond b (fin.get a tag) None) (same tag) ∙ sym (get-kept a q tag))
@@ -119,9 +127,11 @@ all-whole v e all = kept-same e.attrs (is_shown v.rules.now v.asker v.asked e) (
 pub left-all : (v : Viewer) (e : Entry) (place : ℕ) → IsFirst v e place → ((tag : List ℕ) → is_left_in v.rules.now v.asker e tag (get_or v.asked place []) ≡ true) → ShowsAll v e
 left-all v e place opened left = λ tag. ap (list_any (is_left_in v.rules.now v.asker e tag)) opened.first ∙ ap (λ b. b || list_any (is_left_in v.rules.now v.asker e tag) (open_scopes v e (place + 1))) (left tag)
 
--- where there are no hide tables, what is open is shown whole
-pub open-whole : (v : Viewer) (e : Entry) (place : ℕ) → hides_in v.rules.now ≡ [] → IsFirst v e place → (seen_of v e).attrs ≡ e.attrs
-open-whole v e place none opened = all-whole v e (left-all v e place opened (λ tag. ap (λ hs. not (some_hides hs (deed v.asker See e.kind e.owner) (get_or v.asked place []) tag)) none))
+-- where no hide table is about who asks, what is open is shown whole
+pub open-whole : (v : Viewer) (e : Entry) (place : ℕ) → hides_in (part_in v.about) ≡ [] → IsFirst v e place → (seen_of v e).attrs ≡ e.attrs
+open-whole v e place none opened =
+    let s = get_or v.asked place [] in
+    all-whole v e (left-all v e place opened (λ tag. ap not (sym (v.alike.hides (seeing v e) s tag refl) ∙ ap (λ hs. some_hides hs (seeing v e) s tag) none)))
 
 -- ---- what is selected of it
 

@@ -11,6 +11,8 @@ use Rattle.slp_messages.specs.declared.message.UrlEntry.{UrlEntry}
 use Rattle.directory_questions.specs.Items.{is_wanted}
 use Rattle.directory_questions.specs.Sights.{is_left_in, is_open_in, is_shown, seen_entry}
 use Rattle.directory_questions.specs.declared.query.ServiceQuery.{ServiceQuery}
+use Rattle.directory_questions.specs.declared.query.Target.{Target}
+use Rattle.directory_questions.specs.declared.query.Target.TheVariants.{Kind, Place}
 use Rattle.directory_state.specs.Deadlines.{UrlDeadline, with_deadline, total_cost, urls_of}
 use Rattle.std.specs.List.{AllByRecursion, list_any}
 use Rattle.std.specs.Borrow.{Bor}
@@ -23,7 +25,7 @@ use Rattle.directory_state.specs.declared.search.Spoken.{Spoken}
 use Rattle.directory_state.specs.declared.shown.Sight.{Sight}
 use Rattle.directory_state.specs.declared.viewer.Seen.{Seen}
 use Rattle.directory_state.specs.declared.viewer.SeenEntries.{SeenEntries}
-use Rattle.directory_state.specs.declared.viewer.Viewer.{Viewer}
+use Rattle.directory_state.specs.declared.asked.Viewer.{Viewer}
 use Rattle.directory_state.specs.declared.search.Spoken.TheVariants.{Nothing, Others, Asked}
 
 -- ---- what is seen
@@ -169,6 +171,11 @@ pub record AreFoundIn (p : Entry → Bool) (v : Viewer) (held : Entries) (es : L
   pub all : List Entry
   pub listing : IsListing p held all
   pub found : es ≡ filter (is_seen v) all
+
+-- what is still given of what a question is about, by what is given of a type and of a URL
+abbrev pub rest_about : (Option (List ℕ) → ℕ → List Entry) → (List ℕ → ℕ → List Entry) → Target → ℕ → List Entry
+rest_about of_kind of_url (Kind kind) from = of_kind (Some kind) from
+rest_about of_kind of_url (Place url) from = of_url url from
 
 -- what is seen of entries that are found
 abbrev pub entries_seen : SeenEntries → List Entry

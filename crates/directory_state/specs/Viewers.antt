@@ -2,7 +2,7 @@
 use Rattle.std.specs.Prelude.{◌≡◌, ℕ, max, List}
 use Rattle.directory_questions.specs.Sights.{asked_scopes}
 use Rattle.directory_state.specs.State.{State}
-use Rattle.directory_state.specs.declared.viewer.Viewer.{Viewer}
+use Rattle.directory_state.specs.declared.asked.Viewer.{Viewer}
 
 -- the viewer asks a state at a moment in these scopes: its rules decide, and those of the scopes count that its site supports
 pub record IsViewerOf (s : State) (moment asker : ℕ) (scopes : List (List ℕ)) (v : Viewer) : Type 0 where

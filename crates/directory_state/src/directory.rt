@@ -19,9 +19,9 @@ ghost use Rattle.directory_questions.specs.Verdicts.{IsLegal, IsVerdict};
 ghost use Rattle.directory_state.specs.Folds.{IsJudgedAs};
 
 use crate::arranging::{lend, name_types};
-use crate::asked::Asked;
+use crate::asked::{Asked, Viewer};
 use crate::search::{FoundItems, Room, Search, Shortlist};
-use crate::viewer::{SeenEntries, Viewer};
+use crate::viewer::SeenEntries;
 use access_rules::{Addr, Rules};
 use attr_union::AttrUnion;
 use directory_judge::{Change, Decision, Grounds, Site};
@@ -211,6 +211,7 @@ impl<R: Registry> Directory<R> {
             asker,
             moment: u64::from(self.now(moment)),
             rules: &self.rules,
+            about: self.rules.about(asker),
             asked,
         })
     }

@@ -6,8 +6,9 @@ ghost use Rattle.directory_questions.specs.Items.{is_wanted};
 ghost use Rattle.directory_state.specs.Fronts.{IsFront, items_in};
 ghost use Rattle.directory_state.specs.declared.search.Spoken.TheVariants as spoken_is;
 
+use crate::asked::Viewer;
 use crate::deadlines::Deadlines;
-use crate::viewer::{Seen, Viewer};
+use crate::viewer::Seen;
 use directory_questions::{QueryFault, ServiceQuery};
 use registry_core::{Entry, Registry};
 use service_url::Url;

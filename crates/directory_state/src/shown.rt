@@ -6,7 +6,8 @@ ghost use Rattle.search_filter.specs.Filters.{holds};
 ghost use Rattle.directory_questions.specs.Sights.{is_left_in, is_shown};
 ghost use Rattle.directory_state.specs.Searches.{entries_in, open_scopes, seen_of, shown_elements, shows_in, AreSeenBy, IsFirst, IsSight, ShowsAll};
 
-use crate::viewer::{Seen, Viewer};
+use crate::asked::Viewer;
+use crate::viewer::Seen;
 use access_rules::FittingHides;
 use attr_list::Attrs;
 use attr_union::{AttrUnion, Gathering};
@@ -31,7 +32,7 @@ impl Viewer<'_> {
     {
         let first = seen.first;
         let tables = self
-            .rules
+            .about
             .fitting_hides(&self.seeing(seen.entry), self.asked.at(first))?;
         Some(Sight { first, tables })
     }
@@ -40,7 +41,7 @@ impl Viewer<'_> {
     fn shows_in(&self, entry: &Entry, scope: &Key, tag: &Key) -> bool
         ensures { result ≡ shows_in self.now entry.now tag.now scope.now }
     {
-        self.is_open_in(entry, scope) && !self.rules.hides_tag(&self.seeing(entry), scope, tag)
+        self.is_open_in(entry, scope) && !self.about.hide_tag(&self.seeing(entry), scope, tag)
     }
 
     // Whether a tag of an entry is left in a scope in which it is open, of those that are asked for after a place.
@@ -70,20 +71,20 @@ impl Viewer<'_> {
             || self.shows_after(entry, sight.first, tag)
     }
 
-    /// Whether a filter holds on what is shown of an entry that is seen. Where a site hides nothing, no tag is asked about. Takes no
+    /// Whether a filter holds on what is shown of an entry that is seen. Where nothing is hidden from who asks, no tag is asked about. Takes no
     /// memory.
     #[inline(always)]
     pub fn holds(&self, filter: &Filter, seen: Seen<'_>) -> bool
         requires { IsFirst self.now seen.entry.now seen.first }
         ensures { result ≡ holds filter.now (seen_of self.now seen.entry.entry.now).attrs }
     {
-        if self.rules.hides() == 0 {
+        if self.about.hide_nothing() {
             return filter.holds(&seen.entry.attrs);
         }
         self.holds_by_sight(filter, seen)
     }
 
-    // The same, where a site hides something. A call of its own in the machine's code, so that the walk over entries keeps its
+    // The same, where something is hidden from who asks. A call of its own in the machine's code, so that the walk over entries keeps its
     // registers.
     #[cold]
     #[inline(never)]
@@ -111,13 +112,13 @@ impl Viewer<'_> {
         requires { IsFirst self.now seen.entry.now seen.first }
         ensures { IfOk result (λ _. gathering.new ≡ gathering.old ++ shown_elements self.now tags.now seen.entry.entry.now) }
     {
-        if self.rules.hides() == 0 {
+        if self.about.hide_nothing() {
             return gathering.add(&seen.entry.attrs, &|tag: &Key| tags.selects(tag));
         }
         self.add_by_sight(seen, tags, gathering)
     }
 
-    // The same, where a site hides something: a call of its own as well.
+    // The same, where something is hidden from who asks: a call of its own as well.
     #[cold]
     #[inline(never)]
     fn add_by_sight<'a>(

@@ -1,31 +1,22 @@
 //! What is open to who asks.
 ghost use Rattle.std.specs.declared.cmp.Ordering.TheVariants.{Equal, Less};
-ghost use Rattle.std.specs.Prelude.{◌≡◌, ◌+◌, ◌<◌, ◌≤◌, ◌∷◌, [], ◌++◌, false, filter, get_or, length, IfOk, Contains, IfSome, IsTrue, MatchOption, None, Some};
+ghost use Rattle.std.specs.Prelude.{◌≡◌, ◌≤◌, ◌∷◌, [], ◌++◌, false, filter, IfOk, Contains, IsTrue, MatchOption, None, Some};
 ghost use Rattle.access_rules.specs.Deciding.{deed, deed_in};
 ghost use Rattle.access_rules.specs.declared.rule.Action.TheVariants.{See};
 ghost use Rattle.registry_core.specs.declared.entry.Entry as spec;
-ghost use Rattle.registry_core.specs.Entries.{is_kind, is_of_url, IsListing, Passes};
+ghost use Rattle.registry_core.specs.Entries.{is_kind, IsListing, Passes};
 ghost use Rattle.directory_questions.specs.Sights.{is_open_in};
-ghost use Rattle.directory_state.specs.Searches.{entries_in, entries_lent, is_seen, open_scopes, AreByKind, AreFoundIn, AreSeenBy, HasEachKind, IsSeenFrom};
+ghost use Rattle.directory_state.specs.Searches.{entries_in, entries_lent, is_seen, rest_about, AreByKind, AreFoundIn, AreSeenBy, HasEachKind, IsSeenFrom};
 ghost use Rattle.directory_questions.specs.Items.{is_target};
 
-use crate::asked::Asked;
-use access_rules::{Action, Addr, Deed, Rules};
+use crate::asked::Viewer;
+use access_rules::{Action, Deed};
 use directory_questions::Target;
 use registry_core::{Entry, Registry};
-use service_url::{ServiceType, Url};
+use service_url::ServiceType;
 use slp_text::{Key, NoMemory};
 use std::alloc::Global;
 use std::cmp::Ordering;
-
-/// Who asks, at which moment, in seconds, and in which scopes, and what decides on what is open there.
-#[derive(Drop)]
-pub struct Viewer<'q> {
-    pub asker: Addr,
-    pub moment: u64,
-    pub rules: &'q Rules,
-    pub asked: Asked<'q>,
-}
 
 /// An entry that is seen, and the place of the first scope in which it is open, of those that are asked for.
 #[derive(Clone, Copy)]
@@ -91,6 +82,23 @@ fn past_if<R: Registry>(repeats: bool, registry: &R, kind: &ServiceType, next: u
     }
 }
 
+// The next entry of what a question is about, with the number to go on from.
+#[inline(always)]
+fn next_about<'a, R: Registry>(
+    registry: &'a R,
+    target: &Target,
+    from: usize,
+) -> Option<(&'a Entry, usize)>
+    ensures next { let rest = rest_about (R.rest_of_kind registry.now) (R.rest_of_url registry.now) target.now in
+        MatchOption result (rest from ≡ []) (λ p. rest from ≡ p.0.now ∷ rest p.1) }
+    ensures whole { IsListing (is_target target.now) (R.contents registry.now) (rest_about (R.rest_of_kind registry.now) (R.rest_of_url registry.now) target.now 0) }
+{
+    match target {
+        Target::Kind(kind) => registry.by_kind(Some(kind), from),
+        Target::Place(url) => registry.by_url(url, from),
+    }
+}
+
 impl Viewer<'_> {
     /// What is asked of the rules about an entry.
     #[inline(always)]
@@ -110,23 +118,7 @@ impl Viewer<'_> {
     pub fn is_open_in(&self, entry: &Entry, scope: &Key) -> bool
         ensures { result ≡ is_open_in self.now.rules.now self.now.asker entry.now scope.now }
     {
-        entry.scopes.has(scope) && self.rules.verdict(&self.seeing(entry), scope).allow
-    }
-
-    /// The place from another one on, counted from 0, of the first scope in which an entry is open, of those that are asked for.
-    /// Takes no memory.
-    #[inline(always)]
-    pub fn next_open(&self, entry: &Entry, from: usize) -> Option<usize>
-        ensures next { MatchOption result (open_scopes self.now entry.now from ≡ [])
-            (λ place. open_scopes self.now entry.now from ≡ get_or self.now.asked place [] ∷ open_scopes self.now entry.now (place + 1)) }
-        ensures within { IfSome result (λ place. place < length self.now.asked) }
-    {
-        for place in from..self.asked.len() {
-            if self.is_open_in(entry, self.asked.at(place)) {
-                return Some(place);
-            }
-        }
-        None
+        entry.scopes.has(scope) && self.about.allow(&self.seeing(entry), scope)
     }
 
     /// The place of the first scope in which an entry is open, of those that are asked for, where it is seen: it is live, and open to the
@@ -138,29 +130,12 @@ impl Viewer<'_> {
         if entry.deadline <= self.moment {
             return None;
         }
-        self.next_open(entry, 0)
-    }
-
-    /// What is open of the types that one covers.
-    pub fn gather<'a, R: Registry>(
-        &self,
-        alloc: Global,
-        registry: &'a R,
-        kind: &ServiceType,
-    ) -> Result<Vec<Seen<'a>>, NoMemory>
-        ensures found { IfOk result (λ v. entries_in v.items ≡ filter (is_seen self.now) (R.rest_of_kind registry.now (Some kind.now) 0)) }
-        ensures seen { IfOk result (λ v. AreSeenBy self.now v.items) }
-        ensures listing { IfOk result (λ _. IsListing (is_kind (Some kind.now)) (R.contents registry.now) (R.rest_of_kind registry.now (Some kind.now) 0)) }
-    {
-        let mut found = Vec::new(alloc);
-        let mut from = 0;
-        while let Some((entry, next)) = registry.by_kind(Some(kind), from) {
-            if let Some(first) = self.sees(entry) {
-                found.push(Seen { entry, first })?;
+        for place in 0..self.asked.len() {
+            if self.is_open_in(entry, self.asked.at(place)) {
+                return Some(place);
             }
-            from = next;
         }
-        Ok(found)
+        None
     }
 
     /// What is open of what a question is about.
@@ -173,10 +148,15 @@ impl Viewer<'_> {
         ensures found { IfOk result (λ v. AreFoundIn (is_target target.now) self.now (R.contents registry.now) (entries_in v.items)) }
         ensures seen { IfOk result (λ v. AreSeenBy self.now v.items) }
     {
-        match target {
-            Target::Kind(kind) => self.gather(alloc, registry, kind),
-            Target::Place(url) => self.gather_url(alloc, registry, url),
+        let mut found = Vec::new(alloc);
+        let mut from = 0;
+        while let Some((entry, next)) = next_about(registry, target, from) {
+            if let Some(first) = self.sees(entry) {
+                found.push(Seen { entry, first })?;
+            }
+            from = next;
         }
+        Ok(found)
     }
 
     /// Of what is open an entry of each type, and it may be more. Where one of a type was seen, the walk goes on past the others of the
@@ -214,27 +194,5 @@ impl Viewer<'_> {
             entries,
             are_ordered,
         })
-    }
-
-    /// What is open of a URL.
-    pub fn gather_url<'a, R: Registry>(
-        &self,
-        alloc: Global,
-        registry: &'a R,
-        url: &Url,
-    ) -> Result<Vec<Seen<'a>>, NoMemory>
-        ensures found { IfOk result (λ v. entries_in v.items ≡ filter (is_seen self.now) (R.rest_of_url registry.now url.now 0)) }
-        ensures seen { IfOk result (λ v. AreSeenBy self.now v.items) }
-        ensures listing { IfOk result (λ _. IsListing (is_of_url url.now) (R.contents registry.now) (R.rest_of_url registry.now url.now 0)) }
-    {
-        let mut found = Vec::new(alloc);
-        let mut from = 0;
-        while let Some((entry, next)) = registry.by_url(url, from) {
-            if let Some(first) = self.sees(entry) {
-                found.push(Seen { entry, first })?;
-            }
-            from = next;
-        }
-        Ok(found)
     }
 }
