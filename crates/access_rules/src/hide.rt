@@ -49,7 +49,8 @@ impl FittingHides<'_> {
     pub fn hide_tag(&self, deed: &Deed<'_>, scope: &Key, tag: &Key) -> bool
         ensures { result ≡ is_hidden_by self.now (deed_in deed.now) scope.now tag.now }
     {
-        self.first.tags.selects(tag) || some_hides(self.rest, deed, scope, tag)
+        self.first.tags.selects(tag)
+            || (!self.rest.is_empty() && some_hides(self.rest, deed, scope, tag))
     }
 }
 
