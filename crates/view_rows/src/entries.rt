@@ -97,6 +97,9 @@ fn is_answered<J: Naming, G: Gate>(
     gate: &G,
     question: &Call<'_>,
 ) -> bool {
+    if is_change(question.bytes) {
+        return false;
+    }
     let mut answer = Answer::new(alloc);
     ask(alloc, view, gate, question, &mut answer) == Ok(Sent::Bytes(0))
 }

@@ -1,4 +1,7 @@
 //! A writer, its loops, and what the rows do with them.
+ghost use Rattle.std.specs.Prelude.{◌≡◌, false};
+ghost use Rattle.directory_questions.specs.Answers.{is_change_of};
+
 use crate::opening::{Plain, rules_of};
 use crate::words::{address_of, cut, message_of, number_of};
 use access_rules::Addr;
@@ -76,17 +79,16 @@ fn print_answer<W: Write>(
     out.write_all(answer.audit.as_slice())
 }
 
-/// What a loop answers; nothing where a change is asked for.
+/// What a loop answers to what asks for no change.
 pub(crate) fn ask<J: Naming, G: Gate>(
     alloc: Global,
     view: &mut LoopView<J>,
     gate: &G,
     question: &Call<'_>,
     answer: &mut Answer,
-) -> Result<Sent, ViewFault> {
-    if is_change(question.bytes) {
-        return Ok(Sent::Silence);
-    }
+) -> Result<Sent, ViewFault>
+    requires { is_change_of question.now.bytes.now ≡ false }
+{
     view.answer(
         alloc,
         gate,
