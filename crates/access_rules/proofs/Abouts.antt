@@ -7,13 +7,18 @@ use Rattle.std.proofs.lemmas.Bool.Decides.{nat_tests}
 use Rattle.std.proofs.lemmas.List.Folds.{list_any-append}
 use Rattle.std.proofs.lemmas.Option.{slice_get_past}
 use Rattle.slp_text.specs.Tags.{selects}
-use Rattle.access_rules.specs.Deciding.{Deed, SiteRules, IsPart, SeeAlike, action_eq, allows_kind, allows_scope, allowed_by, deciding, fits, hides_in, holds, is_hide_about, is_hiding, is_own, is_rule_about, rules_in, verdict_at}
+use Rattle.access_rules.specs.Deciding.{Deed, SiteRules, IsPart, SeeAlike, action_eq, allows_kind, allows_scope, deciding, fits, hides_in, holds, is_hide_about, is_hiding, is_own, is_rule_about, rules_in, verdict_at}
 use Rattle.access_rules.specs.declared.hide.Hide.{Hide}
 use Rattle.access_rules.specs.declared.rule.Action.TheVariants.{See}
 use Rattle.access_rules.specs.declared.rule.Rule.{Rule}
 
 not_less : {A : Type 0} (xs : List A) (n : ℕ) → nat_lt n (length xs) ≡ false → length xs ≤ n
 not_less xs n e = grind (arith, nat_tests)
+
+-- whether the first rule that fits allows; without one all is denied
+abbrev allowed_by : List Rule → Deed → List ℕ → Bool
+allowed_by [] d scope = false
+allowed_by (r ∷ rs) d scope = if fits d scope r then r.allow else allowed_by rs d scope
 
 module _ (d : Deed) (scope : List ℕ) where
   -- what the rule at a place says
@@ -45,7 +50,7 @@ module _ (d : Deed) (scope : List ℕ) where
   said_is rules (Some i) = refl
 
   -- what is allowed by the first that fits is what is decided
-  pub allowed_is : (rules : SiteRules) → allowed_by (rules_in rules) d scope ≡ (deciding rules d scope).allow
+  allowed_is : (rules : SiteRules) → allowed_by (rules_in rules) d scope ≡ (deciding rules d scope).allow
   allowed_is rules = said_first (rules_in rules) ∙ said_is rules (position (fits d scope) (rules_in rules))
 
 -- a test that none of these passes
@@ -109,7 +114,7 @@ see_alike asker some all p q = record {
       let unfit : (r : Rule) → is_rule_about r asker ≡ false → fits d scope r ≡ false = λ r other. unfit_rule d scope sees r (ap (is_rule_about r) by ∙ other) in
       sym (sym (allowed_is d scope all) ∙ (ap (λ rs. allowed_by rs d scope) p.whole
       ∙ (skipped_front d scope p.before (rules_in some ++ p.after) (none_such (λ r. is_rule_about r asker) (fits d scope) unfit p.before p.none_before)
-      ∙ skipped_back d scope (rules_in some) p.after (none_such (λ r. is_rule_about r asker) (fits d scope) unfit p.after p.none_after))));
+      ∙ (skipped_back d scope (rules_in some) p.after (none_such (λ r. is_rule_about r asker) (fits d scope) unfit p.after p.none_after) ∙ allowed_is d scope some))));
   hides = λ d scope tag by.
       any_of_part (λ h. is_hide_about h asker) (λ h. is_hiding d scope h && selects h.tags tag) (hides_in some) (hides_in all)
       (λ h other. unfit_hide d scope tag h (ap (is_hide_about h) by ∙ other)) q;

@@ -1,4 +1,4 @@
--- What is left of a part when an end is cut off, and what decides by a part.
+-- What is left of a part when an end is cut off.
 use Rattle.std.proofs.Common.{◌≡◌, Bool, true, false, List, [], ◌∷◌, ◌++◌, refl, sym, ap, ◌∙◌}
 use Rattle.std.specs.Prelude.{◌||◌}
 use Rattle.std.specs.List.{list_any}

@@ -1,5 +1,5 @@
 -- Which rule decides, and which tags are hidden.
-use Rattle.std.specs.Prelude.{◌≡◌, ℕ, Bool, true, false, ◌-◌, ◌/◌, ◌^◌, ◌==◌, ◌&&◌, ◌||◌, not, nat_le, if◌then◌else◌, List, [], ◌∷◌, ◌++◌, length, position, slice_get, Option, Some, None}
+use Rattle.std.specs.Prelude.{◌≡◌, ℕ, Bool, true, false, ◌-◌, ◌/◌, ◌^◌, ◌==◌, ◌&&◌, ◌||◌, not, nat_le, List, [], ◌++◌, length, position, slice_get, Option, Some, None}
 use Rattle.std.specs.List.{list_all, list_any}
 use Rattle.std.specs.Option.{option_map_or}
 use Rattle.slp_text.specs.Tags.{selects}
@@ -92,11 +92,6 @@ verdict_at rules (Some index) = record { allow = option_map_or (λ r. r.allow) (
 abbrev pub deciding : SiteRules → Deed → List ℕ → Verdict
 deciding rules d scope = verdict_at rules (position (fits d scope) (rules_in rules))
 
--- whether the first rule that fits allows; without one all is denied
-abbrev pub allowed_by : List Rule → Deed → List ℕ → Bool
-allowed_by [] d scope = false
-allowed_by (r ∷ rs) d scope = if fits d scope r then r.allow else allowed_by rs d scope
-
 -- a rule is about owners, if it is about this action
 abbrev pub is_owners : Action → Rule → Bool
 is_owners action r = not (action_eq r.action action) || r.owner
@@ -153,5 +148,5 @@ part_in a = record { rules = a.rules.now; hides = a.hides.now }
 
 -- some rules and tables decide of what an asker sees as all do
 pub record SeeAlike (asker : ℕ) (some all : SiteRules) : Type 0 where
-  pub opens : (d : Deed) (scope : List ℕ) → d.asker ≡ asker → d.action ≡ See → allowed_by (rules_in some) d scope ≡ (deciding all d scope).allow
+  pub opens : (d : Deed) (scope : List ℕ) → d.asker ≡ asker → d.action ≡ See → (deciding some d scope).allow ≡ (deciding all d scope).allow
   pub hides : (d : Deed) (scope tag : List ℕ) → d.asker ≡ asker → is_hidden some d scope tag ≡ is_hidden all d scope tag

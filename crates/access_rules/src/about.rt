@@ -1,11 +1,11 @@
 //! What of the rules and hide tables is about one asker.
 ghost use Rattle.std.specs.Prelude.{◌≡◌, ℕ, List, length, nat_eq};
-ghost use Rattle.access_rules.specs.Deciding.{allowed_by, deed_in, hides_in, is_hidden, is_hidden_from, part_in, rules_in, IsPart, SeeAlike};
+ghost use Rattle.access_rules.specs.Deciding.{deciding, deed_in, hides_in, is_hidden, is_hidden_from, part_in, IsPart, SeeAlike};
 
 use crate::address::Addr;
 use crate::hide::{FittingHides, Hide, fitting, some_hides};
 use crate::rule::{Action, Deed, Rule, is_from};
-use crate::rules::Rules;
+use crate::rules::{Rules, first_fitting};
 use slp_text::Key;
 
 // What names the askers that it is about.
@@ -98,16 +98,12 @@ impl<'a> RulesAbout<'a> {
     // Inlined, so that a deed lies in registers while the rules are passed over.
     #[inline(always)]
     pub fn allow(&self, deed: &Deed<'_>, scope: &Key) -> bool
-        ensures { result ≡ allowed_by (rules_in (part_in self.now)) (deed_in deed.now) scope.now }
+        ensures { result ≡ (deciding (part_in self.now) (deed_in deed.now) scope.now).allow }
     {
-        let mut rest = self.rules;
-        while let Some((rule, more)) = rest.split_first() {
-            if rule.fits(deed, scope) {
-                return rule.allow;
-            }
-            rest = more;
+        match first_fitting(self.rules, deed, scope) {
+            Some((_, rule)) => rule.allow,
+            None => false,
         }
-        false
     }
 
     /// The hide tables that fit what is asked in a scope, if there are any: each is asked once, up to the first that fits. Takes no memory.

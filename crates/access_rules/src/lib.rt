@@ -4,6 +4,7 @@
 
 mod about;
 mod address;
+mod asking;
 mod fault;
 pub mod fields;
 mod files;

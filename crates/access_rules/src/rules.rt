@@ -1,12 +1,9 @@
-ghost use Rattle.std.specs.Prelude.{◌≡◌, ◌<◌, length, position, slice_get, Some, IfSome};
+ghost use Rattle.std.specs.Prelude.{◌≡◌, ◌<◌, position, slice_get, Some, IfSome};
 ghost use Rattle.std.specs.Option.{option_map};
-ghost use Rattle.access_rules.specs.Deciding.{deciding, deed, deed_in, fits, hides_in, is_hidden, number, rules_in};
-ghost use Rattle.access_rules.specs.declared.rule.Action.TheVariants.{See};
+ghost use Rattle.access_rules.specs.Deciding.{deciding, deed_in, fits, hides_in, number, rules_in};
 
-use crate::address::Addr;
-use crate::hide::{Hide, some_hides};
-use crate::rule::{Action, Deed, Rule};
-use service_url::ServiceType;
+use crate::hide::Hide;
+use crate::rule::{Deed, Rule};
 use slp_text::Key;
 use std::marker::Model;
 
@@ -35,16 +32,21 @@ impl Model for Rules {
     ghost view = { λ a. record { rules = a.rules.items; hides = a.hides.items } };
 }
 
-// The place of the first rule that fits.
+// The first rule that fits, with its place.
 #[inline(always)]
-fn first_fitting(rules: &[Rule], deed: &Deed<'_>, scope: &Key) -> Option<usize>
-    ensures { result ≡ position (fits (deed_in deed.now) scope.now) rules.now }
+pub(crate) fn first_fitting<'a>(
+    rules: &'a [Rule],
+    deed: &Deed<'_>,
+    scope: &Key,
+) -> Option<(usize, &'a Rule)>
+    ensures place { option_map (λ p. p.0) result ≡ position (fits (deed_in deed.now) scope.now) rules.now }
+    ensures rule { IfSome result (λ p. slice_get rules.now p.0 ≡ Some p.1.now) }
 {
     let mut place = 0;
     let mut rest = rules;
     while let Some((rule, more)) = rest.split_first() {
         if rule.fits(deed, scope) {
-            return Some(place);
+            return Some((place, rule));
         }
         place += 1;
         rest = more;
@@ -81,13 +83,6 @@ impl Rules {
         self.rules.len()
     }
 
-    /// How many hide tables there are. Takes no memory.
-    pub fn hides(&self) -> usize
-        ensures { result ≡ length (hides_in self.now) }
-    {
-        self.hides.len()
-    }
-
     /// The name of the rule at a place. Takes no memory.
     pub fn name(&self, place: usize) -> &str
         requires { place < number self.now }
@@ -104,8 +99,8 @@ impl Rules {
         ensures within { IfSome result.rule (λ place. place < number self.now) }
     {
         match first_fitting(&self.rules, deed, scope) {
-            Some(place) => Verdict {
-                allow: self.rules[place].allow,
+            Some((place, rule)) => Verdict {
+                allow: rule.allow,
                 rule: Some(place),
             },
             None => Verdict {
@@ -113,52 +108,5 @@ impl Rules {
                 rule: None,
             },
         }
-    }
-
-    /// The same, where what is asked comes in parts.
-    pub fn decide(
-        &self,
-        asker: Addr,
-        action: Action,
-        kind: &ServiceType,
-        scope: &Key,
-        registrant: Addr,
-    ) -> Verdict
-        ensures value { result ≡ deciding self.now (deed asker action kind.now registrant) scope.now }
-        ensures within { IfSome result.rule (λ place. place < number self.now) }
-    {
-        self.verdict(
-            &Deed {
-                asker,
-                action,
-                kind,
-                registrant,
-            },
-            scope,
-        )
-    }
-
-    /// Whether some hide table that fits what an asker sees in a scope selects a tag: no rule is asked. Takes no memory.
-    pub fn hidden(
-        &self,
-        asker: Addr,
-        kind: &ServiceType,
-        scope: &Key,
-        registrant: Addr,
-        tag: &Key,
-    ) -> bool
-        ensures { result ≡ is_hidden self.now (deed asker See kind.now registrant) scope.now tag.now }
-    {
-        some_hides(
-            &self.hides,
-            &Deed {
-                asker,
-                action: Action::See,
-                kind,
-                registrant,
-            },
-            scope,
-            tag,
-        )
     }
 }

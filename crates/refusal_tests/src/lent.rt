@@ -113,7 +113,7 @@ fn rules_answer(alloc: Global, hoard: &mut Hoard) -> Result<bool, NoMemory> {
     let (asker, other) = (Addr(0x0a00_0001), Addr(0x0a00_0002));
     let verdict = rules.decide(asker, Action::See, &kind, &scope, other);
     let is_allowed = verdict.allow && rules.len() == 3 && rules.name(2) == "all-see";
-    let is_hidden = hiding.hides() == 1
+    let is_hidden = hiding.hide_tables().len() == 1
         && hiding.hidden(asker, &kind, &scope, other, &tag)
         && !hiding.hidden(asker, &kind, &scope, asker, &tag);
     Ok(is_taken && is_allowed && is_hidden)

@@ -5,6 +5,7 @@ use Rattle.std.proofs.lemmas.Bool.{cases_lt}
 use Rattle.std.proofs.lemmas.Bool.Decides.{nat_tests}
 use Rattle.std.proofs.lemmas.List.{get_or_default}
 use Rattle.std.proofs.lemmas.List.Sums.{position_or_len_is}
+use Rattle.std.proofs.lemmas.Option.{slice_get-get_or}
 use Rattle.access_rules.specs.Deciding.{deed_in, fits}
 use Rattle.access_rules.proofs.rules.first_fitting.Goals as goal
 
@@ -51,8 +52,8 @@ loop-rule-init c = record {
   passed = λ k d less. absurd (omega (arith, less));
 }
 
-pub returns-then-fits : goal.returns-then-fits
-returns-then-fits c =
+pub returns-then-fits-clause-place : goal.returns-then-fits-clause-place
+returns-then-fits-clause-place c =
     let now = c.loop-rule.invariant in
     let rules = c.args.rules.now in
     let rule = c.in-Some.rule.now in
@@ -60,6 +61,16 @@ returns-then-fits c =
     let within : c.loop-rule.place < length rules = omega (arith, now.count, cut.1) in
     let first = first_left rules c.in-Some.more.now c.loop-rule.place rule within (now.left ∙ cut.0) in
     found (fits (deed_in c.args.deed.now) c.args.scope.now) rules c.loop-rule.place rule within now.passed first.0 (sym c.fits.ensures ∙ c.if-fits.true)
+
+pub returns-then-fits-clause-rule : goal.returns-then-fits-clause-rule
+returns-then-fits-clause-rule c =
+    let now = c.loop-rule.invariant in
+    let rules = c.args.rules.now in
+    let rule = c.in-Some.rule.now in
+    let cut = c.in-Some.ensures.cases in
+    let within : c.loop-rule.place < length rules = omega (arith, now.count, cut.1) in
+    let first = first_left rules c.in-Some.more.now c.loop-rule.place rule within (now.left ∙ cut.0) in
+    slice_get-get_or rules c.loop-rule.place rule within ∙ ap Some (sym first.0)
 
 pub loop-rule-preserved : goal.loop-rule-preserved
 loop-rule-preserved c =
@@ -74,7 +85,7 @@ loop-rule-preserved c =
       passed = one_more (fits (deed_in c.args.deed.now) c.args.scope.now) rules c.loop-rule.place rule within now.passed first.0 (sym c.fits.ensures ∙ c.if-fits.false);
     }
 
-pub returns : goal.returns
-returns c =
+pub returns-clause-place : goal.returns-clause-place
+returns-clause-place c =
     let now = c.loop-rule.invariant in
     missing (fits (deed_in c.args.deed.now) c.args.scope.now) c.args.rules.now c.loop-rule.place (omega (arith, now.count, c.in_default.ensures.cases)) now.passed
