@@ -11,14 +11,13 @@ use Rattle.directory_judge.proofs.ConcernedEntries.{or_true}
 use Rattle.slp_text.specs.Words.{bytes_cmp, texts_eq}
 use Rattle.access_rules.specs.declared.rule.Action.TheVariants.{Withdraw}
 use Rattle.access_rules.specs.Deciding.{Deed, SiteRules, deciding, deed}
-use Rattle.access_rules.specs.declared.rules.Verdict.{Verdict}
 use Rattle.registry_core.specs.declared.entry.Entry.{Entry}
 use Rattle.registry_core.specs.Entries.{outlives}
-use Rattle.directory_judge.specs.Judgements.{Grounds, because_in, by_rule, decider_of, denial_of, earlier_entry, is_denied, is_kept, ruling_on, ruling_in}
+use Rattle.directory_judge.specs.Judgements.{Grounds, because_of, by_rule, denial_of, earlier_entry, is_denied, is_kept, ruling_on, ruling_in}
 use Rattle.directory_judge.specs.Walks.{earlier_ruling, entry_in, walk_with, first_with, IsRuling, IsDenial, IsRuledWalk, IsVisit}
 use Rattle.directory_judge.proofs.Denials.{find-drop, get-front}
 use Rattle.directory_judge.specs.declared.reason.Because.{Because}
-use Rattle.directory_judge.specs.declared.ruling.Ruling.{Ruling}
+use Rattle.directory_judge.specs.declared.reason.Finding.{Finding}
 use Rattle.directory_judge.specs.declared.withdrawals.RuledEntry.{RuledEntry}
 use Rattle.directory_judge.specs.declared.withdrawals.Walk.{Walk}
 
@@ -32,19 +31,19 @@ not-false false h = cc
 
 -- ---- what a ruling is
 
-abbrev because_of : Result Because Because → Because
-because_of (Ok b) = b
-because_of (Err b) = b
+abbrev reason_of : Result Because Because → Because
+reason_of (Ok b) = b
+reason_of (Err b) = b
 
 abbrev allows_of : Result Because Because → Bool
 allows_of (Ok b) = true
 allows_of (Err b) = false
 
-because_of-ruling : (r : Ruling) → because_of (ruling_in r) ≡ because_in r
-because_of-ruling r = elim (r.verdict.allow) as (λ b. because_of (cond b (Ok (because_in r)) (Err (because_in r))) ≡ because_in r) [ true ↦ refl | false ↦ refl ]
+reason_of-ruling : (r : Finding) → reason_of (ruling_in r) ≡ because_of r
+reason_of-ruling r = elim (r.allow) as (λ b. reason_of (cond b (Ok (because_of r)) (Err (because_of r))) ≡ because_of r) [ true ↦ refl | false ↦ refl ]
 
-allows_of-ruling : (r : Ruling) → allows_of (ruling_in r) ≡ r.verdict.allow
-allows_of-ruling r = elim (r.verdict.allow) as (λ b. allows_of (cond b (Ok (because_in r)) (Err (because_in r))) ≡ b) [ true ↦ refl | false ↦ refl ]
+allows_of-ruling : (r : Finding) → allows_of (ruling_in r) ≡ r.allow
+allows_of-ruling r = elim (r.allow) as (λ b. allows_of (cond b (Ok (because_of r)) (Err (because_of r))) ≡ b) [ true ↦ refl | false ↦ refl ]
 
 -- ---- what denies, and else what allows in the first scope
 
@@ -52,9 +51,9 @@ module _ (by : List ℕ → Because) where
   either : Option Because → Option (List ℕ) → Option (Result Because Because)
   either d o = option_or (option_map Err d) (option_map (λ s. Ok (by s)) o)
 
-  either-denied : (d : Option Because) (o : Option (List ℕ)) (x : Result Because Because) → either d o ≡ Some x → allows_of x ≡ false → d ≡ Some (because_of x)
+  either-denied : (d : Option Because) (o : Option (List ℕ)) (x : Result Because Because) → either d o ≡ Some x → allows_of x ≡ false → d ≡ Some (reason_of x)
   unfolding either
-  either-denied (Some b) o x is h = ap (λ y. Some (because_of y)) (same_Some (Err b) x is)
+  either-denied (Some b) o x is h = ap (λ y. Some (reason_of y)) (same_Some (Err b) x is)
   either-denied None (Some s) x is h = let k : true ≡ false = ap allows_of (same_Some (Ok (by s)) x is) ∙ h in cc
   either-denied None None x is h = absurd (none-some x is)
 
@@ -63,10 +62,10 @@ module _ (by : List ℕ → Because) where
   either-allowed (Some b) o x is h = let k : false ≡ true = ap allows_of (same_Some (Err b) x is) ∙ h in cc
   either-allowed None o x is h = refl
 
-  either-first : (d : Option Because) (o : Option (List ℕ)) (x : Result Because Because) → either d o ≡ Some x → d ≡ None → because_of x ≡ by (unwrap_or o [])
+  either-first : (d : Option Because) (o : Option (List ℕ)) (x : Result Because Because) → either d o ≡ Some x → d ≡ None → reason_of x ≡ by (unwrap_or o [])
   unfolding either
   either-first (Some b) o x is none = absurd (none-some b (sym none))
-  either-first None (Some s) x is none = ap because_of (sym (same_Some (Ok (by s)) x is))
+  either-first None (Some s) x is none = ap reason_of (sym (same_Some (Ok (by s)) x is))
   either-first None None x is none = absurd (none-some x is)
 
   either-none : (d : Option Because) (o : Option (List ℕ)) → either d o ≡ None → (d ≡ None) × (o ≡ None)
@@ -80,19 +79,19 @@ module _ (rules : SiteRules) (d : Deed) (scopes : List (List ℕ)) where
   unfolding either
   ruling-none is = either-none (by_rule rules d) (denial_of rules d scopes) (slice_get scopes 0) is
 
-  module _ (r : Ruling) (is : ruling_on rules d scopes ≡ Some (ruling_in r)) where
-    pub ruling-denied : r.verdict.allow ≡ false → denial_of rules d scopes ≡ Some (because_in r)
+  module _ (r : Finding) (is : ruling_on rules d scopes ≡ Some (ruling_in r)) where
+    pub ruling-denied : r.allow ≡ false → denial_of rules d scopes ≡ Some (because_of r)
     unfolding either
     ruling-denied h =
-        either-denied (by_rule rules d) (denial_of rules d scopes) (slice_get scopes 0) (ruling_in r) is (allows_of-ruling r ∙ h) ∙ ap Some (because_of-ruling r)
+        either-denied (by_rule rules d) (denial_of rules d scopes) (slice_get scopes 0) (ruling_in r) is (allows_of-ruling r ∙ h) ∙ ap Some (reason_of-ruling r)
 
-    pub ruling-allowed : r.verdict.allow ≡ true → denial_of rules d scopes ≡ None
+    pub ruling-allowed : r.allow ≡ true → denial_of rules d scopes ≡ None
     unfolding either
     ruling-allowed h = either-allowed (by_rule rules d) (denial_of rules d scopes) (slice_get scopes 0) (ruling_in r) is (allows_of-ruling r ∙ h)
 
-    pub ruling-first : denial_of rules d scopes ≡ None → because_in r ≡ by_rule rules d (unwrap_or (slice_get scopes 0) [])
+    pub ruling-first : denial_of rules d scopes ≡ None → because_of r ≡ by_rule rules d (unwrap_or (slice_get scopes 0) [])
     unfolding either
-    ruling-first none = sym (because_of-ruling r) ∙ either-first (by_rule rules d) (denial_of rules d scopes) (slice_get scopes 0) (ruling_in r) is none
+    ruling-first none = sym (reason_of-ruling r) ∙ either-first (by_rule rules d) (denial_of rules d scopes) (slice_get scopes 0) (ruling_in r) is none
 
 pub ruling_on-some : (rules : SiteRules) (d : Deed) (scopes : List (List ℕ)) (x : Result Because Because) → ruling_on rules d scopes ≡ Some x → 0 < length scopes
 ruling_on-some rules d [] x is = absurd (none-some x is)
@@ -105,7 +104,7 @@ no-scopes (s ∷ ss) is = absurd (none-some s (sym is))
 -- ---- the scopes asked one by one
 
 -- nothing was denied so far, and the first that was ruled on is the first of all
-pub record IsAsked (rules : SiteRules) (d : Deed) (scopes : List (List ℕ)) (held : Option Ruling) (place : ℕ) : Type 0 where
+pub record IsAsked (rules : SiteRules) (d : Deed) (scopes : List (List ℕ)) (held : Option Finding) (place : ℕ) : Type 0 where
   pub denied : find (is_denied rules d) scopes ≡ find (is_denied rules d) (drop place scopes)
   pub first : option_or (option_map ruling_in held) (option_map (λ s. Ok (by_rule rules d s)) (slice_get (drop place scopes) 0)) ≡ option_map (λ s. Ok (by_rule rules d s)) (slice_get scopes 0)
 
@@ -113,11 +112,11 @@ or-none : {A : Type 0} (o : Option A) → option_or o None ≡ o
 or-none None = refl
 or-none (Some x) = refl
 
-or-some : (o : Option Ruling) (r : Ruling) (x : Option (Result Because Because)) → option_or (option_map ruling_in (option_or o (Some r))) x ≡ option_or (option_map ruling_in o) (Some (ruling_in r))
+or-some : (o : Option Finding) (r : Finding) (x : Option (Result Because Because)) → option_or (option_map ruling_in (option_or o (Some r))) x ≡ option_or (option_map ruling_in o) (Some (ruling_in r))
 or-some None r x = refl
 or-some (Some f) r x = refl
 
-module _ (rules : SiteRules) (d : Deed) (scopes : List (List ℕ)) (first : Option Ruling) (place : ℕ) (so_far : IsAsked rules d scopes first place) where
+module _ (rules : SiteRules) (d : Deed) (scopes : List (List ℕ)) (first : Option Finding) (place : ℕ) (so_far : IsAsked rules d scopes first place) where
   pub ruled-all : length scopes ≤ place → option_map ruling_in first ≡ ruling_on rules d scopes
   ruled-all all =
       let none : drop place scopes ≡ [] = drop_all place scopes all in
@@ -125,27 +124,24 @@ module _ (rules : SiteRules) (d : Deed) (scopes : List (List ℕ)) (first : Opti
       ∙ ap (λ o. option_or (option_map Err (option_map (by_rule rules d) o)) (option_map (λ s. Ok (by_rule rules d s)) (slice_get scopes 0)))
       (sym (so_far.denied ∙ ap (find (is_denied rules d)) none))
 
-  module _ (r : Ruling) (there : slice_get scopes place ≡ Some r.scope.now) (of_kind : r.kind.now ≡ d.kind) (decided : r.verdict ≡ deciding rules d r.scope.now) where
-    by-ruling : because_in r ≡ by_rule rules d r.scope.now
-    by-ruling = λ i. record { decider = decider_of (decided i); kind = Some (of_kind i); scope = Some r.scope.now }
-
-    pub ruled-here : r.verdict.allow ≡ false → Some (ruling_in r) ≡ ruling_on rules d scopes
+  module _ (r : Finding) (s : List ℕ) (there : slice_get scopes place ≡ Some s) (allows : r.allow ≡ (deciding rules d s).allow) (by-ruling : because_of r ≡ by_rule rules d s) where
+    pub ruled-here : r.allow ≡ false → Some (ruling_in r) ≡ ruling_on rules d scopes
     ruled-here h =
-        let found : find (is_denied rules d) scopes ≡ Some r.scope.now =
-        so_far.denied ∙ find-drop (is_denied rules d) scopes place r.scope.now there
-        ∙ ap (λ b. cond b (Some r.scope.now) (find (is_denied rules d) (drop (place + 1) scopes))) (ap (λ (v : Verdict). not v.allow) (sym decided) ∙ ap not h) in
-        ap (λ b. Some (cond b (Ok (because_in r)) (Err (because_in r)))) h ∙ ap (λ b. Some (Err b)) by-ruling
+        let found : find (is_denied rules d) scopes ≡ Some s =
+        so_far.denied ∙ find-drop (is_denied rules d) scopes place s there
+        ∙ ap (λ b. cond b (Some s) (find (is_denied rules d) (drop (place + 1) scopes))) (ap not (sym allows ∙ h)) in
+        ap (λ b. Some (cond b (Ok (because_of r)) (Err (because_of r)))) h ∙ ap (λ b. Some (Err b)) by-ruling
         ∙ ap (λ o. option_or (option_map Err (option_map (by_rule rules d) o)) (option_map (λ s. Ok (by_rule rules d s)) (slice_get scopes 0))) (sym found)
 
-    pub IsAsked-more : r.verdict.allow ≡ true → IsAsked rules d scopes (option_or first (Some r)) (place + 1)
+    pub IsAsked-more : r.allow ≡ true → IsAsked rules d scopes (option_or first (Some r)) (place + 1)
     IsAsked-more h = record {
       denied =
-          so_far.denied ∙ find-drop (is_denied rules d) scopes place r.scope.now there
-          ∙ ap (λ b. cond b (Some r.scope.now) (find (is_denied rules d) (drop (place + 1) scopes))) (ap (λ (v : Verdict). not v.allow) (sym decided) ∙ ap not h);
+          so_far.denied ∙ find-drop (is_denied rules d) scopes place s there
+          ∙ ap (λ b. cond b (Some s) (find (is_denied rules d) (drop (place + 1) scopes))) (ap not (sym allows ∙ h));
       first =
-          or-some first r _ ∙ ap (λ b. option_or (option_map ruling_in first) (Some (cond b (Ok (because_in r)) (Err (because_in r))))) h
+          or-some first r _ ∙ ap (λ b. option_or (option_map ruling_in first) (Some (cond b (Ok (because_of r)) (Err (because_of r))))) h
           ∙ ap (λ b. option_or (option_map ruling_in first) (Some (Ok b))) by-ruling
-          ∙ ap (λ o. option_or (option_map ruling_in first) (option_map (λ s. Ok (by_rule rules d s)) o)) (sym (get-front scopes place r.scope.now there)) ∙ so_far.first;
+          ∙ ap (λ o. option_or (option_map ruling_in first) (option_map (λ s. Ok (by_rule rules d s)) o)) (sym (get-front scopes place s there)) ∙ so_far.first;
     }
 
 -- ---- what may not be withdrawn
@@ -170,12 +166,12 @@ pub not-kept : (rules : SiteRules) (asker : ℕ) (e : Entry) → is_kept rules a
 not-kept rules asker e h = none-of (denial_of rules (deed asker Withdraw e.kind e.owner) e.scopes) (sym (is_kept-denial rules asker e) ∙ h)
 
 -- an entry's ruling says whether it may be withdrawn
-kept-ruling_on : (g : Grounds) (r : RuledEntry) → IsRuling g r → is_kept g.rules g.asker (entry_in r) ≡ not r.ruling.verdict.allow
+kept-ruling_on : (g : Grounds) (r : RuledEntry) → IsRuling g r → is_kept g.rules g.asker (entry_in r) ≡ not r.finding.allow
 kept-ruling_on g r is =
     is_kept-denial g.rules g.asker (entry_in r)
-    ∙ (elim (r.ruling.verdict.allow) as (λ b. r.ruling.verdict.allow ≡ b → is_some (denial_of g.rules (deed g.asker Withdraw (entry_in r).kind (entry_in r).owner) (entry_in r).scopes) ≡ not b) [
-      | true ↦ λ t. ap is_some (ruling-allowed g.rules (deed g.asker Withdraw (entry_in r).kind (entry_in r).owner) (entry_in r).scopes r.ruling is t)
-      | false ↦ λ t. ap is_some (ruling-denied g.rules (deed g.asker Withdraw (entry_in r).kind (entry_in r).owner) (entry_in r).scopes r.ruling is t)
+    ∙ (elim (r.finding.allow) as (λ b. r.finding.allow ≡ b → is_some (denial_of g.rules (deed g.asker Withdraw (entry_in r).kind (entry_in r).owner) (entry_in r).scopes) ≡ not b) [
+      | true ↦ λ t. ap is_some (ruling-allowed g.rules (deed g.asker Withdraw (entry_in r).kind (entry_in r).owner) (entry_in r).scopes r.finding is t)
+      | false ↦ λ t. ap is_some (ruling-denied g.rules (deed g.asker Withdraw (entry_in r).kind (entry_in r).owner) (entry_in r).scopes r.finding is t)
     ] refl)
 
 -- ---- a walk with one more
@@ -224,15 +220,15 @@ module _ (g : Grounds) (scopes : List (List ℕ)) (walk : Walk) where
       is_live = sym (ap (λ b. walk.is_live || b) lives ∙ or_true walk.is_live);
       first = ap Some (earlier_entry-entry walk.first r) ∙ ap₂ (λ b c. first_with (b && c) (option_map entry_in walk.first) (entry_in r)) (sym lives) (sym same);
       kept =
-          kept-first r.ruling.verdict.allow walk.kept r ∙ ap (λ b. first_with b (option_map entry_in walk.kept) (entry_in r)) (sym (kept-ruling_on g r is))
+          kept-first r.finding.allow walk.kept r ∙ ap (λ b. first_with b (option_map entry_in walk.kept) (entry_in r)) (sym (kept-ruling_on g r is))
           ∙ ap₂ (λ b c. first_with (b && c && is_kept g.rules g.asker (entry_in r)) (option_map entry_in walk.kept) (entry_in r)) (sym lives) (sym same);
     }
 
     pub IsRuledWalk-with : IsRuledWalk g walk → IsRuledWalk g (walk_with (alive walk) r)
     IsRuledWalk-with ruling_on = record {
       first = earlier_entry-meets (IsRuling g) walk.first r ruling_on.first is;
-      kept = elim (r.ruling.verdict.allow) as (λ b. r.ruling.verdict.allow ≡ b → IfSome (cond b walk.kept (Some (earlier_ruling walk.kept r))) (IsDenial g)) [
+      kept = elim (r.finding.allow) as (λ b. r.finding.allow ≡ b → IfSome (cond b walk.kept (Some (earlier_ruling walk.kept r))) (IsDenial g)) [
         | true ↦ λ t. ruling_on.kept
-        | false ↦ λ t. earlier_entry-meets (IsDenial g) walk.kept r ruling_on.kept (ruling-denied g.rules (deed g.asker Withdraw (entry_in r).kind (entry_in r).owner) (entry_in r).scopes r.ruling is t)
+        | false ↦ λ t. earlier_entry-meets (IsDenial g) walk.kept r ruling_on.kept (ruling-denied g.rules (deed g.asker Withdraw (entry_in r).kind (entry_in r).owner) (entry_in r).scopes r.finding is t)
       ] refl;
     }

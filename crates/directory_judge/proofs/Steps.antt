@@ -1,6 +1,6 @@
 -- What each step of judging comes to.
-use Rattle.std.proofs.Common.{◌≡◌, ◌≢◌, ℕ, ◌+◌, ◌<◌, true, false, cond, List, [], ◌∷◌, length, Option, Some, None, refl, sym, ap, ap₂, subst, ◌∙◌, arith}
-use Rattle.std.specs.Prelude.{filter, is_none, unwrap_or, ◌==◌}
+use Rattle.std.proofs.Common.{◌≡◌, ◌≢◌, ℕ, ◌+◌, ◌<◌, Bool, true, false, cond, List, [], ◌∷◌, length, Option, Some, None, Result, Ok, Err, refl, sym, ap, ap₂, subst, ◌∙◌, arith}
+use Rattle.std.specs.Prelude.{filter, is_none, unwrap_or, ◌==◌, IfOk}
 use Rattle.std.specs.List.{list_any}
 use Rattle.std.specs.Option.{option_map, option_or}
 use Rattle.std.specs.FinMap as fin
@@ -16,16 +16,19 @@ use Rattle.slp_messages.specs.declared.header.Header.{Header}
 use Rattle.slp_messages.specs.declared.message.Registration.{Registration}
 use Rattle.access_rules.specs.declared.rule.Action.TheVariants.{Register, Withdraw}
 use Rattle.registry_core.specs.declared.entry.Entry.{Entry}
-use Rattle.registry_core.specs.Entries.{Pair, is_of_url}
+use Rattle.registry_core.specs.Entries.{Entries, Pair, is_of_url}
 use Rattle.slp_text.specs.Words.{texts_eq}
 use Rattle.directory_judge.proofs.Rulings.{not-false, not-true}
 use Rattle.directory_judge.proofs.SameTexts.{texts_itself}
-use Rattle.directory_judge.specs.History.{Put, Set}
-use Rattle.directory_judge.specs.Judgements.{Grounds, Judgement, Accepts, Ignores, act_of, judgement_in_scopes, judgement_of_removal, judgement_of_tagged, judgement_of_tags, judgement_of_texts, entries_in, first_of, is_kept, concerned_entries, judgement_of_entries, judgement_of_url, by_step, denial, denial_by, denial_in, denial_of, denial_of_live, denial_of_new, denial_of_room, denial_of_template, pair_in, putting_of, release, removal_event, resulting_attributes, setting_of, allowance, judgement_of_particulars, IsJudgement}
-use Rattle.directory_judge.specs.NamedEntries.{particulars_named, IsActOf, IsJudgedNamed}
+use Rattle.directory_judge.specs.History.{Act, Put, Set}
+use Rattle.directory_judge.specs.Judgements.{Grounds, Judgement, Accepts, Ignores, act_of, judgement_in_scopes, judgement_of_removal, judgement_of_tagged, judgement_of_tags, judgement_of_texts, entries_in, first_of, is_kept, concerned_entries, judgement_in, judgement_of_entries, judgement_of_url, because_of, by_step, code_by, denial, denial_by, denial_in, denial_of, denial_of_live, denial_of_new, denial_of_room, denial_of_template, pair_in, putting_of, release, removal_event, resulting_attributes, setting_of, allowance, judgement_of_particulars, IsJudgement}
+use Rattle.directory_judge.specs.NamedEntries.{judgement_of_named, particulars_named, IsActOf, IsJudgedNamed}
 use Rattle.directory_judge.specs.declared.reason.Because.{Because}
 use Rattle.directory_judge.specs.declared.reason.Decider.TheVariants as decider
+use Rattle.directory_judge.specs.declared.reason.Finding.{Finding}
 use Rattle.directory_judge.specs.declared.copies.Judged.{Judged}
+use Rattle.directory_judge.specs.declared.copies.Judged.TheVariants as judged
+use Rattle.directory_judge.specs.declared.judgement.Decision.{Decision}
 use Rattle.directory_judge.specs.declared.change.Withdrawn.{Withdrawn}
 use Rattle.directory_judge.specs.declared.particulars.Particulars.{Particulars}
 use Rattle.directory_judge.specs.Withdrawals.{withdrawal_of_texts}
@@ -139,3 +142,20 @@ module _ (g : Grounds) (kind : List ℕ) (a : Attributes) where
 
   pub template-allows : is_none (template_fault g.site.templates kind a) ≡ true → denial_of_template g kind a ≡ None
   template-allows h = ap (λ b. cond b (Some (denial (by_step decider.Template (Some kind)))) None) (not-true _ h)
+
+-- ---- a denial with copies of what it was decided on
+
+abbrev IsDeniedAs : Finding → Decision → Type 0
+IsDeniedAs f d = judgement_in d ≡ judged.Deny (code_by f.decider) (because_of f)
+
+denied-so : (d : Decision) (f : Finding) (because : Because) (live : Entries) (j : Judgement) → IsDeniedAs f d → because_of f ≡ because → j ≡ denial because → IsJudgement live (judgement_in d) j
+denied-so d f because live j made is so = subst (λ x. IsJudgement live x j) (sym (made ∙ ap (λ (b : Because). judged.Deny (code_by b.decider) b) is)) so
+
+pub denied-as : {E : Type 0} (r : Result Decision E) (f : Finding) (because : Because) (live : Entries) (j : Judgement) → IfOk r (IsDeniedAs f) → because_of f ≡ because → j ≡ denial because → IfOk r (λ d. IsJudgement live (judgement_in d) j)
+denied-as (Ok d) f because live j made is so = denied-so d f because live j made is so
+denied-as (Err e) f because live j made is so = tt
+
+pub denied-named : {E : Type 0} (r : Result Decision E) (f : Finding) (because : Because) (g : Grounds) (fresh : Bool) (e : Entry) (by : Because) → IfOk r (IsDeniedAs f) → because_of f ≡ because
+    → ((a : Act) → judgement_of_named g fresh e a by ≡ denial because) → IfOk r (λ d. IsJudgedNamed g fresh e by (judgement_in d))
+denied-named (Ok d) f because g fresh e by made is so = λ a of. denied-so d f because g.live (judgement_of_named g fresh e a by) made is (so a)
+denied-named (Err e) f because g fresh named by made is so = tt

@@ -42,14 +42,12 @@ use Rattle.directory_judge.specs.declared.reason.Because.{Because}
 use Rattle.directory_judge.specs.declared.reason.Decider.{Decider}
 use Rattle.directory_judge.specs.declared.reason.Decider.TheVariants as decider
 use Rattle.directory_judge.specs.declared.reason.Finding.{Finding}
-use Rattle.directory_judge.specs.declared.reason.Reason.{Reason}
 use Rattle.directory_judge.specs.declared.change.Change.{Change}
 use Rattle.directory_judge.specs.declared.change.Change.TheVariants as change
 use Rattle.directory_judge.specs.declared.change.Placed.{Placed}
 use Rattle.directory_judge.specs.declared.judgement.Decision.{Decision}
 use Rattle.directory_judge.specs.declared.judgement.Decision.TheVariants as decision
 use Rattle.directory_judge.specs.declared.copies.Judged.{Judged}
-use Rattle.directory_judge.specs.declared.ruling.Ruling.{Ruling}
 use Rattle.directory_judge.specs.declared.copies.Judged.TheVariants as judged
 
 -- ---- what is judged on, and what comes of it
@@ -89,8 +87,11 @@ abbrev pub by_step : Decider → Option (List ℕ) → Because
 by_step d kind = record { decider = d; kind = kind; scope = None }
 
 -- the rule, or the default, that decided on a type in a scope
+abbrev pub because_on : Verdict → List ℕ → List ℕ → Because
+because_on v kind scope = record { decider = decider_of v; kind = Some kind; scope = Some scope }
+
 abbrev pub by_rule : SiteRules → Deed → List ℕ → Because
-by_rule rules d scope = record { decider = decider_of (deciding rules d scope); kind = Some d.kind; scope = Some scope }
+by_rule rules d scope = because_on (deciding rules d scope) d.kind scope
 
 abbrev pub is_denied : SiteRules → Deed → List ℕ → Bool
 is_denied rules d scope = not (deciding rules d scope).allow
@@ -128,16 +129,15 @@ denial_in g action kind registrant scopes = option_map denial (denial_of g.rules
 abbrev pub ruling_on : SiteRules → Deed → List (List ℕ) → Option (Result Because Because)
 ruling_on rules d scopes = option_or (option_map Err (denial_of rules d scopes)) (option_map (λ s. Ok (by_rule rules d s)) (slice_get scopes 0))
 
--- what a ruling says
-abbrev pub because_in : Ruling → Because
-because_in r = record { decider = decider_of r.verdict; kind = Some r.kind.now; scope = Some r.scope.now }
+-- who decided on what, of what was found
+abbrev pub because_of : Finding → Because
+because_of f = record { decider = f.decider; kind = option_copied f.kind; scope = option_copied f.scope }
 
-abbrev pub ruling_in : Ruling → Result Because Because
-ruling_in r = if r.verdict.allow then Ok (because_in r) else Err (because_in r)
+abbrev pub ruling_in : Finding → Result Because Because
+ruling_in f = if f.allow then Ok (because_of f) else Err (because_of f)
 
--- what is lent says
-abbrev pub because_of : Reason → Because
-because_of r = record { decider = r.decider; kind = option_copied r.kind; scope = option_copied r.scope }
+abbrev pub finding_code : Finding → ℕ
+finding_code f = if f.allow then OK else code_by f.decider
 
 -- who decided on the type of an entry, in the first of its scopes
 abbrev pub because_of_entry : Decider → Entry → Because
@@ -387,7 +387,7 @@ finding_in judged.Nothing = (code_by decider.Nobody, by_step decider.Nobody None
 finding_in (judged.Deny code because) = (code, because)
 
 abbrev pub finding_of : Finding → ℕ × Because
-finding_of f = (f.code, because_of f.reason)
+finding_of f = (finding_code f, because_of f)
 
 -- the change of it, if there is one
 abbrev pub change_of : Judged → Option Change

@@ -7,7 +7,7 @@ use Rattle.access_rules.specs.declared.rule.Action.TheVariants.{Withdraw}
 use Rattle.access_rules.specs.Deciding.{deed}
 use Rattle.registry_core.specs.declared.entry.Entry.{Entry}
 use Rattle.registry_core.specs.Entries.{outlives}
-use Rattle.directory_judge.specs.Judgements.{Grounds, because_in, denial_of, earlier_entry, is_kept, ruling_on, ruling_in}
+use Rattle.directory_judge.specs.Judgements.{Grounds, because_of, denial_of, earlier_entry, is_kept, ruling_on, ruling_in}
 use Rattle.directory_judge.specs.declared.withdrawals.RuledEntry.{RuledEntry}
 use Rattle.directory_judge.specs.declared.withdrawals.Walk.{Walk}
 
@@ -37,16 +37,16 @@ abbrev pub walk_with : Walk → RuledEntry → Walk
 walk_with walk r = record {
   is_live = walk.is_live;
   first = Some (earlier_ruling walk.first r);
-  kept = if r.ruling.verdict.allow then walk.kept else Some (earlier_ruling walk.kept r);
+  kept = if r.finding.allow then walk.kept else Some (earlier_ruling walk.kept r);
 }
 
--- the ruling is what the rules say of the entry's withdrawal
+-- what was found is what the rules say of the entry's withdrawal
 abbrev pub IsRuling : Grounds → RuledEntry → Type 0
-IsRuling g r = ruling_on g.rules (deed g.asker Withdraw r.entry.now.kind r.entry.now.owner) r.entry.now.scopes ≡ Some (ruling_in r.ruling)
+IsRuling g r = ruling_on g.rules (deed g.asker Withdraw r.entry.now.kind r.entry.now.owner) r.entry.now.scopes ≡ Some (ruling_in r.finding)
 
--- the ruling denies the entry's withdrawal
+-- what was found denies the entry's withdrawal
 abbrev pub IsDenial : Grounds → RuledEntry → Type 0
-IsDenial g r = denial_of g.rules (deed g.asker Withdraw r.entry.now.kind r.entry.now.owner) r.entry.now.scopes ≡ Some (because_in r.ruling)
+IsDenial g r = denial_of g.rules (deed g.asker Withdraw r.entry.now.kind r.entry.now.owner) r.entry.now.scopes ≡ Some (because_of r.finding)
 
 -- what a walk keeps was ruled on, and what is kept back was denied
 pub record IsRuledWalk (g : Grounds) (walk : Walk) : Type 0 where

@@ -6,7 +6,7 @@ ghost use Rattle.directory_judge.specs.Judgements.{judgement, judgement_in, IsCh
 
 use crate::change::Change;
 use crate::grounds::Grounds;
-use crate::judgement::{Decision, registering_reason};
+use crate::judgement::{Decision, registering};
 use crate::reason::Because;
 use crate::site::Site;
 use access_rules::{Addr, Rules};
@@ -32,11 +32,11 @@ impl Decision {
     {
         match self {
             Decision::Founded(placed, decider) => {
-                let because = registering_reason(&placed, decider).copy(alloc)?;
+                let because = registering(&placed, decider).because(alloc)?;
                 Ok(Judged::Accept(Change::Put(placed), because))
             }
             Decision::Edited(placed, decider) => {
-                let because = registering_reason(&placed, decider).copy(alloc)?;
+                let because = registering(&placed, decider).because(alloc)?;
                 Ok(Judged::Accept(Change::Edit(placed), because))
             }
             Decision::Accepted(change, because) => Ok(Judged::Accept(change, because)),

@@ -6,7 +6,7 @@ ghost use Rattle.registry_core.specs.Entries.{pair_of};
 ghost use Rattle.srv_template.specs.Conformity.{template_fault};
 ghost use Rattle.directory_judge.specs.Judgements.{ruling_on, ruling_in};
 
-use crate::ruling::Ruling;
+use crate::reason::Finding;
 use crate::site::Site;
 use access_rules::{Action, Addr, Deed, Rules};
 use attr_list::Attrs;
@@ -48,7 +48,7 @@ impl<'a, R: Registry> Grounds<'a, R> {
         kind: &'b ServiceType,
         scopes: &'b ScopeList,
         registrant: Addr,
-    ) -> Option<Ruling<'b>>
+    ) -> Option<Finding<'b>>
         ensures { option_map ruling_in result ≡ ruling_on self.now.rules (deed self.now.asker action kind.now registrant) scopes.now }
     {
         let mut first = None;
@@ -61,15 +61,11 @@ impl<'a, R: Registry> Grounds<'a, R> {
                     registrant,
                 };
                 let verdict = self.rules.verdict(&deed, scope);
-                let ruling = Ruling {
-                    verdict,
-                    kind,
-                    scope,
-                };
-                if !verdict.allow {
-                    return Some(ruling);
+                let finding = Finding::by_rules(verdict, kind, scope);
+                if !finding.allow {
+                    return Some(finding);
                 }
-                first = first.or(Some(ruling));
+                first = first.or(Some(finding));
             }
         }
         first

@@ -1,11 +1,10 @@
 //! What was decided on a message that may change something.
-ghost use Rattle.std.specs.Prelude.{◌≡◌, IfOk};
+ghost use Rattle.std.specs.Prelude.{◌≡◌, true, IfOk};
 ghost use Rattle.directory_judge.specs.Judgements.{because_of, because_of_placed, change_of, code_by, finding_in, finding_of, judgement_in};
 ghost use Rattle.directory_judge.specs.declared.copies.Judged.TheVariants as judged;
 
 use crate::change::{Change, Placed};
-use crate::reason::{Because, Decider, Finding, Reason};
-use slp_messages::code;
+use crate::reason::{Because, Decider, Finding};
 use slp_text::NoMemory;
 use std::alloc::Global;
 
@@ -24,11 +23,13 @@ pub enum Decision {
     Denied(Because),
 }
 
-/// Who decided on the type of an entry that is registered or updated, in the first of its scopes.
-pub(crate) fn registering_reason(placed: &Placed, decider: Decider) -> Reason<'_>
-    ensures { because_of result ≡ because_of_placed decider placed.now }
+/// Who allowed the type of an entry that is registered or updated, in the first of its scopes.
+pub(crate) fn registering(placed: &Placed, decider: Decider) -> Finding<'_>
+    ensures allow { result.allow ≡ true }
+    ensures because { because_of result ≡ because_of_placed decider placed.now }
 {
-    Reason {
+    Finding {
+        allow: true,
         decider,
         kind: Some(&placed.entry.kind),
         scope: placed.entry.scopes.at(0),
@@ -37,34 +38,24 @@ pub(crate) fn registering_reason(placed: &Placed, decider: Decider) -> Reason<'_
 
 impl Decision {
     /// A denial, with copies of what was decided on.
-    pub fn denied(alloc: Global, reason: Reason<'_>) -> Result<Decision, NoMemory>
-        ensures { IfOk result (λ j. judgement_in j ≡ judged.Deny (code_by reason.entry.decider) (because_of reason.entry)) }
+    // A call in the machine's code as well, so that judging what is accepted keeps its registers.
+    #[inline(never)]
+    pub fn denied(alloc: Global, finding: Finding<'_>) -> Result<Decision, NoMemory>
+        ensures { IfOk result (λ j. judgement_in j ≡ judged.Deny (code_by finding.entry.decider) (because_of finding.entry)) }
     {
-        Ok(Decision::Denied(reason.copy(alloc)?))
+        Ok(Decision::Denied(finding.because(alloc)?))
     }
 
-    /// The code of what was decided, and who decided on what.
+    /// Whether it was allowed, and who decided so on what.
     pub fn finding(&self) -> Finding<'_>
         ensures { finding_of result ≡ finding_in (judgement_in self.now) }
     {
         match self {
-            Decision::Founded(placed, decider) => Finding {
-                code: code::OK,
-                reason: registering_reason(placed, *decider),
-            },
-            Decision::Edited(placed, decider) => Finding {
-                code: code::OK,
-                reason: registering_reason(placed, *decider),
-            },
-            Decision::Accepted(_, because) => Finding {
-                code: code::OK,
-                reason: because.reason(),
-            },
-            Decision::Unchanged => Finding::by(Decider::Nobody, None),
-            Decision::Denied(because) => Finding {
-                code: because.decider.code(),
-                reason: because.reason(),
-            },
+            Decision::Founded(placed, decider) => registering(placed, *decider),
+            Decision::Edited(placed, decider) => registering(placed, *decider),
+            Decision::Accepted(_, because) => because.finding(true),
+            Decision::Unchanged => Finding::by_nobody(None),
+            Decision::Denied(because) => because.finding(false),
         }
     }
 

@@ -1,7 +1,8 @@
 ghost use Rattle.std.specs.Prelude.{◌≡◌, IfOk};
 ghost use Rattle.std.specs.Option.{option_copied};
-ghost use Rattle.directory_judge.specs.Judgements.{because_of, by_step, code_by};
+ghost use Rattle.directory_judge.specs.Judgements.{because_of, because_on, by_step, code_by, finding_code};
 
+use access_rules::Verdict;
 use service_url::ServiceType;
 use slp_messages::code;
 use slp_text::{Key, NoMemory};
@@ -57,14 +58,6 @@ pub struct Because {
     pub scope: Option<Key>,
 }
 
-/// The same, lent.
-#[derive(Clone, Copy)]
-pub struct Reason<'a> {
-    pub decider: Decider,
-    pub kind: Option<&'a ServiceType>,
-    pub scope: Option<&'a Key>,
-}
-
 impl Because {
     /// A step of judging, by which a type may be known.
     pub fn by(decider: Decider, kind: Option<ServiceType>) -> Because
@@ -77,11 +70,13 @@ impl Because {
         }
     }
 
-    /// The same, lent.
-    pub fn reason(&self) -> Reason<'_>
-        ensures { because_of result ≡ self.now }
+    /// The same, lent, of what is allowed or is not.
+    pub fn finding(&self, allow: bool) -> Finding<'_>
+        ensures allow { result.allow ≡ allow }
+        ensures because { because_of result ≡ self.now }
     {
-        Reason {
+        Finding {
+            allow,
             decider: self.decider,
             kind: self.kind.as_ref(),
             scope: self.scope.as_ref(),
@@ -89,20 +84,73 @@ impl Because {
     }
 }
 
-impl<'a> Reason<'a> {
-    /// A step of judging, by which a type may be known.
-    pub fn of_step(decider: Decider, kind: Option<&'a ServiceType>) -> Reason<'a>
-        ensures { because_of result ≡ by_step decider (option_copied kind.entry) }
+/// What was found of a message: whether it is allowed, who decided so, and on which type in which scope, where that is known. Types and scopes
+/// are lent.
+#[derive(Clone, Copy)]
+pub struct Finding<'a> {
+    pub allow: bool,
+    pub decider: Decider,
+    pub kind: Option<&'a ServiceType>,
+    pub scope: Option<&'a Key>,
+}
+
+impl<'a> Finding<'a> {
+    /// Nobody had to decide, on a type, where one is known.
+    pub fn by_nobody(kind: Option<&'a ServiceType>) -> Finding<'a>
+        ensures code { finding_code result ≡ code_by Decider.Nobody }
+        ensures because { because_of result ≡ by_step Decider.Nobody (option_copied kind.entry) }
     {
-        Reason {
+        Finding {
+            allow: true,
+            decider: Decider::Nobody,
+            kind,
+            scope: None,
+        }
+    }
+
+    /// A step denies, by which a type may be known.
+    pub fn deny(decider: Decider, kind: Option<&'a ServiceType>) -> Finding<'a>
+        ensures code { finding_code result ≡ code_by decider }
+        ensures because { because_of result ≡ by_step decider (option_copied kind.entry) }
+    {
+        Finding {
+            allow: false,
             decider,
             kind,
             scope: None,
         }
     }
 
-    /// The same with copies of what was decided on.
-    pub fn copy(&self, alloc: Global) -> Result<Because, NoMemory>
+    /// What the rules say of a type in a scope.
+    pub fn by_rules(verdict: Verdict, kind: &'a ServiceType, scope: &'a Key) -> Finding<'a>
+        ensures allow { result.allow ≡ verdict.allow }
+        ensures because { because_of result ≡ because_on verdict kind.now scope.now }
+    {
+        let decider = match verdict.rule {
+            Some(place) => Decider::Rule(place),
+            None => Decider::Default,
+        };
+        Finding {
+            allow: verdict.allow,
+            decider,
+            kind: Some(kind),
+            scope: Some(scope),
+        }
+    }
+
+    /// Its code (RFC 2608, section 7).
+    pub fn code(&self) -> u16
+        ensures { result ≡ finding_code self.now }
+    {
+        if self.allow {
+            code::OK
+        } else {
+            self.decider.code()
+        }
+    }
+
+    /// Who decided on what, with copies.
+    pub fn because(&self, alloc: Global) -> Result<Because, NoMemory>
         ensures { IfOk result (λ b. b ≡ because_of self.now) }
     {
         let kind = match self.kind {
@@ -118,25 +166,5 @@ impl<'a> Reason<'a> {
             kind,
             scope,
         })
-    }
-}
-
-/// A code, and who decided on what, lent.
-#[derive(Clone, Copy)]
-pub struct Finding<'a> {
-    pub code: u16,
-    pub reason: Reason<'a>,
-}
-
-impl<'a> Finding<'a> {
-    /// What a step decides, of which a type may be known.
-    pub fn by(decider: Decider, kind: Option<&'a ServiceType>) -> Finding<'a>
-        ensures code { result.code ≡ code_by decider }
-        ensures reason { because_of result.reason ≡ by_step decider (option_copied kind.entry) }
-    {
-        Finding {
-            code: decider.code(),
-            reason: Reason::of_step(decider, kind),
-        }
     }
 }

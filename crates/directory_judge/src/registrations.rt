@@ -12,7 +12,7 @@ use crate::change::Placed;
 use crate::grounds::Grounds;
 use crate::judgement::Decision;
 use crate::particulars::{Particulars, Reading, name};
-use crate::reason::{Decider, Reason};
+use crate::reason::{Decider, Finding};
 use access_rules::Action;
 use registry_core::{Entry, Registry};
 use service_url::ServiceType;
@@ -23,32 +23,32 @@ use std::sync::Arc;
 
 impl<'a, R: Registry> Grounds<'a, R> {
     // What denies that an entry is replaced or updated, if there is one.
-    pub(crate) fn replacing_denial(&self, old: Option<&'a Entry>) -> Option<Reason<'a>>
-        ensures { option_map (λ r. spec.denial (because_of r)) result ≡ denial_of_old self.now (option_copied old.entry) }
+    pub(crate) fn replacing_denial(&self, old: Option<&'a Entry>) -> Option<Finding<'a>>
+        ensures { option_map (λ f. spec.denial (because_of f)) result ≡ denial_of_old self.now (option_copied old.entry) }
     {
         let old = old?;
         match self.rule(Action::Register, &old.kind, &old.scopes, old.owner) {
-            Some(ruling) if !ruling.verdict.allow => Some(ruling.reason()),
+            Some(finding) if !finding.allow => Some(finding),
             _ => None,
         }
     }
 
     // What speaks against an entry that is allowed: what is live of its pair must be allowed too, its
     // attributes conform, and where nothing is live there must be room.
-    fn objection<'b>(&self, entry: &'b Entry) -> Option<Reason<'b>>
+    fn objection<'b>(&self, entry: &'b Entry) -> Option<Finding<'b>>
     where
         'a: 'b,
-        ensures { option_map (λ r. spec.denial (because_of r)) result ≡ option_or (denial_of_old self.now (fin.get self.now.live (pair_of entry.now))) (option_or (denial_of_template self.now entry.now.kind entry.now.attrs) (denial_of_room self.now (pair_of entry.now) (particulars_named entry.now))) }
+        ensures { option_map (λ f. spec.denial (because_of f)) result ≡ option_or (denial_of_old self.now (fin.get self.now.live (pair_of entry.now))) (option_or (denial_of_template self.now entry.now.kind entry.now.attrs) (denial_of_room self.now (pair_of entry.now) (particulars_named entry.now))) }
     {
         let old = self.live_entry(&entry.url, &entry.language);
-        if let Some(reason) = self.replacing_denial(old) {
-            return Some(reason);
+        if let Some(finding) = self.replacing_denial(old) {
+            return Some(finding);
         }
         if !self.conforms(&entry.kind, &entry.attrs) {
-            return Some(Reason::of_step(Decider::Template, Some(&entry.kind)));
+            return Some(Finding::deny(Decider::Template, Some(&entry.kind)));
         }
         if old.is_none() && self.is_full() {
-            return Some(Reason::of_step(Decider::Full, Some(&entry.kind)));
+            return Some(Finding::deny(Decider::Full, Some(&entry.kind)));
         }
         None
     }
@@ -59,8 +59,8 @@ impl<'a, R: Registry> Grounds<'a, R> {
         requires few_scopes { length named.scopes ≤ 16 }
         ensures { IfOk result (λ j. IsJudgedNamed self.now true named (because_of_entry decider named) (judgement_in j)) }
     {
-        if let Some(reason) = self.objection(&named) {
-            return Decision::denied(alloc, reason);
+        if let Some(finding) = self.objection(&named) {
+            return Decision::denied(alloc, finding);
         }
         let entry = Arc::new(alloc, named)?;
         let moment = self.moment;
@@ -131,17 +131,17 @@ impl<'a, R: Registry> Grounds<'a, R> {
             None => {
                 let told = Decision::denied(
                     alloc,
-                    Reason::of_step(Decider::Scope, Some(&named.kind)),
+                    Finding::deny(Decider::Scope, Some(&named.kind)),
                 );
                 drop(named);
                 told
             }
-            Some(ruling) if ruling.verdict.allow => {
-                let decider = ruling.decider();
+            Some(finding) if finding.allow => {
+                let decider = finding.decider;
                 self.judge_named(alloc, named, header.flags.fresh, decider)
             }
-            Some(ruling) => {
-                let told = Decision::denied(alloc, ruling.reason());
+            Some(finding) => {
+                let told = Decision::denied(alloc, finding);
                 drop(named);
                 told
             }

@@ -7,7 +7,7 @@ ghost use Rattle.directory_judge.specs.Judgements.{judgement_in, judgement_of_re
 use crate::change::{Change, Placed, Withdrawn};
 use crate::grounds::Grounds;
 use crate::judgement::Decision;
-use crate::reason::{Because, Decider, Reason};
+use crate::reason::{Decider, Finding};
 use access_rules::Action;
 use registry_core::{Entry, Registry};
 use slp_text::{Key, NoMemory, TagList};
@@ -52,23 +52,23 @@ impl<R: Registry> Grounds<'_, R> {
             return Ok(Decision::Unchanged);
         };
         if old.scopes != withdrawn.scopes {
-            return Ok(Decision::Denied(Because::by(Decider::Scope, None)));
+            return Decision::denied(alloc, Finding::deny(Decider::Scope, None));
         }
         match self.rule(Action::Withdraw, &old.kind, &old.scopes, old.owner) {
-            None => Ok(Decision::Denied(Because::by(Decider::Scope, None))),
-            Some(ruling) if ruling.verdict.allow => {
+            None => Decision::denied(alloc, Finding::deny(Decider::Scope, None)),
+            Some(finding) if finding.allow => {
                 let entry = remaining(alloc, old, tags)?;
                 if !self.conforms(&old.kind, &entry.attrs) {
                     return Decision::denied(
                         alloc,
-                        Reason::of_step(Decider::Template, Some(&old.kind)),
+                        Finding::deny(Decider::Template, Some(&old.kind)),
                     );
                 }
-                let because = ruling.reason().copy(alloc)?;
+                let because = finding.because(alloc)?;
                 let moment = self.moment;
                 Ok(Decision::Accepted(Change::Edit(Placed { moment, entry }), because))
             }
-            Some(ruling) => Decision::denied(alloc, ruling.reason()),
+            Some(finding) => Decision::denied(alloc, finding),
         }
     }
 }

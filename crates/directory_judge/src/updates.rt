@@ -10,7 +10,7 @@ ghost use Rattle.directory_judge.specs.NamedEntries.{particulars_named, IsJudged
 use crate::change::Placed;
 use crate::grounds::Grounds;
 use crate::judgement::Decision;
-use crate::reason::{Decider, Reason};
+use crate::reason::{Decider, Finding};
 use registry_core::{Entry, Registry};
 use slp_text::NoMemory;
 use std::alloc::Global;
@@ -42,19 +42,19 @@ fn updated(alloc: Global, old: &Entry, named: Entry) -> Result<Arc<Entry>, NoMem
 impl<'a, R: Registry> Grounds<'a, R> {
     // What is live of the pair that is named, if it has the type and the scopes that are named; else
     // what speaks against the update.
-    fn updatable<'b>(&self, named: &'b Entry) -> Result<&'a Entry, Reason<'b>>
+    fn updatable<'b>(&self, named: &'b Entry) -> Result<&'a Entry, Finding<'b>>
         ensures ok { IfOk result (λ old. IsUpdatable self.now.live named.now old.now) }
-        ensures err { IfErr result (λ r. denial_of_update (particulars_named named.now) (fin.get self.now.live (pair_of named.now)) ≡ Some (spec.denial (because_of r))) }
+        ensures err { IfErr result (λ f. denial_of_update (particulars_named named.now) (fin.get self.now.live (pair_of named.now)) ≡ Some (spec.denial (because_of f))) }
     {
         let kind = Some(&named.kind);
         let Some(old) = self.live_entry(&named.url, &named.language) else {
-            return Err(Reason::of_step(Decider::Update, kind));
+            return Err(Finding::deny(Decider::Update, kind));
         };
         if old.kind.text() != named.kind.text() {
-            return Err(Reason::of_step(Decider::Update, kind));
+            return Err(Finding::deny(Decider::Update, kind));
         }
         if old.scopes != named.scopes {
-            return Err(Reason::of_step(Decider::Scope, kind));
+            return Err(Finding::deny(Decider::Scope, kind));
         }
         Ok(old)
     }
@@ -72,16 +72,16 @@ impl<'a, R: Registry> Grounds<'a, R> {
         ensures { IfOk result (λ j. IsJudgedNamed self.now false named (because_of_entry decider named) (judgement_in j)) }
     {
         match self.updatable(&named) {
-            Err(reason) => Decision::denied(alloc, reason),
+            Err(finding) => Decision::denied(alloc, finding),
             Ok(old) => {
-                if let Some(reason) = self.replacing_denial(Some(old)) {
-                    return Decision::denied(alloc, reason);
+                if let Some(finding) = self.replacing_denial(Some(old)) {
+                    return Decision::denied(alloc, finding);
                 }
                 let entry = updated(alloc, old, named)?;
                 if !self.conforms(&entry.kind, &entry.attrs) {
                     return Decision::denied(
                         alloc,
-                        Reason::of_step(Decider::Template, Some(&entry.kind)),
+                        Finding::deny(Decider::Template, Some(&entry.kind)),
                     );
                 }
                 let moment = self.moment;

@@ -16,8 +16,7 @@ use crate::change::{Change, Withdrawn};
 use crate::grounds::Grounds;
 use crate::judgement::Decision;
 use crate::particulars::read_supported;
-use crate::reason::{Because, Decider};
-use crate::ruling::Ruling;
+use crate::reason::{Decider, Finding};
 use crate::site::Site;
 use access_rules::Action;
 use registry_core::{Entry, Registry};
@@ -53,7 +52,7 @@ fn read_withdrawn(
 #[derive(Clone, Copy)]
 struct RuledEntry<'a> {
     entry: &'a Entry,
-    ruling: Ruling<'a>,
+    finding: Finding<'a>,
 }
 
 // What a walk over the entries of a URL has found: whether one is live, and of those concerned the
@@ -83,7 +82,7 @@ impl<'a> Walk<'a> {
     fn with(self, next: RuledEntry<'a>) -> Walk<'a>
         ensures { result ≡ walk_with self.entry next.entry }
     {
-        let kept = if next.ruling.verdict.allow {
+        let kept = if next.finding.allow {
             self.kept
         } else {
             Some(earlier(self.kept, next))
@@ -116,7 +115,7 @@ impl<'a, R: Registry> Grounds<'a, R> {
             return walk;
         }
         match self.rule(Action::Withdraw, &entry.kind, &entry.scopes, entry.owner) {
-            Some(ruling) => walk.with(RuledEntry { entry, ruling }),
+            Some(finding) => walk.with(RuledEntry { entry, finding }),
             None => walk,
         }
     }
@@ -152,12 +151,12 @@ impl<'a, R: Registry> Grounds<'a, R> {
             return Ok(Decision::Unchanged);
         }
         let Some(first) = walk.first else {
-            return Ok(Decision::Denied(Because::by(Decider::Scope, None)));
+            return Decision::denied(alloc, Finding::deny(Decider::Scope, None));
         };
         if let Some(kept) = walk.kept {
-            return Decision::denied(alloc, kept.ruling.reason());
+            return Decision::denied(alloc, kept.finding);
         }
-        let because = first.ruling.reason().copy(alloc)?;
+        let because = first.finding.because(alloc)?;
         let change = Change::Withdraw(self.moment, withdrawn);
         Ok(Decision::Accepted(change, because))
     }
@@ -173,10 +172,10 @@ impl<'a, R: Registry> Grounds<'a, R> {
         ensures { IfOk result (λ j. IsJudgement self.now.live (judgement_in j) (judgement_of_texts self.now (key_of header.now.language.now) (result_ok (url_of withdrawal.now.entry.url.now)) (Some tags.now) (result_ok (scopes_of withdrawal.now.scopes.now)))) }
     {
         let Some(withdrawn) = read_withdrawn(alloc, self.site, withdrawal)? else {
-            return Ok(Decision::Denied(Because::by(Decider::Parse, None)));
+            return Decision::denied(alloc, Finding::deny(Decider::Parse, None));
         };
         if withdrawn.scopes.is_empty() {
-            return Ok(Decision::Denied(Because::by(Decider::Scope, None)));
+            return Decision::denied(alloc, Finding::deny(Decider::Scope, None));
         }
         if tags.is_empty() {
             return self.judge_stored(alloc, withdrawn);
@@ -195,7 +194,7 @@ impl<'a, R: Registry> Grounds<'a, R> {
     {
         match TagList::read(alloc, withdrawal.tags)? {
             Some(tags) => self.judge_asked(alloc, header, withdrawal, &tags),
-            None => Ok(Decision::Denied(Because::by(Decider::Parse, None))),
+            None => Decision::denied(alloc, Finding::deny(Decider::Parse, None)),
         }
     }
 }

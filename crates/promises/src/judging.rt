@@ -6,7 +6,7 @@ ghost use Rattle.slp_messages.specs.Views.{message_in};
 ghost use Rattle.directory_judge.specs.Judgements.{IsJudgement, judgement, judgement_in, ruling_in, ruling_on};
 
 use access_rules::Action;
-use directory_judge::{Decision, Grounds, Ruling};
+use directory_judge::{Decision, Finding, Grounds};
 use registry_core::{Entry, Registry};
 use slp_messages::ChangeView;
 use slp_text::NoMemory;
@@ -29,7 +29,7 @@ pub fn rule<'b, R: Registry>(
     grounds: &Grounds<'_, R>,
     action: Action,
     entry: &'b Entry,
-) -> Option<Ruling<'b>>
+) -> Option<Finding<'b>>
     ensures { option_map ruling_in result ≡ ruling_on grounds.now.rules (deed grounds.now.asker action entry.now.kind entry.now.owner) entry.now.scopes }
 {
     let told = grounds.rule(action, &entry.kind, &entry.scopes, entry.owner);

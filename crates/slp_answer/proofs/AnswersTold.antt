@@ -2,8 +2,9 @@
 use Rattle.std.proofs.Common.{◌≡◌, ℕ, Bool, true, false, cond, List, [], ◌∷◌, length, Option, Some, None, Result, Ok, Err, refl, sym, ap, ap₂, subst, ◌∙◌, inl, inr}
 use Rattle.std.specs.Prelude.{◌==◌, ◌&&◌, ◌+◌, ◌↔◌, ◌⊎◌, ◌≢◌, not, IfOk, IfSome, IsErrOf, OnOk}
 use Rattle.std.specs.List.{list_any}
+use Rattle.std.proofs.lemmas.Result.{IfOk-weaker}
 use Rattle.slp_text.specs.declared.faults.NoMemory.{NoMemory}
-use Rattle.slp_headers.specs.Headers.{Heading, heading_of}
+use Rattle.slp_headers.specs.Headers.{Heading, heading_in, heading_of}
 use Rattle.slp_messages.specs.declared.message.Message.{Message}
 use Rattle.slp_messages.specs.declared.message.Message.TheVariants as message
 use Rattle.slp_fields.specs.declared.fault.WireFault.{WireFault}
@@ -23,7 +24,7 @@ use Rattle.directory_judge.specs.declared.change.Change.{Change}
 use Rattle.directory_judge.specs.declared.copies.Judged.{Judged}
 use Rattle.directory_judge.specs.declared.copies.Judged.TheVariants as judged
 use Rattle.directory_questions.specs.Answers.{Sense, Settled, Lists, Describes, Names, IsCutReply, IsListed, advert_code, advert_outcome, agents_outcome, is_agent_for, language_outcome, question_of, sense_of_reading, sense_under, sense_within, sense_of_message, sense_of_question, IsAnswerTo, IsAnswer}
-use Rattle.directory_questions.specs.Calls.{Opening, Call, standpoint, standpoint_of}
+use Rattle.directory_questions.specs.Calls.{Opening, Call, call_in, standpoint, standpoint_of}
 use Rattle.directory_questions.specs.Cuts.{attributes_with, types_with}
 use Rattle.directory_questions.specs.Outcomes.{Outcome, silence, outcome, sent_of, code_outcome, code_outcome_as, decider_of_fault, denial_outcome, fault_outcome, acknowledgement_of}
 use Rattle.attr_list.specs.Lists.{Attributes}
@@ -49,10 +50,11 @@ use Rattle.directory_state.specs.State.{State}
 use Rattle.directory_state.specs.declared.search.Room.{Room}
 use Rattle.directory_state.proofs.Histories.{legal_next}
 use Rattle.slp_answer.specs.ServiceReplies.{service_reply}
-use Rattle.slp_answer.specs.Answers.{Tells, Replies, Acknowledges, Steps, outcome_of_finding, query_fault_outcome}
+use Rattle.slp_answer.specs.Answers.{Tells, TellsOf, Replies, Acknowledges, IsQuestionAnswered, Steps, outcome_of_finding, query_fault_outcome}
 use Rattle.slp_answer.proofs.Sizes.{front-cut, front-empty}
 use Rattle.slp_answer.specs.declared.answer.Answer.{Answer}
 use Rattle.slp_answer.specs.declared.answer.Sent.{Sent}
+use Rattle.slp_answer.specs.declared.replies.Reply.{Reply}
 use Rattle.slp_answer.specs.declared.answer.Sent.TheVariants as sent
 
 pub silence-tells : (rs : SiteRules) (asker : ℕ) (heading : Option Heading) (reply line : List ℕ) → reply ≡ [] → line ≡ [] → Tells rs asker heading silence sent.Silence reply line
@@ -415,3 +417,10 @@ module _ {A : Type 0} (o : Opening) (h : History) (c : Call) (head : Heading) (s
   refused-types query query_fault.Scope some scope never = unsupported-answer o h c head query.scopes None (Names head query) (none_here o site placed query.scopes (scope.0 refl))
   refused-types query query_fault.Language some scope never = absurd (never refl)
   refused-types query query_fault.NoMemory some scope never = absurd (some refl)
+
+-- what is told of a question that is refused is an answer to it
+pub refusal-answered : {E : Type 0} (o : Opening) (h : History) (to : Reply) (posed : Question) (kind : Option (List ℕ)) (fault : QueryFault) (reply line : List ℕ) (r : Result Sent E)
+    → (fault ≢ query_fault.NoMemory → IsAnswerTo o h (call_in to.heard.now.call.now) (sense_of_question o.site to.heard.now.call.now.own (heading_in to.heard.now.header) posed) (query_fault_outcome (heading_in to.heard.now.header) kind fault) None)
+    → IfOk r (λ what. (fault ≢ query_fault.NoMemory) × TellsOf to (query_fault_outcome (heading_in to.heard.now.header) kind fault) what reply line)
+    → IfOk r (λ what. IsQuestionAnswered o h to posed what reply line)
+refusal-answered o h to posed kind fault reply line r answers told = IfOk-weaker r _ _ (λ what t. (query_fault_outcome (heading_in to.heard.now.header) kind fault, answers t.0, t.1)) told

@@ -13,8 +13,8 @@ use Rattle.slp_text.specs.Scopes.{comma_list}
 use Rattle.slp_wire.specs.Spelling.{body_of, plain_bytes}
 use Rattle.directory_questions.specs.Cuts.{attributes_with, IsCut, reply_header, types_with}
 use Rattle.slp_answer.specs.TextLists.{list_with, listed_with, written_next, IsListedFront, IsListedReply}
-use Rattle.slp_answer.specs.declared.text_listing.Form.{Form}
-use Rattle.slp_answer.specs.declared.text_listing.Form.TheVariants as form
+use Rattle.slp_answer.specs.declared.text_lists.Form.{Form}
+use Rattle.slp_answer.specs.declared.text_lists.Form.TheVariants as form
 
 -- ---- one text more
 

@@ -8,8 +8,8 @@ use Rattle.slp_headers.specs.declared.flag.TheConstants as flag
 use Rattle.slp_wire.specs.Spelling.{plain_bytes}
 use Rattle.directory_questions.specs.Cuts.{reply_header}
 use Rattle.slp_answer.specs.TextLists.{form_end, form_function, head_bytes, listed_reply}
-use Rattle.slp_answer.specs.declared.text_listing.Form.{Form}
-use Rattle.slp_answer.specs.declared.text_listing.Form.TheVariants as form
+use Rattle.slp_answer.specs.declared.text_lists.Form.{Form}
+use Rattle.slp_answer.specs.declared.text_lists.Form.TheVariants as form
 
 -- four pieces that were written one after the other over what was there
 pub filled : (old fixed tag code size new : List ℕ) → length fixed ≡ 14 → length code ≡ 2 → length size ≡ 2

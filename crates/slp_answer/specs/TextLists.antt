@@ -12,8 +12,8 @@ use Rattle.slp_text.specs.Ascii.{comma}
 use Rattle.slp_text.specs.Scopes.{comma_list}
 use Rattle.slp_wire.specs.Spelling.{plain_bytes}
 use Rattle.directory_questions.specs.Cuts.{attributes_with, reply_header, types_with}
-use Rattle.slp_answer.specs.declared.text_listing.Form.{Form}
-use Rattle.slp_answer.specs.declared.text_listing.Form.TheVariants as form
+use Rattle.slp_answer.specs.declared.text_lists.Form.{Form}
+use Rattle.slp_answer.specs.declared.text_lists.Form.TheVariants as form
 
 -- what the text at a place adds to a list
 abbrev pub written_next : ℕ → List ℕ → List ℕ

@@ -9,7 +9,7 @@ ghost use Rattle.slp_text.specs.declared.escapes.Place.TheVariants.{Scope};
 
 use crate::sink::Sink;
 use access_rules::{Action, Addr, Rules};
-use directory_judge::{Decider, Reason};
+use directory_judge::{Decider, Finding};
 use itoa::Buffer;
 use service_url::ServiceType;
 use slp_text::{Key, NoMemory, Place, capital_digit, is_plain, is_reserved};
@@ -18,7 +18,7 @@ use slp_text::{Key, NoMemory, Place, capital_digit, is_plain, is_reserved};
 #[derive(Clone, Copy)]
 pub(crate) struct AuditView<'a> {
     pub code: u16,
-    pub reason: Reason<'a>,
+    pub finding: Finding<'a>,
     pub action: Action,
     pub asker: Addr,
 }
@@ -208,7 +208,7 @@ fn put_head<S: Sink>(sink: &mut S, rule: &str, audit: &AuditView<'_>) -> Result<
     ensures err { OnErr result (S.room sink.old ≤ length (head_text rule.now (audit_of audit.now))) }
 {
     put_beginning(sink, audit.code)?;
-    put_decider(sink, rule, audit.reason.decider)?;
+    put_decider(sink, rule, audit.finding.decider)?;
     sink.put(action_part(audit.action))
 }
 
@@ -219,8 +219,8 @@ fn put_tail<S: Sink>(sink: &mut S, audit: &AuditView<'_>) -> Result<(), NoMemory
 {
     put_address(sink, audit.asker)?;
     sink.put(" type=")?;
-    sink.put(kind_text(audit.reason.kind))?;
-    put_ending(sink, audit.reason.scope)
+    sink.put(kind_text(audit.finding.kind))?;
+    put_ending(sink, audit.finding.scope)
 }
 
 /// Appends the line that tells what came of a message, with the name of the rule that decided.
@@ -246,7 +246,7 @@ pub(crate) fn put_line(
     ensures ok { OnOk result (line.new.items ≡ audit_text rules.now (audit_of audit.now)) }
     ensures err { OnErr result (line.new.items ≡ []) }
 {
-    let rule = rule_name(rules, audit.reason.decider);
+    let rule = rule_name(rules, audit.finding.decider);
     match write_line(line, rule, audit) {
         Ok(()) => Ok(()),
         Err(fault) => {

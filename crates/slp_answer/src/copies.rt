@@ -23,7 +23,7 @@ pub fn audit_line(rules: &Rules, audit: &Audit, line: &mut Vec<u8>) -> Result<()
 {
     let view = AuditView {
         code: audit.code,
-        reason: audit.because.reason(),
+        finding: audit.because.finding(false),
         action: audit.action,
         asker: audit.asker,
     };

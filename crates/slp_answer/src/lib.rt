@@ -7,12 +7,12 @@ mod answer;
 mod audit;
 mod calls;
 mod copies;
-mod listing;
 mod questions;
 mod refusals;
 mod replies;
+mod service_replies;
 mod sink;
-mod text_listing;
+mod text_lists;
 mod text_replies;
 mod texts;
 

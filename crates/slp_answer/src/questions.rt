@@ -18,8 +18,8 @@ ghost use Rattle.slp_answer.specs.declared.answer.Sent.TheVariants as sent;
 
 use crate::adverts::answer_agents;
 use crate::answer::{Answer, Sent};
-use crate::listing::{put_found, room_in};
 use crate::replies::{Reply, is_unsent};
+use crate::service_replies::{put_found, room_in};
 use crate::text_replies::{answer_attributes, answer_types};
 use directory_judge::{Decider, Finding};
 use directory_questions::{Heard, Question, ServiceQuery, asked};
@@ -70,7 +70,7 @@ impl Reply<'_> {
             IfOk result (λ what. TellsOf self.now (outcome (sent_of head 0 is_empty whole) 0 (by_step decider.Nobody (Some kind.now))) what answer.new.bytes.items answer.new.audit.items) }
     {
         let sent = self.put_services(found, &mut answer.bytes)?;
-        self.tell(Finding::by(Decider::Nobody, Some(kind)), &mut answer.audit)?;
+        self.tell(Finding::by_nobody(Some(kind)), &mut answer.audit)?;
         Ok(sent)
     }
 }
@@ -113,7 +113,7 @@ fn answer_question<R: Registry>(
 {
     match posed {
         Question::Silent => Ok(Sent::Silence),
-        Question::Unreadable => reply.code(Finding::by(Decider::Parse, None), answer),
+        Question::Unreadable => reply.code(Finding::deny(Decider::Parse, None), answer),
         Question::Services(query) => answer_services(alloc, directory, reply, query, answer),
         Question::Attributes(query) => answer_attributes(alloc, directory, reply, query, answer),
         Question::Types(query) => answer_types(alloc, directory, reply, query, answer),

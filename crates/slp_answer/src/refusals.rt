@@ -12,7 +12,7 @@ use crate::audit::{AuditView, write_line};
 use crate::replies::is_unsent;
 use crate::sink::ShortLine;
 use access_rules::{Action, Addr};
-use directory_judge::{Decider, Reason};
+use directory_judge::{Decider, Finding};
 use directory_questions::{Call, Heard};
 use slp_wire::{code, error_reply};
 
@@ -33,14 +33,9 @@ fn put_refusal(told: &mut ShortLine, action: Action, asker: Addr)
     requires { told.old.bytes ≡ [] }
     ensures { told.new.bytes ≡ audit_text no_rules (record { code = INTERNAL_ERROR; because = by_step Memory None; action = action; asker = asker }) }
 {
-    let reason = Reason {
-        decider: Decider::Memory,
-        kind: None,
-        scope: None,
-    };
     let audit = AuditView {
         code: code::INTERNAL_ERROR,
-        reason,
+        finding: Finding::deny(Decider::Memory, None),
         action,
         asker,
     };

@@ -3,7 +3,7 @@ ghost use Rattle.std.specs.Prelude.{◌≡◌, ◌≢◌, ◌≤◌, ◌==◌, �
 ghost use Rattle.std.specs.Option.{option_copied};
 ghost use Rattle.slp_headers.specs.Headers.{heading_in, refusal_bytes};
 ghost use Rattle.slp_wire.specs.Spelling.{plain_bytes};
-ghost use Rattle.directory_judge.specs.Judgements.{because_of, by_step, finding_of};
+ghost use Rattle.directory_judge.specs.Judgements.{because_of, by_step, finding_code, finding_of};
 ghost use Rattle.directory_judge.specs.declared.reason.Decider.TheVariants as decider;
 ghost use Rattle.directory_questions.specs.Answers.{advert_code};
 ghost use Rattle.directory_questions.specs.Cuts as spec;
@@ -77,10 +77,9 @@ impl Reply<'_> {
         requires { line.old.items ≡ [] }
         ensures { IfOk result (λ _. line.new.items ≡ audit_text self.now.rules.now (audit_in self.now.heard.now.call.now.asker (heading_in self.now.heard.now.header) (finding_of finding.entry))) }
     {
-        let Finding { code, reason } = finding;
         let audit = AuditView {
-            code,
-            reason,
+            code: finding.code(),
+            finding,
             action: self.heard.action(),
             asker: self.heard.call.asker,
         };
@@ -111,9 +110,9 @@ impl Reply<'_> {
     ) -> Result<Sent, NoMemory>
         requires no_reply { answer.old.bytes.items ≡ [] }
         requires no_line { answer.old.audit.items ≡ [] }
-        ensures { IfOk result (λ what. TellsOf self.now (code_outcome_as (heading_in self.now.heard.now.header) finding.entry.code (because_of finding.entry.reason) function) what answer.new.bytes.items answer.new.audit.items) }
+        ensures { IfOk result (λ what. TellsOf self.now (code_outcome_as (heading_in self.now.heard.now.header) (finding_code finding.entry) (because_of finding.entry) function) what answer.new.bytes.items answer.new.audit.items) }
     {
-        let sent = self.put_code(function, finding.code, &mut answer.bytes)?;
+        let sent = self.put_code(function, finding.code(), &mut answer.bytes)?;
         self.tell(finding, &mut answer.audit)?;
         Ok(sent)
     }
@@ -122,7 +121,7 @@ impl Reply<'_> {
     pub fn code(&self, finding: Finding<'_>, answer: &mut Answer) -> Result<Sent, NoMemory>
         requires no_reply { answer.old.bytes.items ≡ [] }
         requires no_line { answer.old.audit.items ≡ [] }
-        ensures { IfOk result (λ what. TellsOf self.now (code_outcome (heading_in self.now.heard.now.header) finding.entry.code (because_of finding.entry.reason)) what answer.new.bytes.items answer.new.audit.items) }
+        ensures { IfOk result (λ what. TellsOf self.now (code_outcome (heading_in self.now.heard.now.header) (finding_code finding.entry) (because_of finding.entry)) what answer.new.bytes.items answer.new.audit.items) }
     {
         self.code_as(self.heard.request.reply_function(), finding, answer)
     }
@@ -131,7 +130,7 @@ impl Reply<'_> {
     pub fn advert_code(&self, finding: Finding<'_>, answer: &mut Answer) -> Result<Sent, NoMemory>
         requires no_reply { answer.old.bytes.items ≡ [] }
         requires no_line { answer.old.audit.items ≡ [] }
-        ensures { IfOk result (λ what. TellsOf self.now (advert_code (heading_in self.now.heard.now.header) finding.entry.code (because_of finding.entry.reason)) what answer.new.bytes.items answer.new.audit.items) }
+        ensures { IfOk result (λ what. TellsOf self.now (advert_code (heading_in self.now.heard.now.header) (finding_code finding.entry) (because_of finding.entry)) what answer.new.bytes.items answer.new.audit.items) }
     {
         self.code_as(function::DIRECTORY_ADVERT, finding, answer)
     }
@@ -144,7 +143,7 @@ impl Reply<'_> {
         ensures { IfOk result (λ what. TellsOf self.now (fault_outcome (heading_in self.now.heard.now.header) fault) what answer.new.bytes.items answer.new.audit.items) }
     {
         match decider_of(fault) {
-            Some(decider) => self.code(Finding::by(decider, None), answer),
+            Some(decider) => self.code(Finding::deny(decider, None), answer),
             None => Ok(Sent::Silence),
         }
     }
@@ -161,8 +160,8 @@ impl Reply<'_> {
         ensures { IfOk result (λ what. (fault ≢ query_fault.NoMemory) × TellsOf self.now (query_fault_outcome (heading_in self.now.heard.now.header) (option_copied kind.entry) fault) what answer.new.bytes.items answer.new.audit.items) }
     {
         match fault {
-            QueryFault::Scope => self.code(Finding::by(Decider::Scope, kind), answer),
-            QueryFault::Language => self.code(Finding::by(Decider::Language, kind), answer),
+            QueryFault::Scope => self.code(Finding::deny(Decider::Scope, kind), answer),
+            QueryFault::Language => self.code(Finding::deny(Decider::Language, kind), answer),
             QueryFault::NoMemory => Err(NoMemory),
         }
     }
@@ -193,7 +192,7 @@ impl Reply<'_> {
             IfOk result (λ what. TellsOf self.now (outcome (sent_of head 0 is_empty answer.old.bytes.items) 0 (by_step decider.Nobody (option_copied kind.entry))) what answer.new.bytes.items answer.new.audit.items) }
     {
         let sent = self.keep(is_empty, &mut answer.bytes);
-        self.tell(Finding::by(Decider::Nobody, kind), &mut answer.audit)?;
+        self.tell(Finding::by_nobody(kind), &mut answer.audit)?;
         Ok(sent)
     }
 

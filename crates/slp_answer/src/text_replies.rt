@@ -16,7 +16,7 @@ ghost use Rattle.slp_answer.specs.TextLists.{listed_with};
 
 use crate::answer::{Answer, Sent};
 use crate::replies::Reply;
-use crate::text_listing::{Form, Listing, put_listed};
+use crate::text_lists::{Form, Listing, put_listed};
 use crate::texts::{AttributeTexts, Texts, TypeTexts};
 use directory_questions::{AttrQuery, TypeQuery};
 use directory_state::Directory;

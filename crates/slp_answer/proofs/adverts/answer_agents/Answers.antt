@@ -41,7 +41,7 @@ returns-in_default g c = λ o h fold legal.
     let head = heading_in c.args.reply.now.heard.now.header in
     IfOk-weaker c.advert_code.result _ _
     (λ what tells. (advert_code head 2 (by_step decider.Parse None), (sym (ap (agents_outcome o.site call.own head query.kind) c.in_default.is), refl), tells))
-    (rw (c.by.ensures.code, c.by.ensures.reason) at c.advert_code.ensures)
+    (rw (c.deny.ensures.code, c.deny.ensures.because) at c.advert_code.ensures)
 
 no-agent-for : (site : Site) (scopes : List (List ℕ)) → (scopes ≡ [] → ⊥) → list_any (supports site) scopes ≡ false → is_agent_for site scopes ≡ false
 no-agent-for site [] some none = absurd (some refl)
@@ -60,4 +60,4 @@ returns-then-not-supports g c = λ o h fold legal.
       agents-answer o h (call_in c.args.reply.now.heard.now.call.now) head query scopes false c.in-Some.is (no-agent-for o.site scopes some none),
       tells,
     ))
-    (rw (c.by-then-not-supports.ensures.code, c.by-then-not-supports.ensures.reason) at c.advert_code-then-not-supports.ensures)
+    (rw (c.deny-then-not-supports.ensures.code, c.deny-then-not-supports.ensures.because) at c.advert_code-then-not-supports.ensures)

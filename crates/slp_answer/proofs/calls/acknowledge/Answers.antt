@@ -1,4 +1,4 @@
-use Rattle.std.proofs.Common.{ℕ, true, false, List, sym, ap, subst, ◌∙◌}
+use Rattle.std.proofs.Common.{ℕ, true, List, sym, ap, subst, ◌∙◌}
 use Rattle.std.proofs.lemmas.Bool.{true≢false}
 use Rattle.directory_questions.specs.Answers.{is_change_of}
 use Rattle.directory_questions.specs.Requests.{IsUnheard}

@@ -6,9 +6,9 @@ use Rattle.directory_judge.specs.Judgements.{supports}
 use Rattle.directory_judge.specs.Sites.{Site}
 use Rattle.directory_questions.specs.Calls.{call_in}
 use Rattle.directory_state.specs.Fronts.{items_in}
-use Rattle.slp_answer.specs.Answers.{query_fault_outcome}
+use Rattle.directory_questions.specs.declared.question.Question.TheVariants as question
 use Rattle.slp_answer.proofs.Sizes.{room-short}
-use Rattle.slp_answer.proofs.AnswersTold.{listed-answer, found-supported, refused-services}
+use Rattle.slp_answer.proofs.AnswersTold.{found-supported, listed-answer, refusal-answered, refused-services}
 use Rattle.slp_answer.proofs.questions.answer_services.Goals as goal
 
 pub services-requires-clause-short : goal.services-requires-clause-short
@@ -29,12 +29,7 @@ returns-in-Ok g c = λ o h fold legal.
 pub returns-in-Err : goal.returns-in-Err
 returns-in-Err g c = λ o h fold legal.
     let q = c.args.query.now in
-    let head = heading_in c.args.reply.now.heard.now.header in
-    let fault = c.in-Err.fault in
-    IfOk-weaker c.query_fault.result _ _
-    (λ what told. (
-      query_fault_outcome head (Some q.kind) fault,
-      refused-services o h (call_in c.args.reply.now.heard.now.call.now) head c.args.directory.now.site fold.placed q fault told.0 c.in-Err.ensures.scope (c.in-Err.ensures.language o h fold legal).0,
-      told.1,
-    ))
+    let to = c.args.reply.now in
+    refusal-answered o h to (question.Services q) (Some q.kind) c.in-Err.fault _ _ c.query_fault.result
+    (λ some. refused-services o h (call_in to.heard.now.call.now) (heading_in to.heard.now.header) c.args.directory.now.site fold.placed q c.in-Err.fault some c.in-Err.ensures.scope (c.in-Err.ensures.language o h fold legal).0)
     c.query_fault.ensures

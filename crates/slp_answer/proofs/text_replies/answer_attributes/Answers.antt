@@ -9,8 +9,8 @@ use Rattle.directory_questions.specs.Answers.{IsCutReply}
 use Rattle.directory_questions.specs.Calls.{call_in}
 use Rattle.directory_questions.specs.Cuts.{attributes_with}
 use Rattle.directory_questions.specs.Items.{attribute_texts, kind_asked}
-use Rattle.slp_answer.specs.Answers.{query_fault_outcome}
-use Rattle.slp_answer.proofs.AnswersTold.{described-answer, found-supported, refused-attributes}
+use Rattle.directory_questions.specs.declared.question.Question.TheVariants as question
+use Rattle.slp_answer.proofs.AnswersTold.{described-answer, found-supported, refusal-answered, refused-attributes}
 use Rattle.slp_answer.proofs.text_replies.answer_attributes.Goals as goal
 
 pub returns-in-Ok : goal.returns-in-Ok
@@ -32,12 +32,7 @@ returns-in-Ok g c = λ o h fold legal.
 pub returns-in-Err : goal.returns-in-Err
 returns-in-Err g c = λ o h fold legal.
     let q = c.args.query.now in
-    let head = heading_in c.args.reply.now.heard.now.header in
-    let fault = c.in-Err.fault in
-    IfOk-weaker c.query_fault.result _ _
-    (λ what told. (
-      query_fault_outcome head (kind_asked q.target) fault,
-      refused-attributes o h (call_in c.args.reply.now.heard.now.call.now) head c.args.directory.now.site fold.placed q fault told.0 c.in-Err.ensures.scope (c.in-Err.ensures.language o h fold legal).0,
-      told.1,
-    ))
+    let to = c.args.reply.now in
+    refusal-answered o h to (question.Attributes q) (kind_asked q.target) c.in-Err.fault _ _ c.query_fault.result
+    (λ some. refused-attributes o h (call_in to.heard.now.call.now) (heading_in to.heard.now.header) c.args.directory.now.site fold.placed q c.in-Err.fault some c.in-Err.ensures.scope (c.in-Err.ensures.language o h fold legal).0)
     (rw c.kind-kind.ensures at c.query_fault.ensures)

@@ -7,8 +7,8 @@ use Rattle.directory_judge.specs.Sites.{Site}
 use Rattle.directory_questions.specs.Calls.{call_in, standpoint_of}
 use Rattle.directory_questions.specs.Items.{AreTypesOf}
 use Rattle.directory_state.specs.Searches.{entries_lent}
-use Rattle.slp_answer.specs.Answers.{query_fault_outcome}
-use Rattle.slp_answer.proofs.AnswersTold.{found-supported, named-answer, refused-types}
+use Rattle.directory_questions.specs.declared.question.Question.TheVariants as question
+use Rattle.slp_answer.proofs.AnswersTold.{found-supported, named-answer, refusal-answered, refused-types}
 use Rattle.slp_answer.proofs.text_replies.answer_types.Goals as goal
 
 pub returns-in-Ok : goal.returns-in-Ok
@@ -29,12 +29,7 @@ returns-in-Ok g c = λ o h fold legal.
 pub returns-in-Err : goal.returns-in-Err
 returns-in-Err g c = λ o h fold legal.
     let q = c.args.query.now in
-    let head = heading_in c.args.reply.now.heard.now.header in
-    let fault = c.in-Err.fault in
-    IfOk-weaker c.query_fault.result _ _
-    (λ what told. (
-      query_fault_outcome head None fault,
-      refused-types o h (call_in c.args.reply.now.heard.now.call.now) head c.args.directory.now.site fold.placed q fault told.0 c.in-Err.ensures.scope c.in-Err.ensures.spoken,
-      told.1,
-    ))
+    let to = c.args.reply.now in
+    refusal-answered o h to (question.Types q) None c.in-Err.fault _ _ c.query_fault.result
+    (λ some. refused-types o h (call_in to.heard.now.call.now) (heading_in to.heard.now.header) c.args.directory.now.site fold.placed q c.in-Err.fault some c.in-Err.ensures.scope c.in-Err.ensures.spoken)
     c.query_fault.ensures

@@ -9,8 +9,8 @@ use Rattle.service_url.specs.Urls.{url_of}
 use Rattle.slp_text.specs.Keys.{key_of}
 use Rattle.slp_text.specs.Scopes.{scopes_of}
 use Rattle.slp_text.specs.Tags.{Part}
-use Rattle.directory_judge.specs.Judgements.{Grounds, denial, denial_by, judgement_in, judgement_in_scopes, judgement_of_removal, judgement_of_texts, judgement_of_url, IsJudgement}
-use Rattle.directory_judge.proofs.Steps.{judgement-tagged, judgement-whole}
+use Rattle.directory_judge.specs.Judgements.{Grounds, denial_by, judgement_in, judgement_in_scopes, judgement_of_removal, judgement_of_texts, judgement_of_url, IsJudgement}
+use Rattle.directory_judge.proofs.Steps.{denied-as, judgement-tagged, judgement-whole}
 use Rattle.directory_judge.specs.Withdrawals.{withdrawal_of_texts}
 use Rattle.directory_judge.specs.declared.change.Withdrawn.{Withdrawn}
 use Rattle.directory_judge.specs.declared.reason.Decider.TheVariants as decider
@@ -44,7 +44,7 @@ returns-in_default g c =
     let scopes = result_ok (scopes_of w.scopes) in
     let is : withdrawal_of_texts on.site url scopes ≡ None =
     ap (λ (v : Grounds). withdrawal_of_texts v.site url scopes) (sym c.self.view_is) ∙ sym c.in_ok-withdrawn.ensures.value ∙ ap (option_map arc_value) c.in_default.is in
-    withdrawn-none on (key_of c.args.header.now.language.now) c.args.tags.now url scopes is ∙ ap denial (sym c.by.ensures)
+    denied-as c.denied.result c.deny.result _ on.live _ c.denied.ensures c.deny.ensures.because (withdrawn-none on (key_of c.args.header.now.language.now) c.args.tags.now url scopes is)
 
 pub returns-then-is_empty : goal.returns-then-is_empty
 returns-then-is_empty g c =
@@ -56,7 +56,8 @@ returns-then-is_empty g c =
     let is : withdrawal_of_texts on.site url scopes ≡ Some asked =
     ap (λ (v : Grounds). withdrawal_of_texts v.site url scopes) (sym c.self.view_is) ∙ sym c.in_ok-withdrawn.ensures.value ∙ ap (option_map arc_value) c.in-Some.is in
     let none : asked.scopes ≡ [] = sym (ap (λ (x : Withdrawn). x.scopes) c.deref.ensures) ∙ c.is_empty.ensures.0 c.if-is_empty.true in
-    withdrawn-unscoped on (key_of c.args.header.now.language.now) c.args.tags.now asked url scopes is none ∙ ap denial (sym c.by-then-is_empty.ensures)
+    denied-as c.denied-then-is_empty.result c.deny-then-is_empty.result _ on.live _ c.denied-then-is_empty.ensures c.deny-then-is_empty.ensures.because
+    (withdrawn-unscoped on (key_of c.args.header.now.language.now) c.args.tags.now asked url scopes is none)
 
 pub judge_stored-requires : goal.judge_stored-requires
 judge_stored-requires g c =

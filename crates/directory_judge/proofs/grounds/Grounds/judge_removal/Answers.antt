@@ -2,7 +2,6 @@ use Rattle.std.proofs.Common.{◌≡◌, ◌<◌, ◌≤◌, Some, true, false, 
 use Rattle.std.specs.Prelude.{is_none, unwrap_or}
 use Rattle.std.specs.Arc.{arc_value}
 use Rattle.std.specs.Option.{option_copied, option_map, option_or}
-use Rattle.std.proofs.lemmas.Result.{IfOk-weaker}
 use Rattle.attr_list.specs.Maps.{attributes_without}
 use Rattle.srv_template.specs.Conformity.{template_fault}
 use Rattle.std.specs.FinMap as fin
@@ -13,13 +12,11 @@ use Rattle.registry_core.specs.declared.entry.Entry.{Entry}
 use Rattle.registry_core.specs.Entries.{Pair}
 use Rattle.directory_judge.specs.History.{Removing}
 use Rattle.directory_judge.specs.Contents.{Edits, edit_of, entry_without}
-use Rattle.directory_judge.specs.Judgements.{Grounds, Accepts, because_of, by_step, code_by, denial, judgement_in, judgement_of_removal, release, removal_event, ruling_in, IsJudgement}
-use Rattle.directory_judge.specs.declared.copies.Judged.TheVariants as judged
-use Rattle.directory_judge.specs.declared.reason.Because.{Because}
+use Rattle.directory_judge.specs.Judgements.{Grounds, Accepts, by_step, denial, judgement_of_removal, release, removal_event, ruling_in}
 use Rattle.directory_judge.specs.declared.reason.Decider.TheVariants as decider
 use Rattle.directory_judge.proofs.Rulings.{no-scopes, not-false, ruling-allowed, ruling-first, ruling-none}
 use Rattle.directory_judge.proofs.SameTexts.{texts_same}
-use Rattle.directory_judge.proofs.Steps.{tagged-some, template-allows, template-denies}
+use Rattle.directory_judge.proofs.Steps.{denied-as, tagged-some, template-allows, template-denies}
 use Rattle.directory_judge.proofs.grounds.Grounds.judge_removal.Goals as goal
 
 pub returns-in-None : goal.returns-in-None
@@ -49,16 +46,14 @@ returns-then-not-conforms g c =
     let found : fin.get on.live q ≡ Some old = ap (λ l. let p : Pair = (w.url, l) in fin.get on.live p) (sym c.in_ok-language.ensures) ∙ sym c.live_entry.ensures.value ∙ ap option_copied c.in-Some.is in
     let same = texts_same old.scopes w.scopes (not-false _ (sym c.ne.ensures ∙ c.if-ne.false)) in
     let ruled = sym c.rule.ensures ∙ ap (option_map ruling_in) c.in-Some-rule.is in
-    let allowed = ruling-allowed on.rules (deed on.asker Withdraw old.kind old.owner) old.scopes c.in-Some-rule.ruling ruled c.if-ruling.true in
+    let allowed = ruling-allowed on.rules (deed on.asker Withdraw old.kind old.owner) old.scopes c.in-Some-rule.finding ruled c.if-finding.true in
     let made : ◌≡◌ {A = Entry} (arc_value c.in_ok-entry-in-Some-rule.entry) (record old { attrs = attributes_without old.attrs tags }) = c.in_ok-entry-in-Some-rule.ensures in
     let fault : is_none (template_fault on.site.templates old.kind (attributes_without old.attrs tags)) ≡ false =
     ap (λ (x : Entry). is_none (template_fault on.site.templates old.kind x.attrs)) (sym (c.deref.ensures ∙ made)) ∙ sym c.conforms.ensures ∙ c.if-not-conforms.true in
     let so : judgement_of_removal on q tags w.scopes ≡ denial (by_step decider.Template (Some old.kind)) =
     tagged-some on q tags w.scopes old found same
     ∙ ap₂ (λ d t. unwrap_or (option_or (option_map denial d) t) (Accepts (removal_event on q tags) (release on old))) allowed (template-denies on old.kind (attributes_without old.attrs tags) fault) in
-    IfOk-weaker c.denied.result (λ j. judgement_in j ≡ judged.Deny (code_by c.of_step.result.decider) (because_of c.of_step.result)) _
-    (λ j denied. subst (λ x. IsJudgement on.live x (judgement_of_removal on q tags w.scopes)) (sym (denied ∙ ap (λ (b : Because). judged.Deny (code_by b.decider) b) c.of_step.ensures)) so)
-    c.denied.ensures
+    denied-as c.denied-then-not-conforms.result c.deny-then-not-conforms.result _ on.live _ c.denied-then-not-conforms.ensures c.deny-then-not-conforms.ensures.because so
 
 pub returns-in-Some-rule : goal.returns-in-Some-rule
 returns-in-Some-rule g c =
@@ -71,12 +66,12 @@ returns-in-Some-rule g c =
     let found : fin.get on.live q ≡ Some old = ap (λ l. let p : Pair = (w.url, l) in fin.get on.live p) (sym c.in_ok-language.ensures) ∙ sym c.live_entry.ensures.value ∙ ap option_copied c.in-Some.is in
     let same = texts_same old.scopes w.scopes (not-false _ (sym c.ne.ensures ∙ c.if-ne.false)) in
     let ruled = sym c.rule.ensures ∙ ap (option_map ruling_in) c.in-Some-rule.is in
-    let allowed = ruling-allowed on.rules (deed on.asker Withdraw old.kind old.owner) old.scopes c.in-Some-rule.ruling ruled c.if-ruling.true in
+    let allowed = ruling-allowed on.rules (deed on.asker Withdraw old.kind old.owner) old.scopes c.in-Some-rule.finding ruled c.if-finding.true in
     let made : ◌≡◌ {A = Entry} (arc_value c.in_ok-entry-in-Some-rule.entry) (record old { attrs = attributes_without old.attrs tags }) = c.in_ok-entry-in-Some-rule.ensures in
     let conforms : is_none (template_fault on.site.templates old.kind (attributes_without old.attrs tags)) ≡ true =
     ap (λ (x : Entry). is_none (template_fault on.site.templates old.kind x.attrs)) (sym (c.deref.ensures ∙ made)) ∙ sym c.conforms.ensures ∙ c.if-not-conforms.false in
     let because : c.in_ok-because-in-Some-rule.because ≡ release on old =
-    c.in_ok-because-in-Some-rule.ensures ∙ c.reason.ensures ∙ ruling-first on.rules (deed on.asker Withdraw old.kind old.owner) old.scopes c.in-Some-rule.ruling ruled allowed in (
+    c.in_ok-because-in-Some-rule.ensures ∙ ruling-first on.rules (deed on.asker Withdraw old.kind old.owner) old.scopes c.in-Some-rule.finding ruled allowed in (
       removal_event on q tags,
       tagged-some on q tags w.scopes old found same
           ∙ ap₂ (λ d t. unwrap_or (option_or (option_map denial d) t) (Accepts (removal_event on q tags) (release on old))) allowed (template-allows on old.kind (attributes_without old.attrs tags) conforms)

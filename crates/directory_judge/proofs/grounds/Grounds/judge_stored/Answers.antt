@@ -26,7 +26,7 @@ returns g c =
     let kept_is : first_of (filter (is_kept on.rules on.asker) (concerned_entries on url scopes)) ≡ None = sym (rw same at c.walk-walk.ensures.kept) ∙ ap (option_map entry_in) c.in_default-kept.is in
     let ruled : IsRuling on c.in-Some.first = subst (λ o. IfSome o (IsRuling on)) c.in-Some.is c.walk-walk.ensures.ruled.first in
     let because : c.in_ok-because.because ≡ release on f =
-    c.in_ok-because.ensures ∙ c.reason-2.ensures ∙ ruling-first on.rules (deed on.asker Withdraw f.kind f.owner) f.scopes c.in-Some.first.ruling ruled
+    c.in_ok-because.ensures ∙ ruling-first on.rules (deed on.asker Withdraw f.kind f.owner) f.scopes c.in-Some.first.finding ruled
     (not-kept on.rules on.asker f (none-passes (is_kept on.rules on.asker) (concerned_entries on url scopes) f first_is kept_is)) in (
       withdrawal_event on url scopes,
       judgement-some on url scopes (Some f) None some first_is kept_is ∙ ap (Accepts (withdrawal_event on url scopes)) (sym because),

@@ -1,20 +1,16 @@
-use Rattle.std.proofs.Common.{◌≡◌, Some, true, false, sym, ap, ap₂, subst, ◌∙◌}
+use Rattle.std.proofs.Common.{◌≡◌, Some, true, false, refl, sym, ap, ap₂, ◌∙◌}
 use Rattle.std.specs.Prelude.{None, is_none, slice_get, unwrap_or}
 use Rattle.std.specs.Option.{option_map, option_or}
 use Rattle.std.specs.Arc.{arc_value}
-use Rattle.std.proofs.lemmas.Result.{IfOk-weaker}
 use Rattle.attr_list.specs.Maps.{updated_attributes}
 use Rattle.srv_template.specs.Conformity.{template_fault}
 use Rattle.registry_core.specs.declared.entry.Entry.{Entry}
 use Rattle.directory_judge.specs.Contents.{Edits}
-use Rattle.directory_judge.specs.Judgements.{Grounds, Accepts, because_of, because_of_entry, by_step, code_by, denial, denial_of_old, denial_of_template, judgement_in, IsJudgement}
-use Rattle.directory_judge.specs.NamedEntries.{judgement_of_named}
-use Rattle.directory_judge.specs.declared.copies.Judged.TheVariants as judged
-use Rattle.directory_judge.specs.declared.reason.Because.{Because}
+use Rattle.directory_judge.specs.Judgements.{Grounds, Accepts, because_of, because_of_entry, by_step, denial, denial_of_old, denial_of_template}
 use Rattle.directory_judge.specs.declared.reason.Decider.{Decider}
 use Rattle.directory_judge.specs.declared.reason.Decider.TheVariants as decider
 use Rattle.directory_judge.proofs.NamedEntries.{content-updated, judgement-updated}
-use Rattle.directory_judge.proofs.Steps.{template-allows, template-denies}
+use Rattle.directory_judge.proofs.Steps.{denied-named, template-allows, template-denies}
 use Rattle.directory_judge.proofs.grounds.Grounds.judge_update.Goals as goal
 
 -- what the deciding rule is told of is the same of both
@@ -33,13 +29,11 @@ returns-then-not-conforms g c =
     let fault : is_none (template_fault on.site.templates e.kind (updated_attributes old.attrs e.attrs)) ≡ false =
     ap (λ k. is_none (template_fault on.site.templates k (updated_attributes old.attrs e.attrs))) (sym u.kind)
     ∙ ap₂ (λ (x y : Entry). is_none (template_fault on.site.templates x.kind y.attrs)) (sym (c.deref.ensures ∙ made)) (sym (c.deref-in-Ok.ensures ∙ made)) ∙ sym c.conforms.ensures ∙ c.if-not-conforms.true in
-    IfOk-weaker c.denied-then-not-conforms.result (λ j. judgement_in j ≡ judged.Deny (code_by c.of_step.result.decider) (because_of c.of_step.result)) _
-    (λ j denied a of. subst (λ x. IsJudgement on.live x (judgement_of_named on false e a because)) (sym (denied ∙ ap (λ (b : Because). judged.Deny (code_by b.decider) b) c.of_step.ensures))
-    (judgement-updated on e old a because u
+    denied-named c.denied-then-not-conforms.result c.deny.result _ on false e because c.denied-then-not-conforms.ensures c.deny.ensures.because
+    (λ a. judgement-updated on e old a because u
     ∙ ap₂ (λ s o. unwrap_or (option_or s o) (Accepts (record { moment = on.now; act = a }) because)) allowed (template-denies on e.kind (updated_attributes old.attrs e.attrs) fault)
     ∙ ap (λ k. denial (by_step decider.Template (Some k))) (sym u.kind)
-    ∙ ap (λ (x : Entry). denial (by_step decider.Template (Some x.kind))) (sym (c.deref-then-not-conforms.ensures ∙ made))))
-    c.denied-then-not-conforms.ensures
+    ∙ ap (λ (x : Entry). denial (by_step decider.Template (Some x.kind))) (sym (c.deref-then-not-conforms.ensures ∙ made)))
 
 pub returns-else-not-conforms : goal.returns-else-not-conforms
 returns-else-not-conforms g c = λ a of.
@@ -66,9 +60,7 @@ returns-in-Some g c =
     let e = c.args.named in
     let old = c.in-Ok.old.now in
     let because = because_of_entry c.args.decider e in
-    let standing : denial_of_old on (Some old) ≡ Some (denial (because_of c.in-Some.reason)) = sym c.replacing_denial.ensures ∙ ap (option_map (λ r. denial (because_of r))) c.in-Some.is in
-    IfOk-weaker c.denied-in-Some.result (λ j. judgement_in j ≡ judged.Deny (code_by c.in-Some.reason.decider) (because_of c.in-Some.reason)) _
-    (λ j denied a of. subst (λ x. IsJudgement on.live x (judgement_of_named on false e a because)) (sym denied)
-    (judgement-updated on e old a because c.in-Ok.ensures.ok
-    ∙ ap (λ s. unwrap_or (option_or s (denial_of_template on e.kind (updated_attributes old.attrs e.attrs))) (Accepts (record { moment = on.now; act = a }) because)) standing))
-    c.denied-in-Some.ensures
+    let standing : denial_of_old on (Some old) ≡ Some (denial (because_of c.in-Some.finding)) = sym c.replacing_denial.ensures ∙ ap (option_map (λ r. denial (because_of r))) c.in-Some.is in
+    denied-named c.denied-in-Some.result c.in-Some.finding _ on false e because c.denied-in-Some.ensures refl
+    (λ a. judgement-updated on e old a because c.in-Ok.ensures.ok
+    ∙ ap (λ s. unwrap_or (option_or s (denial_of_template on e.kind (updated_attributes old.attrs e.attrs))) (Accepts (record { moment = on.now; act = a }) because)) standing)

@@ -16,7 +16,7 @@ pub returns-in-Some-clause-entry : goal.returns-in-Some-clause-entry
 returns-in-Some-clause-entry g c =
     let on = c.args.self.now in
     let e = c.args.entry.now in
-    let r : RuledEntry = record { entry = c.args.entry; ruling = c.in-Some.ruling } in
+    let r : RuledEntry = record { entry = c.args.entry; finding = c.in-Some.finding } in
     let moment : on.now ≡ c.self.inside.moment = sym (ap (λ (v : Grounds). v.now) c.self.view_is) in
     let lives : outlives on.now e ≡ true = grind (arith, nat_tests, moment, c.if-entry-from.false, c.from.ensures) in
     let same : texts_eq e.scopes c.args.scopes.now ≡ true = not-false (texts_eq e.scopes c.args.scopes.now) (sym c.ne.ensures ∙ c.if-ne.false) in
@@ -55,7 +55,7 @@ returns-then-ne-clause-ruled g c = record { first = c.requires.ruled.first; kept
 
 pub returns-in-Some-clause-ruled : goal.returns-in-Some-clause-ruled
 returns-in-Some-clause-ruled g c =
-    let r : RuledEntry = record { entry = c.args.entry; ruling = c.in-Some.ruling } in
+    let r : RuledEntry = record { entry = c.args.entry; finding = c.in-Some.finding } in
     subst (IsRuledWalk c.args.self.now) (sym c.with.ensures) (IsRuledWalk-with c.args.self.now c.args.scopes.now c.args.walk r (sym c.in-Some.ensures) c.requires.ruled)
 
 pub returns-in-None-clause-ruled : goal.returns-in-None-clause-ruled

@@ -22,6 +22,6 @@ returns c =
     let because = by_step decider.Nobody (option_copied c.args.kind) in
     record {
       replied = c.keep-sent.ensures.bytes;
-      lined = rw (c.by.ensures.code, c.by.ensures.reason) at c.in_ok-tell.ensures;
+      lined = rw (c.by_nobody.ensures.code, c.by_nobody.ensures.because) at c.in_ok-tell.ensures;
       sent = ap code_of c.keep-sent.ensures.sent ∙ told (is_to_many head && (not (0 == 0) || c.args.is_empty)) c.args.answer.now.bytes.items because c.requires.written;
     }

@@ -4,7 +4,7 @@ use Rattle.std.proofs.lemmas.List.{length-append}
 use Rattle.slp_headers.specs.Headers.{heading_in}
 use Rattle.slp_answer.specs.TextLists.{form_end, form_function, head_bytes}
 use Rattle.slp_answer.proofs.TextHeads.{listed-whole}
-use Rattle.slp_answer.proofs.text_listing.put_listed.Goals as goal
+use Rattle.slp_answer.proofs.text_lists.put_listed.Goals as goal
 
 pub overflow_sub-listed : goal.overflow_sub-listed
 overflow_sub-listed g c =

@@ -1,7 +1,7 @@
 use Rattle.std.proofs.Common.{◌≡◌, ◌++◌, [], length, drop, refl, ap, arith, rules}
 use Rattle.std.proofs.lemmas.List.{length-append}
 use Rattle.slp_answer.proofs.TextHeads.{filled}
-use Rattle.slp_answer.proofs.text_listing.fill_in.Goals as goal
+use Rattle.slp_answer.proofs.text_lists.fill_in.Goals as goal
 
 pub returns : goal.returns
 returns c =

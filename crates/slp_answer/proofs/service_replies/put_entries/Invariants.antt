@@ -4,7 +4,7 @@ use Rattle.slp_fields.specs.Spelling.{entry_bytes}
 use Rattle.directory_state.specs.Deadlines.{deadlines_in}
 use Rattle.directory_state.specs.Searches.{item_at}
 use Rattle.directory_state.specs.Fronts.{items_in}
-use Rattle.slp_answer.proofs.listing.put_entries.Given as goal
+use Rattle.slp_answer.proofs.service_replies.put_entries.Given as goal
 
 abbrev pub invariant-loop-url : goal.invariant-loop-url
 invariant-loop-url l = record {

@@ -4,7 +4,7 @@ use Rattle.slp_fields.specs.Spelling.{entry_bytes}
 use Rattle.directory_state.specs.Deadlines.{deadlines_in}
 use Rattle.directory_state.specs.Searches.{item_at}
 use Rattle.directory_state.specs.Fronts.{items_in}
-use Rattle.slp_answer.proofs.listing.entries_length.Given as goal
+use Rattle.slp_answer.proofs.service_replies.entries_length.Given as goal
 
 -- what was counted, and what is still to come, are all
 abbrev pub invariant-loop-url : goal.invariant-loop-url
