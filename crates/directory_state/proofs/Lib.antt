@@ -1,5 +1,6 @@
 pub mod AcceptedChanges
 pub mod ArrangedEntries
+pub mod AskedAttributes
 pub mod AskedEvents
 pub mod AskedPlaces
 pub mod Conforming

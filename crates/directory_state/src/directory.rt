@@ -10,8 +10,7 @@ ghost use Rattle.directory_questions.specs.Calls.{Opening, standpoint};
 ghost use Rattle.registry_core.specs.declared.entry.Entry as spec;
 ghost use Rattle.directory_questions.specs.Items.{AreAttributesOf, AreServices, AreTypesOf, IsAskedAbout, IsElsewhere, IsForeign, IsOpenNow};
 ghost use Rattle.directory_state.specs.Viewers.{IsViewerOf};
-ghost use Rattle.directory_state.specs.Deadlines.{UrlDeadline};
-ghost use Rattle.directory_state.specs.Searches.{item_at, cut_in, entries_in, entries_lent, entries_seen, AreSeenBy, HasOneOfEachPair, IsIn, IsSmall, IsKept};
+ghost use Rattle.directory_state.specs.Searches.{entries_in, entries_lent, entries_seen, AreSeenBy, HasOneOfEachPair, IsIn};
 ghost use Rattle.directory_state.specs.Fronts.{IsFront, items_in, size_in};
 ghost use Rattle.directory_state.specs.Folds.{Fold, StandsFor};
 ghost use Rattle.directory_state.specs.State.{State, opening_state, state_changed, state_made, swept};
@@ -20,7 +19,7 @@ ghost use Rattle.directory_state.specs.Folds.{IsJudgedAs};
 
 use crate::arranging::{lend, name_types};
 use crate::asked::{Asked, Viewer};
-use crate::search::{FoundItems, Room, Search, Shortlist};
+use crate::search::{FoundItems, Room};
 use crate::viewer::SeenEntries;
 use access_rules::{Addr, Rules};
 use attr_union::AttrUnion;
@@ -198,7 +197,7 @@ impl<R: Registry> Directory<R> {
     }
 
     // Who asks, in which scopes, and what decides on what is open; none where no scope is supported.
-    fn viewer(&self, moment: u32, asker: Addr, scopes: &ScopeList) -> Option<Viewer<'_>>
+    pub(crate) fn viewer(&self, moment: u32, asker: Addr, scopes: &ScopeList) -> Option<Viewer<'_>>
         ensures none { IfNone result (list_any (supports self.now.site) scopes.now ≡ false) }
         ensures some { IfSome result (λ _. IsTrue (list_any (supports self.now.site) scopes.now)) }
         ensures viewer { IfSome result (λ v. IsViewerOf self.now moment asker scopes.now v) }
@@ -214,30 +213,6 @@ impl<R: Registry> Directory<R> {
             about: self.rules.about(asker),
             asked,
         })
-    }
-
-    /// Finds what answers a question, and keeps of it what there is room for.
-    pub(crate) fn search(
-        &self,
-        alloc: Global,
-        moment: u32,
-        asker: Addr,
-        query: &ServiceQuery,
-        room: Option<Room>,
-    ) -> Result<Shortlist<'_>, QueryFault>
-        requires { IsSmall room }
-        ensures scope { IsErrOf result QueryFault.Scope ↔ (list_any (supports self.now.site) query.now.scopes ≡ false) }
-        ensures language { (o : Opening) (h : History) → Fold o h self.now → IsLegal o h
-            → (IsErrOf result QueryFault.Language → IsForeign (IsOpenNow (standpoint o h moment asker) query.now.scopes) query.now) × IfOk result (λ _. ¬ IsForeign (IsOpenNow (standpoint o h moment asker) query.now.scopes) query.now) }
-        ensures kept { IfOk result (λ kept. IsKept kept × (kept.room ≡ room)) }
-        ensures items { (o : Opening) (h : History) → Fold o h self.now → IsLegal o h
-            → IfOk result (λ kept. (all : List UrlDeadline) × AreServices (standpoint o h moment asker) query.now (map (item_at (max moment self.now.clock)) all) × (kept.latest ≡ cut_in room all)) }
-    {
-        let Some(viewer) = self.viewer(moment, asker, &query.scopes) else {
-            return Err(QueryFault::Scope);
-        };
-        let search = Search { query, viewer };
-        Shortlist::search(alloc, &self.registry, &search, room)
     }
 
     /// The URLs of the live entries that are open to the asker and match the question, in byte order,

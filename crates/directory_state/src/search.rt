@@ -1,14 +1,21 @@
-ghost use Rattle.std.specs.Prelude.{◌≡◌, ◌≢◌, ◌+◌, ◌-◌, ◌<◌, ◌↔◌, [], ◌∷◌, ℕ, List, length, map, filter, take, IfOk, IfErr, IsErrOf, IfSome, IfNone, MatchOption, IsTrue, Some, is_some, MatchResult};
+ghost use Rattle.std.specs.Prelude.{◌≡◌, ◌+◌, ◌-◌, ◌<◌, ◌↔◌, [], ◌∷◌, ℕ, List, false, max, length, map, filter, take, IfOk, IfErr, IsErrOf, IfSome, IfNone, MatchOption, IsTrue, Some};
+ghost use Rattle.std.specs.List.{list_any};
 ghost use Rattle.registry_core.specs.Entries.{is_kind, IsListing};
+ghost use Rattle.directory_judge.specs.History.{History};
+ghost use Rattle.directory_judge.specs.Judgements.{supports};
+ghost use Rattle.directory_questions.specs.Calls.{Opening, standpoint};
+ghost use Rattle.directory_questions.specs.Verdicts.{IsLegal};
+ghost use Rattle.directory_state.specs.Folds.{Fold};
 ghost use Rattle.directory_state.specs.Deadlines.{UrlDeadline, with_deadline, total_cost};
 ghost use Rattle.directory_state.specs.Searches.{deadlines_with, is_found, is_seen, joined, spoken_of, item_at, cost_in, bytes_in, cut_in, seen_of, shortlist_with, IsBound, IsCounted, IsFirst, IsSmall, IsKept};
-ghost use Rattle.directory_questions.specs.Items.{is_wanted};
+ghost use Rattle.directory_questions.specs.Items.{is_wanted, AreServices, IsForeign, IsOpenNow};
 ghost use Rattle.directory_state.specs.Fronts.{IsFront, items_in};
-ghost use Rattle.directory_state.specs.declared.search.Spoken.TheVariants as spoken_is;
 
 use crate::asked::Viewer;
 use crate::deadlines::Deadlines;
+use crate::directory::Directory;
 use crate::viewer::Seen;
+use access_rules::Addr;
 use directory_questions::{QueryFault, ServiceQuery};
 use registry_core::{Entry, Registry};
 use service_url::Url;
@@ -247,38 +254,6 @@ impl<'a> Shortlist<'a> {
         Ok(spoken)
     }
 
-    /// Finds what answers a question, and keeps of it what there is room for.
-    pub fn search<R: Registry>(
-        alloc: Global,
-        registry: &'a R,
-        question: &Search<'_>,
-        room: Option<Room>,
-    ) -> Result<Shortlist<'a>, QueryFault>
-        requires { IsSmall room }
-        ensures scope { IsErrOf result QueryFault.Scope → ⊥ }
-        ensures language { IsErrOf result QueryFault.Language → IsTrue (is_some question.now.query.now.filter) × (spoken_of question.now.query.now (filter (is_seen question.now.viewer) (R.rest_of_kind registry.now (Some question.now.query.now.kind) 0)) ≡ spoken_is.Others) }
-        ensures spoken { IfOk result (λ _. IsTrue (is_some question.now.query.now.filter) → spoken_of question.now.query.now (filter (is_seen question.now.viewer) (R.rest_of_kind registry.now (Some question.now.query.now.kind) 0)) ≢ spoken_is.Others) }
-        ensures room { IfOk result (λ kept. kept.room ≡ room) }
-        ensures kept { IfOk result (λ kept. IsKept kept) }
-        ensures found { IfOk result (λ kept. kept.latest ≡ cut_in room (deadlines_with (filter (is_found question.now) (R.rest_of_kind registry.now (Some question.now.query.now.kind) 0)) [])) }
-        ensures listing { MatchResult result (λ _. IsListing (is_kind (Some question.now.query.now.kind)) (R.contents registry.now) (R.rest_of_kind registry.now (Some question.now.query.now.kind) 0))
-            (λ e. e ≡ QueryFault.Language → IsListing (is_kind (Some question.now.query.now.kind)) (R.contents registry.now) (R.rest_of_kind registry.now (Some question.now.query.now.kind) 0)) }
-    {
-        let mut kept = Shortlist {
-            latest: Deadlines::new(alloc),
-            used: 0,
-            room,
-        };
-        let spoken = kept.collect(registry, question)?;
-        if question.query.filter.is_some()
-            && kept.latest.is_empty()
-            && matches!(spoken, Spoken::Others)
-        {
-            return Err(QueryFault::Language);
-        }
-        Ok(kept)
-    }
-
     /// All that is kept, in byte order, with what is left of the lifetimes in seconds.
     pub fn into_items(self, alloc: Global, now: u64) -> Result<Vec<UrlEntry>, QueryFault>
         ensures items { IfOk result (λ items. items.items ≡ map (item_at now) self.entry.latest) }
@@ -304,6 +279,41 @@ impl<'a> Shortlist<'a> {
             moment: now,
             is_cut,
         }
+    }
+}
+
+impl<R: Registry> Directory<R> {
+    /// Finds what answers a question, and keeps of it what there is room for.
+    pub(crate) fn search(
+        &self,
+        alloc: Global,
+        moment: u32,
+        asker: Addr,
+        query: &ServiceQuery,
+        room: Option<Room>,
+    ) -> Result<Shortlist<'_>, QueryFault>
+        requires { IsSmall room }
+        ensures scope { IsErrOf result QueryFault.Scope ↔ (list_any (supports self.now.site) query.now.scopes ≡ false) }
+        ensures language { (o : Opening) (h : History) → Fold o h self.now → IsLegal o h
+            → (IsErrOf result QueryFault.Language → IsForeign (IsOpenNow (standpoint o h moment asker) query.now.scopes) query.now) × IfOk result (λ _. ¬ IsForeign (IsOpenNow (standpoint o h moment asker) query.now.scopes) query.now) }
+        ensures kept { IfOk result (λ kept. IsKept kept × (kept.room ≡ room)) }
+        ensures items { (o : Opening) (h : History) → Fold o h self.now → IsLegal o h
+            → IfOk result (λ kept. (all : List UrlDeadline) × AreServices (standpoint o h moment asker) query.now (map (item_at (max moment self.now.clock)) all) × (kept.latest ≡ cut_in room all)) }
+    {
+        let Some(viewer) = self.viewer(moment, asker, &query.scopes) else {
+            return Err(QueryFault::Scope);
+        };
+        let question = Search { query, viewer };
+        let mut kept = Shortlist {
+            latest: Deadlines::new(alloc),
+            used: 0,
+            room,
+        };
+        let spoken = kept.collect(self.registry(), &question)?;
+        if query.filter.is_some() && kept.latest.is_empty() && matches!(spoken, Spoken::Others) {
+            return Err(QueryFault::Language);
+        }
+        Ok(kept)
     }
 }
 
