@@ -39,7 +39,8 @@ fn serve_event<S: Serve>(
     ensures served { IsServedAt S.steps S.settles token.0 (record { seats = streams.old.seats; server = server.old }) (record { seats = streams.new.seats; server = server.new }) }
 {
     if token.0 == DATAGRAMS.0 {
-        datagrams.serve_event(registry, server)
+        let told = datagrams.serve(server);
+        datagrams.note(told, registry)
     } else if token.0 == LISTENER.0 {
         streams.accept(registry)
     } else {

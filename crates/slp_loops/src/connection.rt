@@ -1,15 +1,17 @@
-ghost use Rattle.std.specs.Prelude.{◌≡◌, ◌≤◌, [], ◌++◌, true, false, None, Some, Ok, length, drop, IfSome, IfNone, MatchResult};
+ghost use Rattle.std.specs.Prelude.{◌≡◌, ◌≤◌, ℕ, List, [], ◌++◌, true, false, None, Some, Ok, length, drop, IfOk, IfSome, IfNone, MatchResult, OnOk, OnErr};
 ghost use Rattle.slp_loops.specs.Linking.{Link, unread, unwritten, ending_next, next_read, next_written};
-ghost use Rattle.slp_loops.specs.Reading.{Reads, Took, Lacked};
+ghost use Rattle.slp_loops.specs.Reading.{AllServed, SomeServed, Reads, Took, Lacked, moves, stage_by};
+ghost use Rattle.slp_loops.specs.Serving.{IsServed};
 ghost use Rattle.slp_loops.specs.Writing.{Wrote, Writes};
 ghost use Rattle.slp_loops.specs.declared.connection.Stage.TheVariants.{Reading as Begun};
+ghost use Rattle.slp_stream.specs.Cutting.{front_of};
 
 use crate::fault::LoopFault;
 use crate::serve::{Serve, Settled};
-use crate::taking::serve_whole;
 use access_rules::Addr;
+use slp_answer::{Answer, refused_reply};
 use slp_stream::Framer;
-use std::alloc::Global;
+use std::alloc::{AllocError, Global};
 use std::io::{ErrorKind, Read, Write};
 use std::marker::Model;
 
@@ -67,6 +69,56 @@ impl Model for Connection {
     ghost view = { λ c. record { asker = c.asker; unserved = c.framer.waiting; waiting = drop c.written c.output.items; stage = c.stage; moved = c.moved } };
 
     ghost invariant = { λ c. (c.written ≤ length c.output.items) × (c.framer.limit ≡ longest) × (c.stage ≡ Reading → c.framer.refused ≡ None) };
+}
+
+// Serves one message, and adds what goes back for it.
+fn serve_one<S: Serve>(
+    server: &mut S,
+    asker: Addr,
+    message: &[u8],
+    answer: &mut Answer,
+    output: &mut Vec<u8>,
+) -> Result<(), AllocError>
+    ensures { (bytes : List ℕ) × IsServed S.steps asker 65535 server.old message.now bytes server.new
+        × MatchResult result (λ _. output.new.items ≡ output.old.items ++ bytes) (λ _. output.new.items ≡ output.old.items) }
+{
+    match server.serve(asker, message, LONGEST_ON_STREAM, answer) {
+        Ok(_) => output.extend_from_slice(answer.bytes.as_slice()),
+        Err(_) => {
+            let reply = refused_reply(message);
+            output.extend_from_slice(reply.as_slice())
+        }
+    }
+}
+
+// Serves each whole message that waits in the framer, notes that there was one, and answers how far the connection is then.
+fn serve_whole<S: Serve>(
+    server: &mut S,
+    asker: Addr,
+    framer: &mut Framer,
+    output: &mut Vec<u8>,
+    moved: &mut bool,
+) -> Result<Stage, AllocError>
+    requires going { framer.old.refused ≡ None }
+    requires limit { framer.old.limit ≡ 65535 }
+    ensures ok { OnOk result (AllServed S.steps asker framer.old.waiting framer.new.waiting output.old.items server.old output.new.items server.new) }
+    ensures err { OnErr result (SomeServed S.steps asker framer.old.waiting output.old.items server.old output.new.items server.new) }
+    ensures stage { IfOk result (λ stage. stage ≡ stage_by (front_of 65535 framer.new.waiting)) }
+    ensures going { IfOk result (λ stage. stage ≡ Begun → framer.new.refused ≡ None) }
+    ensures limit { framer.new.limit ≡ 65535 }
+    ensures moved { OnOk result (moved.new ≡ moves moved.old framer.old.waiting framer.new.waiting) }
+{
+    let mut answer = Answer::new(*output.allocator());
+    while let Some(next) = framer.next() {
+        match next {
+            Ok(message) => {
+                *moved = true;
+                serve_one(server, asker, message, &mut answer, output)?;
+            }
+            Err(_) => return Ok(Stage::Ending),
+        }
+    }
+    Ok(Stage::Reading)
 }
 
 impl Connection {

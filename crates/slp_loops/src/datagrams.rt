@@ -220,8 +220,12 @@ impl<P: Port + Drop> Datagrams<P> {
 }
 
 impl Datagrams<UdpSocket> {
-    // Has what is left reported again, or notes that no event will report it.
-    fn note(&mut self, told: Result<Rest, LoopFault>, registry: &Registry) -> Result<(), LoopFault>
+    /// Has what serving left reported again, or notes that no event will report it. `Io` where the socket itself failed.
+    pub fn note(
+        &mut self,
+        told: Result<Rest, LoopFault>,
+        registry: &Registry,
+    ) -> Result<(), LoopFault>
         requires { IfErr told (λ e. e ≡ Failing) }
         ensures { IfErr result (λ e. e ≡ Failing) }
     {
@@ -233,19 +237,6 @@ impl Datagrams<UdpSocket> {
         Ok(())
     }
 
-    /// Serves what has come, which is reported again where there may be more. `Io` where the socket itself failed.
-    pub fn serve_event<S: Serve>(
-        &mut self,
-        registry: &Registry,
-        server: &mut S,
-    ) -> Result<(), LoopFault>
-        ensures fault { IfErr result (λ e. e ≡ Failing) }
-        ensures served { ServesAll S.steps S.settles server.old server.new }
-    {
-        let told = self.serve(server);
-        self.note(told, registry)
-    }
-
     /// Serves what could not be received at the last try.
     pub fn serve_again<S: Serve>(
         &mut self,
@@ -255,10 +246,10 @@ impl Datagrams<UdpSocket> {
         ensures fault { IfErr result (λ e. e ≡ Failing) }
         ensures served { ServesAll S.steps S.settles server.old server.new ⊎ (server.new ≡ server.old) }
     {
-        if self.receives_again {
-            self.serve_event(registry, server)
-        } else {
-            Ok(())
+        if !self.receives_again {
+            return Ok(());
         }
+        let told = self.serve(server);
+        self.note(told, registry)
     }
 }

@@ -13,7 +13,6 @@ mod peer;
 mod port;
 mod serve;
 mod streams;
-mod taking;
 
 pub use agent_loop::AgentLoop;
 pub use clock::{Moments, SteadyClock, WallClock};

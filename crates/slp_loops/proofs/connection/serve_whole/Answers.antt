@@ -7,7 +7,7 @@ use Rattle.slp_stream.proofs.FramerAnswers.{gave_message, gave_none, leads_on, l
 use Rattle.slp_loops.specs.Reading.{moves, stage_by}
 use Rattle.slp_loops.proofs.Cutting.{has_cut, gave_refusal}
 use Rattle.slp_loops.proofs.Served.{moves_none, moves_some, served_more, served_one}
-use Rattle.slp_loops.proofs.taking.serve_whole.Goals as goal
+use Rattle.slp_loops.proofs.connection.serve_whole.Goals as goal
 
 pub loop-next-init : goal.loop-next-init
 loop-next-init g c = record {

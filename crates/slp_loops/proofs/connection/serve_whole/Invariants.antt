@@ -2,7 +2,7 @@ use Rattle.std.proofs.Common.{◌≡◌, ◌≤◌, ℕ, List, ◌++◌, length,
 use Rattle.slp_stream.proofs.FramerAnswers.{Leads}
 use Rattle.slp_loops.specs.Reading.{moves}
 use Rattle.slp_loops.specs.Serving.{AreServed}
-use Rattle.slp_loops.proofs.taking.serve_whole.Given as goal
+use Rattle.slp_loops.proofs.connection.serve_whole.Given as goal
 
 abbrev pub invariant-loop-next : goal.invariant-loop-next
 invariant-loop-next g l = record {
