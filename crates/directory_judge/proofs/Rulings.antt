@@ -116,6 +116,14 @@ or-some : (o : Option Finding) (r : Finding) (x : Option (Result Because Because
 or-some None r x = refl
 or-some (Some f) r x = refl
 
+module _ (rules : SiteRules) (d : Deed) where
+  pub ruled-none : (scopes : List (List ℕ)) → slice_get scopes 0 ≡ None → None ≡ ruling_on rules d scopes
+  ruled-none [] is = refl
+  ruled-none (s ∷ ss) is = absurd (none-some s (sym is))
+
+  pub asked-none : (scopes : List (List ℕ)) → IsAsked rules d scopes None 0
+  asked-none scopes = record { denied = refl; first = refl }
+
 module _ (rules : SiteRules) (d : Deed) (scopes : List (List ℕ)) (first : Option Finding) (place : ℕ) (so_far : IsAsked rules d scopes first place) where
   pub ruled-all : length scopes ≤ place → option_map ruling_in first ≡ ruling_on rules d scopes
   ruled-all all =

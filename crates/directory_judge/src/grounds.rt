@@ -1,10 +1,10 @@
 ghost use Rattle.std.specs.Prelude.{◌≡◌, is_none, nat_le, IfSome};
 ghost use Rattle.std.specs.Option.{option_copied, option_map};
 ghost use Rattle.std.specs.FinMap as fin;
-ghost use Rattle.access_rules.specs.Deciding.{deed};
+ghost use Rattle.access_rules.specs.Deciding.{deciding, deed};
 ghost use Rattle.registry_core.specs.Entries.{pair_of};
 ghost use Rattle.srv_template.specs.Conformity.{template_fault};
-ghost use Rattle.directory_judge.specs.Judgements.{ruling_on, ruling_in};
+ghost use Rattle.directory_judge.specs.Judgements.{because_of, by_rule, ruling_on, ruling_in};
 
 use crate::reason::Finding;
 use crate::site::Site;
@@ -39,9 +39,29 @@ impl<'a, R: Registry> Model for Grounds<'a, R> {
 }
 
 impl<'a, R: Registry> Grounds<'a, R> {
-    /// What the rules say of an action on what a registrant has of a type in some scopes, if there are
-    /// any: what denies it in the first of them, in key order, in which it is denied, else what allows it in the first of all.
-    /// Each scope is asked once, and no memory is taken.
+    // What the rules say of an action on what a registrant has of a type in a scope.
+    fn rule_in<'b>(
+        &self,
+        action: Action,
+        kind: &'b ServiceType,
+        scope: &'b Key,
+        registrant: Addr,
+    ) -> Finding<'b>
+        ensures allow { result.allow ≡ (deciding self.now.rules (deed self.now.asker action kind.now registrant) scope.now).allow }
+        ensures because { because_of result ≡ by_rule self.now.rules (deed self.now.asker action kind.now registrant) scope.now }
+    {
+        let deed = Deed {
+            asker: self.asker,
+            action,
+            kind,
+            registrant,
+        };
+        let verdict = self.rules.verdict(&deed, scope);
+        Finding::by_rules(verdict, kind, scope)
+    }
+
+    /// What they say of it in some scopes, if there are any: what denies it in the first of them, in key order, in which it is denied, else
+    /// what allows it in the first of all. Each scope is asked once, and no memory is taken.
     pub fn rule<'b>(
         &self,
         action: Action,
@@ -51,24 +71,22 @@ impl<'a, R: Registry> Grounds<'a, R> {
     ) -> Option<Finding<'b>>
         ensures { option_map ruling_in result ≡ ruling_on self.now.rules (deed self.now.asker action kind.now registrant) scopes.now }
     {
-        let mut first = None;
-        for place in 0..scopes.len() {
+        let Some(scope) = scopes.at(0) else {
+            return None;
+        };
+        let first = self.rule_in(action, kind, scope, registrant);
+        if !first.allow {
+            return Some(first);
+        }
+        for place in 1..scopes.len() {
             if let Some(scope) = scopes.at(place) {
-                let deed = Deed {
-                    asker: self.asker,
-                    action,
-                    kind,
-                    registrant,
-                };
-                let verdict = self.rules.verdict(&deed, scope);
-                let finding = Finding::by_rules(verdict, kind, scope);
-                if !finding.allow {
-                    return Some(finding);
+                let next = self.rule_in(action, kind, scope, registrant);
+                if !next.allow {
+                    return Some(next);
                 }
-                first = first.or(Some(finding));
             }
         }
-        first
+        Some(first)
     }
 
     /// The entry of a pair, where it is live.

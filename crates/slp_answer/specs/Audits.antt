@@ -79,7 +79,7 @@ line_text name a = head_text name a ++ tail_text a
 
 -- what is lent says
 abbrev pub audit_of : AuditView → Audit
-audit_of v = record { code = v.code; because = because_of v.finding; action = v.action; asker = v.asker }
+audit_of v = record { code = v.code; because = because_of v.finding.now; action = v.action; asker = v.asker }
 
 -- the whole line
 unfoldable pub audit_text : SiteRules → Audit → List ℕ

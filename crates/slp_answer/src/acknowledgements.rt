@@ -40,7 +40,7 @@ fn acknowledge_change<R: Registry>(
 {
     let call = reply.heard.call;
     let decided = directory.judge_change(alloc, call.moment, call.asker, change)?;
-    let told = reply.code(decided.finding(), answer);
+    let told = reply.code(&decided.finding(), answer);
     let change = decided.change();
     match told {
         Ok(sent) => Ok((sent, change)),

@@ -82,10 +82,10 @@ pub fn answer_agents<R: Registry>(
 {
     let kind = &query.kind;
     let Some(scopes) = &query.scopes else {
-        return reply.advert_code(Finding::deny(Decider::Parse, None), answer);
+        return reply.advert_code(&Finding::deny(Decider::Parse, None), answer);
     };
     if !scopes.is_empty() && !directory.supports(scopes) {
-        return reply.advert_code(Finding::deny(Decider::Scope, Some(kind)), answer);
+        return reply.advert_code(&Finding::deny(Decider::Scope, Some(kind)), answer);
     }
     reply.advert(alloc, directory.site(), kind, answer)
 }

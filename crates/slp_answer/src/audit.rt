@@ -18,7 +18,7 @@ use slp_text::{Key, NoMemory, Place, capital_digit, is_plain, is_reserved};
 #[derive(Clone, Copy)]
 pub(crate) struct AuditView<'a> {
     pub code: u16,
-    pub finding: Finding<'a>,
+    pub finding: &'a Finding<'a>,
     pub action: Action,
     pub asker: Addr,
 }

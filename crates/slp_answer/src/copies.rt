@@ -21,9 +21,10 @@ pub fn audit_line(rules: &Rules, audit: &Audit, line: &mut Vec<u8>) -> Result<()
     ensures ok { OnOk result (line.new.items ≡ line.old.items ++ audit_text rules.now audit.now) }
     ensures err { OnErr result (line.new.items ≡ line.old.items) }
 {
+    let finding = audit.because.finding(false);
     let view = AuditView {
         code: audit.code,
-        finding: audit.because.finding(false),
+        finding: &finding,
         action: audit.action,
         asker: audit.asker,
     };

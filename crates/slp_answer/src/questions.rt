@@ -70,7 +70,7 @@ impl Reply<'_> {
             IfOk result (λ what. TellsOf self.now (outcome (sent_of head 0 is_empty whole) 0 (by_step decider.Nobody (Some kind.now))) what answer.new.bytes.items answer.new.audit.items) }
     {
         let sent = self.put_services(found, &mut answer.bytes)?;
-        self.tell(Finding::by_nobody(Some(kind)), &mut answer.audit)?;
+        self.tell(&Finding::by_nobody(Some(kind)), &mut answer.audit)?;
         Ok(sent)
     }
 }
@@ -113,7 +113,7 @@ fn answer_question<R: Registry>(
 {
     match posed {
         Question::Silent => Ok(Sent::Silence),
-        Question::Unreadable => reply.code(Finding::deny(Decider::Parse, None), answer),
+        Question::Unreadable => reply.code(&Finding::deny(Decider::Parse, None), answer),
         Question::Services(query) => answer_services(alloc, directory, reply, query, answer),
         Question::Attributes(query) => answer_attributes(alloc, directory, reply, query, answer),
         Question::Types(query) => answer_types(alloc, directory, reply, query, answer),

@@ -35,7 +35,7 @@ fn put_refusal(told: &mut ShortLine, action: Action, asker: Addr)
 {
     let audit = AuditView {
         code: code::INTERNAL_ERROR,
-        finding: Finding::deny(Decider::Memory, None),
+        finding: &Finding::deny(Decider::Memory, None),
         action,
         asker,
     };

@@ -73,9 +73,9 @@ impl Reply<'_> {
     }
 
     /// Tells of what was found.
-    pub fn tell(&self, finding: Finding<'_>, line: &mut Vec<u8>) -> Result<(), NoMemory>
+    pub fn tell(&self, finding: &Finding<'_>, line: &mut Vec<u8>) -> Result<(), NoMemory>
         requires { line.old.items ≡ [] }
-        ensures { IfOk result (λ _. line.new.items ≡ audit_text self.now.rules.now (audit_in self.now.heard.now.call.now.asker (heading_in self.now.heard.now.header) (finding_of finding.entry))) }
+        ensures { IfOk result (λ _. line.new.items ≡ audit_text self.now.rules.now (audit_in self.now.heard.now.call.now.asker (heading_in self.now.heard.now.header) (finding_of finding.now))) }
     {
         let audit = AuditView {
             code: finding.code(),
@@ -105,12 +105,12 @@ impl Reply<'_> {
     fn code_as(
         &self,
         function: u8,
-        finding: Finding<'_>,
+        finding: &Finding<'_>,
         answer: &mut Answer,
     ) -> Result<Sent, NoMemory>
         requires no_reply { answer.old.bytes.items ≡ [] }
         requires no_line { answer.old.audit.items ≡ [] }
-        ensures { IfOk result (λ what. TellsOf self.now (code_outcome_as (heading_in self.now.heard.now.header) (finding_code finding.entry) (because_of finding.entry) function) what answer.new.bytes.items answer.new.audit.items) }
+        ensures { IfOk result (λ what. TellsOf self.now (code_outcome_as (heading_in self.now.heard.now.header) (finding_code finding.now) (because_of finding.now) function) what answer.new.bytes.items answer.new.audit.items) }
     {
         let sent = self.put_code(function, finding.code(), &mut answer.bytes)?;
         self.tell(finding, &mut answer.audit)?;
@@ -118,19 +118,19 @@ impl Reply<'_> {
     }
 
     /// Answers with a code alone, in a reply of the function that answers the message.
-    pub fn code(&self, finding: Finding<'_>, answer: &mut Answer) -> Result<Sent, NoMemory>
+    pub fn code(&self, finding: &Finding<'_>, answer: &mut Answer) -> Result<Sent, NoMemory>
         requires no_reply { answer.old.bytes.items ≡ [] }
         requires no_line { answer.old.audit.items ≡ [] }
-        ensures { IfOk result (λ what. TellsOf self.now (code_outcome (heading_in self.now.heard.now.header) (finding_code finding.entry) (because_of finding.entry)) what answer.new.bytes.items answer.new.audit.items) }
+        ensures { IfOk result (λ what. TellsOf self.now (code_outcome (heading_in self.now.heard.now.header) (finding_code finding.now) (because_of finding.now)) what answer.new.bytes.items answer.new.audit.items) }
     {
         self.code_as(self.heard.request.reply_function(), finding, answer)
     }
 
     /// Answers who asks for directory agents with a code alone: an advert stands for it.
-    pub fn advert_code(&self, finding: Finding<'_>, answer: &mut Answer) -> Result<Sent, NoMemory>
+    pub fn advert_code(&self, finding: &Finding<'_>, answer: &mut Answer) -> Result<Sent, NoMemory>
         requires no_reply { answer.old.bytes.items ≡ [] }
         requires no_line { answer.old.audit.items ≡ [] }
-        ensures { IfOk result (λ what. TellsOf self.now (advert_code (heading_in self.now.heard.now.header) (finding_code finding.entry) (because_of finding.entry)) what answer.new.bytes.items answer.new.audit.items) }
+        ensures { IfOk result (λ what. TellsOf self.now (advert_code (heading_in self.now.heard.now.header) (finding_code finding.now) (because_of finding.now)) what answer.new.bytes.items answer.new.audit.items) }
     {
         self.code_as(function::DIRECTORY_ADVERT, finding, answer)
     }
@@ -143,7 +143,7 @@ impl Reply<'_> {
         ensures { IfOk result (λ what. TellsOf self.now (fault_outcome (heading_in self.now.heard.now.header) fault) what answer.new.bytes.items answer.new.audit.items) }
     {
         match decider_of(fault) {
-            Some(decider) => self.code(Finding::deny(decider, None), answer),
+            Some(decider) => self.code(&Finding::deny(decider, None), answer),
             None => Ok(Sent::Silence),
         }
     }
@@ -160,8 +160,8 @@ impl Reply<'_> {
         ensures { IfOk result (λ what. (fault ≢ query_fault.NoMemory) × TellsOf self.now (query_fault_outcome (heading_in self.now.heard.now.header) (option_copied kind.entry) fault) what answer.new.bytes.items answer.new.audit.items) }
     {
         match fault {
-            QueryFault::Scope => self.code(Finding::deny(Decider::Scope, kind), answer),
-            QueryFault::Language => self.code(Finding::deny(Decider::Language, kind), answer),
+            QueryFault::Scope => self.code(&Finding::deny(Decider::Scope, kind), answer),
+            QueryFault::Language => self.code(&Finding::deny(Decider::Language, kind), answer),
             QueryFault::NoMemory => Err(NoMemory),
         }
     }
@@ -192,7 +192,7 @@ impl Reply<'_> {
             IfOk result (λ what. TellsOf self.now (outcome (sent_of head 0 is_empty answer.old.bytes.items) 0 (by_step decider.Nobody (option_copied kind.entry))) what answer.new.bytes.items answer.new.audit.items) }
     {
         let sent = self.keep(is_empty, &mut answer.bytes);
-        self.tell(Finding::by_nobody(kind), &mut answer.audit)?;
+        self.tell(&Finding::by_nobody(kind), &mut answer.audit)?;
         Ok(sent)
     }
 
