@@ -9,6 +9,10 @@ use Rattle.slp_text.specs.Ascii.{line_feed}
 use Rattle.srv_template.specs.declared.fault.ParseFault.{ParseFault}
 use Rattle.srv_template.specs.declared.fault.ParseFault.TheVariants as template_fault
 
+-- what is written where something of a kind is refused, for the fault of this number
+abbrev pub refusal_text : List ℕ → ℕ → List ℕ
+refusal_text kind number = codes "! " ++ kind ++ codes " " ++ decimal number ++ line_feed ∷ []
+
 -- the number of a fault of a configuration
 abbrev pub config_fault_number : ConfigFault → ℕ
 config_fault_number config_fault.Toml = 1
@@ -21,7 +25,7 @@ abbrev pub configured_text : List ℕ
 configured_text = codes "# config" ++ line_feed ∷ []
 
 abbrev pub config_fault_text : ConfigFault → List ℕ
-config_fault_text e = codes "! config " ++ decimal (config_fault_number e) ++ line_feed ∷ []
+config_fault_text e = refusal_text (codes "config") (config_fault_number e)
 
 -- what is written of a configuration
 abbrev pub config_text : Result (Unit {0}) ConfigFault → List ℕ
@@ -40,7 +44,7 @@ abbrev pub added_text : List ℕ
 added_text = codes "# template" ++ line_feed ∷ []
 
 abbrev pub template_fault_text : ParseFault → List ℕ
-template_fault_text e = codes "! template " ++ decimal (template_fault_number e) ++ line_feed ∷ []
+template_fault_text e = refusal_text (codes "template") (template_fault_number e)
 
 -- what is written of a template
 abbrev pub template_text : Result (Unit {0}) ParseFault → List ℕ
@@ -59,7 +63,7 @@ abbrev pub ruled_text : ℕ → List ℕ
 ruled_text number = codes "# rules " ++ decimal number ++ line_feed ∷ []
 
 abbrev pub rule_fault_text : RuleFault → List ℕ
-rule_fault_text e = codes "! rules " ++ decimal (rule_fault_number e) ++ line_feed ∷ []
+rule_fault_text e = refusal_text (codes "rules") (rule_fault_number e)
 
 -- what is written of a rule file, which has so many rules or is refused
 abbrev pub rules_text : Result ℕ RuleFault → List ℕ

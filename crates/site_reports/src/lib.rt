@@ -3,23 +3,31 @@
 
 ghost use Rattle.std.specs.Prelude.{OnOk};
 ghost use Rattle.std.specs.Io.KnownBytes.{Appends};
-ghost use Rattle.site_reports.specs.Reports.{config_fault_text, config_text, rule_fault_text, rules_text, template_fault_text, template_text};
+ghost use Rattle.site_reports.specs.Reports.{config_fault_text, config_text, refusal_text, rule_fault_text, rules_text, template_fault_text, template_text};
 
 use access_rules::RuleFault;
 use site_config::ConfigFault;
 use srv_template::ParseFault;
 use std::io::{self, Write};
 
+// Writes that something of a kind is refused, for the fault of this number.
+fn print_refusal<W: Write>(kind: &str, number: u8, writer: &mut W) -> io::Result<()>
+    ensures { OnOk result (Appends (W.contents writer.old) (W.contents writer.new) (refusal_text kind.now number)) }
+{
+    writeln!(writer, "! {kind} {number}")
+}
+
 /// Writes why a configuration is refused.
 pub fn print_config_fault<W: Write>(fault: ConfigFault, writer: &mut W) -> io::Result<()>
     ensures { OnOk result (Appends (W.contents writer.old) (W.contents writer.new) (config_fault_text fault)) }
 {
-    match fault {
-        ConfigFault::Toml => writer.write_all(b"! config 1\n"),
-        ConfigFault::Missing => writer.write_all(b"! config 2\n"),
-        ConfigFault::Range => writer.write_all(b"! config 3\n"),
-        ConfigFault::NoMemory => writer.write_all(b"! config 4\n"),
-    }
+    let number = match fault {
+        ConfigFault::Toml => 1,
+        ConfigFault::Missing => 2,
+        ConfigFault::Range => 3,
+        ConfigFault::NoMemory => 4,
+    };
+    print_refusal("config", number, writer)
 }
 
 /// Writes what came of a configuration.
@@ -36,12 +44,13 @@ pub fn print_config<W: Write>(told: Result<(), ConfigFault>, writer: &mut W) -> 
 pub fn print_template_fault<W: Write>(fault: ParseFault, writer: &mut W) -> io::Result<()>
     ensures { OnOk result (Appends (W.contents writer.old) (W.contents writer.new) (template_fault_text fault)) }
 {
-    match fault {
-        ParseFault::Line(_) => writer.write_all(b"! template 1\n"),
-        ParseFault::TwiceType => writer.write_all(b"! template 2\n"),
-        ParseFault::NoMemory => writer.write_all(b"! template 3\n"),
-        ParseFault::TooMany => writer.write_all(b"! template 4\n"),
-    }
+    let number = match fault {
+        ParseFault::Line(_) => 1,
+        ParseFault::TwiceType => 2,
+        ParseFault::NoMemory => 3,
+        ParseFault::TooMany => 4,
+    };
+    print_refusal("template", number, writer)
 }
 
 /// Writes what came of a template.
@@ -58,12 +67,13 @@ pub fn print_template<W: Write>(told: Result<(), ParseFault>, writer: &mut W) ->
 pub fn print_rules_fault<W: Write>(fault: RuleFault, writer: &mut W) -> io::Result<()>
     ensures { OnOk result (Appends (W.contents writer.old) (W.contents writer.new) (rule_fault_text fault)) }
 {
-    match fault {
-        RuleFault::Shape(_) => writer.write_all(b"! rules 1\n"),
-        RuleFault::TwiceName => writer.write_all(b"! rules 2\n"),
-        RuleFault::NoMemory => writer.write_all(b"! rules 3\n"),
-        RuleFault::Toml => writer.write_all(b"! rules 4\n"),
-    }
+    let number = match fault {
+        RuleFault::Shape(_) => 1,
+        RuleFault::TwiceName => 2,
+        RuleFault::NoMemory => 3,
+        RuleFault::Toml => 4,
+    };
+    print_refusal("rules", number, writer)
 }
 
 /// Writes what came of a rule file.
