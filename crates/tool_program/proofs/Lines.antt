@@ -1,5 +1,5 @@
--- What is written of a list, element by element.
-use Rattle.std.proofs.Common.{◌≡◌, ◌+◌, ◌++◌, ◌∷◌, [], ◌<◌, ℕ, Bool, true, false, List, length, take, get_or, add-one, Option, Result, Ok, Err, refl, sym, ap, subst, ◌∙◌, append_assoc, arith}
+-- What is written of a list: its parts on lines of their own.
+use Rattle.std.proofs.Common.{◌≡◌, ◌++◌, ◌∷◌, [], ◌<◌, ℕ, Bool, true, false, List, length, Option, Result, Ok, Err, refl, sym, ap, subst, ◌∙◌, append_assoc, arith}
 use Rattle.std.specs.Io.KnownBytes.{Appends}
 use Rattle.std.specs.declared.io.Error.{Error}
 use Rattle.std.proofs.KnownBytes.{Appends-trans}
@@ -8,17 +8,6 @@ use Rattle.std.specs.List.{slice_split, onto_first}
 use Rattle.slp_text.specs.Ascii.{line_feed}
 use Rattle.slp_text.specs.Scopes.{is_comma}
 use Rattle.tool_program.specs.Printing.{list_lines, listed_byte, shown_byte, text_line}
-use Rattle.std.proofs.Math.Seq.{take-suc}
-use Rattle.std.proofs.lemmas.List.{flat_map_more}
-
--- what is written of one element more
-pub flat_map-taken : {X A : Type 0} (f : X → List A) (xs : List X) (i : ℕ) (d : X) → i < length xs → flat_map f (take i xs) ++ f (get_or xs i d) ≡ flat_map f (take (i + 1) xs)
-flat_map-taken f xs i d within =
-    flat_map_more f [] (take i xs) (get_or xs i d) ∙ ap (flat_map f) (sym (take-suc xs i d within)) ∙ ap (λ (j : ℕ). flat_map f (take j xs)) (sym (add-one i))
-
--- the same of an element that is found there
-pub flat_map-found : {X A : Type 0} (f : X → List A) (xs : List X) (i : ℕ) (x : X) → i < length xs → x ≡ get_or xs i x → flat_map f (take i xs) ++ f x ≡ flat_map f (take (i + 1) xs)
-flat_map-found f xs i x within is = ap (λ y. flat_map f (take i xs) ++ f y) is ∙ flat_map-taken f xs i x within
 
 -- a byte more in front of a part is shown there
 lined_first : (b : ℕ) (part : List ℕ) (parts : List (List ℕ)) → shown_byte b ++ flat_map text_line (part ∷ parts) ≡ flat_map text_line (onto_first b (part ∷ parts))
