@@ -38,32 +38,25 @@ const CONFIG_KEYS: [ConfigKey; 7] = [
 ];
 
 impl ConfigKey {
-    fn text(self) -> &'static str
-        ensures { result.now ≡ key_text self }
+    // What the key is called, and what a value that is refused is not.
+    fn texts(self) -> (&'static str, &'static str)
+        ensures text { result.0.now ≡ key_text self }
+        ensures refusal { result.1.now ≡ key_refusal self }
     {
         match self {
-            ConfigKey::Scopes => "scopes",
-            ConfigKey::Listen => "listen",
-            ConfigKey::Capacity => "capacity",
-            ConfigKey::Connections => "connections",
-            ConfigKey::Sweep => "sweep",
-            ConfigKey::Rules => "rules",
-            ConfigKey::Templates => "templates",
-        }
-    }
-
-    // What a value that is refused is not.
-    fn refusal(self) -> &'static str
-        ensures { result.now ≡ key_refusal self }
-    {
-        match self {
-            ConfigKey::Scopes => "not a list of 1 to 16 scopes in at most 1024 bytes",
-            ConfigKey::Listen => "not an array of 1 to 8 distinct texts \"a.b.c.d:port\"",
-            ConfigKey::Capacity => "not within 1 to 65536",
-            ConfigKey::Connections => "not within 1 to 256",
-            ConfigKey::Sweep => "not within 1 to 3600",
-            ConfigKey::Rules => "not the path of a file",
-            ConfigKey::Templates => "not an array of at most 256 paths",
+            ConfigKey::Scopes => (
+                "scopes",
+                "not a list of 1 to 16 scopes in at most 1024 bytes",
+            ),
+            ConfigKey::Listen => (
+                "listen",
+                "not an array of 1 to 8 distinct texts \"a.b.c.d:port\"",
+            ),
+            ConfigKey::Capacity => ("capacity", "not within 1 to 65536"),
+            ConfigKey::Connections => ("connections", "not within 1 to 256"),
+            ConfigKey::Sweep => ("sweep", "not within 1 to 3600"),
+            ConfigKey::Rules => ("rules", "not the path of a file"),
+            ConfigKey::Templates => ("templates", "not an array of at most 256 paths"),
         }
     }
 
@@ -93,13 +86,12 @@ impl ConfigKey {
     ) -> Result<(), CheckFault>
         ensures { OnOk result (Appends (W.contents writer.old) (W.contents writer.new) (key_line file.now (members_in (view table.now)) self)) }
     {
+        let (text, refusal) = self.texts();
         let problem = match self.fault(alloc, table) {
             None => return Ok(()),
             Some(ConfigFault::NoMemory) => return Err(CheckFault::NoMemory),
-            Some(ConfigFault::Missing) => Problem::Missing(self.text()),
-            Some(ConfigFault::Range | ConfigFault::Toml) => {
-                Problem::Value(self.text(), self.refusal())
-            }
+            Some(ConfigFault::Missing) => Problem::Missing(text),
+            Some(ConfigFault::Range | ConfigFault::Toml) => Problem::Value(text, refusal),
         };
         report(Place::File(file), problem, writer)?;
         Ok(())

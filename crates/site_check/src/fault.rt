@@ -2,7 +2,6 @@ ghost use Rattle.std.specs.Prelude.{◌≡◌};
 ghost use Rattle.site_check.specs.declared.fault.CheckFault.TheVariants as fault;
 
 use slp_text::NoMemory;
-use std::alloc::{AllocError, AllocFailed};
 use std::io;
 
 /// Why a check does not come to its end.
@@ -25,22 +24,6 @@ impl From<NoMemory> for CheckFault {
     ghost from_gives = { λ _ e. e ≡ fault.NoMemory };
 
     fn from(_e: NoMemory) -> CheckFault {
-        CheckFault::NoMemory
-    }
-}
-
-impl From<AllocError> for CheckFault {
-    ghost from_gives = { λ _ e. e ≡ fault.NoMemory };
-
-    fn from(_e: AllocError) -> CheckFault {
-        CheckFault::NoMemory
-    }
-}
-
-impl<T: Drop> From<AllocFailed<T>> for CheckFault {
-    ghost from_gives = { λ _ e. e ≡ fault.NoMemory };
-
-    fn from(_e: AllocFailed<T>) -> CheckFault {
         CheckFault::NoMemory
     }
 }

@@ -83,35 +83,24 @@ pub(crate) fn hide_keys() -> Keys
 }
 
 impl RuleKey {
-    fn text(self) -> &'static str
-        ensures { result.now ≡ key_text self }
+    // What the key is called, and what a value that is refused is not.
+    fn texts(self) -> (&'static str, &'static str)
+        ensures text { result.0.now ≡ key_text self }
+        ensures refusal { result.1.now ≡ key_refusal self }
     {
         match self {
-            RuleKey::Name => "name",
-            RuleKey::From => "from",
-            RuleKey::Action => "action",
-            RuleKey::Kind => "type",
-            RuleKey::Scopes => "scopes",
-            RuleKey::Verdict => "verdict",
-            RuleKey::Owner => "owner",
-            RuleKey::Tags => "tags",
-            RuleKey::SpareOwner => "spare-owner",
-        }
-    }
-
-    // What a value that is refused is not.
-    fn refusal(self) -> &'static str
-        ensures { result.now ≡ key_refusal self }
-    {
-        match self {
-            RuleKey::Name => "not 1 to 32 small letters, digits and \"-\"",
-            RuleKey::From => "not an array of one or more prefixes \"a.b.c.d/n\"",
-            RuleKey::Action => "neither \"register\", \"withdraw\" nor \"see\"",
-            RuleKey::Kind => "neither \"*\" nor a service type",
-            RuleKey::Scopes => "neither [\"*\"] nor an array of one or more scopes",
-            RuleKey::Verdict => "neither \"allow\" nor \"deny\"",
-            RuleKey::Owner | RuleKey::SpareOwner => "neither true nor false",
-            RuleKey::Tags => "not a tag list with one tag at least",
+            RuleKey::Name => ("name", "not 1 to 32 small letters, digits and \"-\""),
+            RuleKey::From => ("from", "not an array of one or more prefixes \"a.b.c.d/n\""),
+            RuleKey::Action => ("action", "neither \"register\", \"withdraw\" nor \"see\""),
+            RuleKey::Kind => ("type", "neither \"*\" nor a service type"),
+            RuleKey::Scopes => (
+                "scopes",
+                "neither [\"*\"] nor an array of one or more scopes",
+            ),
+            RuleKey::Verdict => ("verdict", "neither \"allow\" nor \"deny\""),
+            RuleKey::Owner => ("owner", "neither true nor false"),
+            RuleKey::Tags => ("tags", "not a tag list with one tag at least"),
+            RuleKey::SpareOwner => ("spare-owner", "neither true nor false"),
         }
     }
 
@@ -145,9 +134,10 @@ impl RuleKey {
         if self.stands(alloc, table)? {
             return Ok(());
         }
-        let problem = match fields::value_at(table, self.text()) {
-            None => Problem::Missing(self.text()),
-            Some(_) => Problem::Value(self.text(), self.refusal()),
+        let (text, refusal) = self.texts();
+        let problem = match fields::value_at(table, text) {
+            None => Problem::Missing(text),
+            Some(_) => Problem::Value(text, refusal),
         };
         report(place, problem, writer)?;
         Ok(())
@@ -157,7 +147,7 @@ impl RuleKey {
 fn is_one_of(keys: &[RuleKey], key: &str) -> bool
     ensures { result ≡ spec.is_one_of keys.now key.now }
 {
-    keys.iter().any(|known| known.text() == key)
+    keys.iter().any(|known| known.texts().0 == key)
 }
 
 // What is wrong with a key, if anything is.

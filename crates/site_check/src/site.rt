@@ -1,5 +1,5 @@
 //! A look at each file of a site.
-ghost use Rattle.std.specs.Prelude.{◌≡◌, ◌≢◌, IfOk, List, Ok, OnOk, Some, map};
+ghost use Rattle.std.specs.Prelude.{◌≡◌, ◌≢◌, ◌++◌, IfOk, List, Ok, OnOk, Some, codes, map, string_bytes};
 ghost use Rattle.std.specs.FinMap as fin;
 ghost use Rattle.std.specs.Io.KnownBytes.{Appends};
 ghost use Rattle.std.specs.Option.{option_copied};
@@ -21,7 +21,7 @@ use access_rules::{RuleFault, Rules};
 use service_url::{ServiceType, UrlFault};
 use site_config::{Config, ConfigFault};
 use site_opening::{FileFault, read};
-use slp_text::{ScopeList, Text};
+use slp_text::{NoMemory, ScopeList, Text};
 use srv_template::{ParseFault, Template, Templates};
 use std::alloc::Global;
 use std::io::Write;
@@ -134,14 +134,21 @@ fn kind_in(alloc: Global, text: &str) -> Result<Option<ServiceType>, CheckFault>
     }
 }
 
+// The text of the type of a template.
+fn kind_text(alloc: Global, template: &Template) -> Result<String, NoMemory>
+    ensures { IfOk result (λ text. string_bytes text ≡ codes "service:" ++ template.now.name) }
+{
+    let mut text = String::from_str(alloc, "service:")?;
+    text.push_str(template.name())?;
+    Ok(text)
+}
+
 // The type of a template.
 fn kind_of(alloc: Global, template: &Template) -> Result<Option<ServiceType>, CheckFault>
     ensures { IfOk result (λ kind. kind ≡ template_kind template.now) }
 {
-    let mut named = String::new(alloc);
-    named.push_str("service:")?;
-    named.push_str(template.name())?;
-    kind_in(alloc, named.as_str())
+    let text = kind_text(alloc, template)?;
+    kind_in(alloc, text.as_str())
 }
 
 // Writes that no rule lets anyone register a service of the type of a template, where that is so.
