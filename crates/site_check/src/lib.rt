@@ -15,3 +15,4 @@ mod warnings;
 
 pub use hiding::hides;
 pub use program::{check_run, unread_words};
+pub use site_opening::call_words;

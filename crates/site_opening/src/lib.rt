@@ -10,4 +10,4 @@ mod words;
 pub use fault::StartFault;
 pub use files::{FileFault, read};
 pub use opening::{SiteFiles, open_site, rules_at};
-pub use words::config_path;
+pub use words::{call_words, config_path};

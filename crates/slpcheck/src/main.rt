@@ -1,37 +1,22 @@
 //! A check of the files of a site, before a server starts with them.
 #![tactic(auto)]
 
-use site_check::{check_run, unread_words};
-use std::env;
+use site_check::{call_words, check_run, unread_words};
 use std::io::{self, BufWriter, Write};
 use std::process::ExitCode;
 
-/// The status where no memory is found for the output.
-const NO_MEMORY: u8 = 3;
-
-// The words without the program's own name.
-fn words(rt: &HostRuntime) -> io::Result<Vec<String>> {
-    let mut words = Vec::new(rt.alloc());
-    for word in env::args(rt)?.skip(1) {
-        words.push(word)?;
-    }
-    Ok(words)
-}
-
-// The status of a call whose words cannot be read.
-fn refuse(rt: &HostRuntime, fault: &io::Error) -> ExitCode {
-    let (status, words) = unread_words(fault);
-    let _ = io::writer(rt).write_all(words.as_bytes());
-    ExitCode::from(status)
+// The status of a call whose words are read.
+fn run(rt: &HostRuntime) -> io::Result<u8> {
+    let words = call_words(rt)?;
+    let mut writer = BufWriter::new(rt.alloc(), io::writer(rt))?;
+    Ok(check_run(rt, rt.alloc(), words.as_slice(), &mut writer))
 }
 
 fn main(rt: HostRuntime) -> ExitCode {
-    let words = match words(&rt) {
-        Ok(words) => words,
-        Err(fault) => return refuse(&rt, &fault),
+    let (status, text) = match run(&rt) {
+        Ok(status) => (status, ""),
+        Err(fault) => unread_words(&fault),
     };
-    let Ok(mut writer) = BufWriter::new(rt.alloc(), io::writer(&rt)) else {
-        return ExitCode::from(NO_MEMORY);
-    };
-    ExitCode::from(check_run(&rt, rt.alloc(), words.as_slice(), &mut writer))
+    let _ = io::writer(&rt).write_all(text.as_bytes());
+    ExitCode::from(status)
 }
