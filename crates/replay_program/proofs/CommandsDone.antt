@@ -1,10 +1,11 @@
 -- What each command makes of a session.
-use Rattle.std.proofs.Common.{◌≡◌, ℕ, ◌+◌, ◌-◌, Bool, true, false, List, [], ◌∷◌, ◌++◌, codes, Option, Some, None, Result, Ok, Err, refl, sym, ap, ap₂, subst, ◌∙◌, inl, inr}
+use Rattle.std.proofs.Common.{◌≡◌, ◌⊎◌, ℕ, ◌+◌, ◌-◌, Bool, true, false, List, [], ◌∷◌, ◌++◌, codes, Option, Some, None, Result, Ok, Err, refl, sym, ap, ap₂, subst, ◌∙◌, inl, inr}
 use Rattle.std.specs.Prelude.{MatchResult}
 use Rattle.directory_questions.specs.Verdicts.{history_with}
 use Rattle.slp_answer.specs.declared.answer.Sent.{Sent}
 use Rattle.slp_script.specs.Commands.{Single}
 use Rattle.slp_script.specs.declared.command.Order.TheVariants.{At, From, Loop, Udp, Open, Tcp, Sweep}
+use Rattle.slp_script.specs.declared.command.Block.{Block}
 use Rattle.slp_script.specs.declared.command.Block.TheVariants as block
 use Rattle.replay_program.specs.Sessions.{Holds, IsAgent, Takes, TakesPiece, Acts, Meets, AddsTo, ConfiguresTo, MovesTo, ReloadsTo}
 use Rattle.site_reports.specs.Reports.{config_text, rules_text, template_text}
@@ -76,10 +77,6 @@ Closes-told s b kept told early configures = λ w h.
     let read = option_map_or config_of kept (Err Range) in
     subst (λ late. (v : World) × Configures late w read (config_text told) v × Holds v (record s { agent = b })) (sym (sym h.late ∙ early)) (told_so w s b h read told (configures w h.agent))
 
-pub Closes-late : (s : Session) (kept : Option (List ℕ)) → s.late ≡ true → Closes s block.Config kept (codes "! late" ++ line_feed ∷ []) s
-Closes-late s kept late = λ w h.
-    subst (λ x. (v : World) × Configures x w (option_map_or config_of kept (Err Range)) (codes "! late" ++ line_feed ∷ []) v × Holds v s) (sym (sym h.late ∙ late)) (w, (refl, refl), h)
-
 -- ---- the end of a template
 
 added_so : (w : World) (s : Session) (b : Agent) (h : Holds w s) (read : Result SiteTemplates ParseFault) (told : Result (Unit {0}) ParseFault) → AddsTo w read told b → (v : World) × Adds false w read (template_text told) v × Holds v (record s { agent = b })
@@ -92,9 +89,12 @@ Closes-added s b kept told early adds = λ w h.
     let read = templates_with w (option_map_or template_in kept (Err (template.Line 1))) in
     subst (λ late. (v : World) × Adds late w read (template_text told) v × Holds v (record s { agent = b })) (sym (sym h.late ∙ early)) (added_so w s b h read told (adds w h.agent))
 
-pub Closes-added_late : (s : Session) (kept : Option (List ℕ)) → s.late ≡ true → Closes s block.Template kept late_text s
-Closes-added_late s kept late = λ w h.
-    subst (λ x. (v : World) × Adds x w (templates_with w (option_map_or template_in kept (Err (template.Line 1)))) late_text v × Holds v s) (sym (sym h.late ∙ late)) (w, (refl, refl), h)
+-- a configuration or a template that comes too late
+pub Closes-late : (s : Session) (b : Block) (kept : Option (List ℕ)) → (b ≡ block.Config) ⊎ (b ≡ block.Template) → s.late ≡ true → Closes s b kept late_text s
+Closes-late s b kept (inl is) late = λ w h.
+    rw is (subst (λ x. (v : World) × Configures x w (option_map_or config_of kept (Err Range)) late_text v × Holds v s) (sym (sym h.late ∙ late)) (w, (refl, refl), h))
+Closes-late s b kept (inr is) late = λ w h.
+    rw is (subst (λ x. (v : World) × Adds x w (templates_with w (option_map_or template_in kept (Err (template.Line 1)))) late_text v × Holds v s) (sym (sym h.late ∙ late)) (w, (refl, refl), h))
 
 -- ---- the end of a rule file
 

@@ -1,5 +1,6 @@
 -- Which history an agent and a session stand for, and what a datagram does to it.
-use Rattle.std.specs.Prelude.{◌≡◌, ℕ, ◌-◌, Bool, true, false, IsTrue, List, ◌++◌, Option, MatchOption, Result, Ok, Err}
+use Rattle.std.specs.Prelude.{◌≡◌, ◌⊎◌, ℕ, ◌-◌, Bool, true, false, IsTrue, List, ◌++◌, Option, MatchOption, MatchResult, Result, Ok, Err}
+use Rattle.std.specs.Io.KnownBytes.{Appends, Keeps}
 use Rattle.replay_program.specs.OpeningRules.{opening_rules}
 use Rattle.access_rules.specs.Deciding.{SiteRules, number}
 use Rattle.access_rules.specs.declared.fault.RuleFault.{RuleFault}
@@ -21,6 +22,8 @@ use Rattle.srv_template.specs.declared.fault.ParseFault.{ParseFault}
 use Rattle.site_config.specs.declared.config.Config.{Config}
 use Rattle.site_config.specs.declared.fault.ConfigFault.{ConfigFault}
 use Rattle.replay_program.specs.declared.agent.Agent.{Agent}
+use Rattle.replay_program.specs.declared.fault.RunFault.{RunFault}
+use Rattle.replay_program.specs.declared.fault.RunFault.TheVariants as fault
 use Rattle.replay_program.specs.declared.session.Session.{Session}
 
 -- the agent is one to which this happened
@@ -46,6 +49,10 @@ pub record Takes (limit : ℕ) (w : World) (bytes : List ℕ) (what : Sent) (rep
   pub is : IsAnswer (opening_of w) w.history (call_of limit w bytes) outcome event
   pub told : Tells (rules opening_rules w.history) w.asker (heading_of bytes) outcome what reply line
   pub holds : IsAgent (record w { history = history_with event w.history }) a
+
+-- something is written of which this holds; or writing failed, or there was no memory and nothing is written
+abbrev pub Writes : Option (List ℕ) → Option (List ℕ) → (List ℕ → Type 0) → Result (Unit {0}) RunFault → Type 0
+Writes old new holds told = MatchResult told (λ _. (now : List ℕ) × Appends old new now × holds now) (λ e. (e ≡ fault.Write) ⊎ ((e ≡ fault.NoMemory) × Keeps old new))
 
 -- what a command may write and make of a session, whatever happened to it before
 abbrev pub Acts : Session → Command → List ℕ → Session → Type 0

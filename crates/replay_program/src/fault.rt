@@ -2,7 +2,6 @@ ghost use Rattle.std.specs.Prelude.{◌≡◌};
 ghost use Rattle.replay_program.specs.declared.fault.RunFault.TheVariants as fault;
 
 use slp_text::NoMemory;
-use std::alloc::AllocError;
 use thiserror::Error;
 
 /// Why a run ended before its script did.
@@ -25,14 +24,6 @@ impl From<NoMemory> for RunFault {
     ghost from_gives = { λ _ e. e ≡ fault.NoMemory };
 
     fn from(_e: NoMemory) -> RunFault {
-        RunFault::NoMemory
-    }
-}
-
-impl From<AllocError> for RunFault {
-    ghost from_gives = { λ _ e. e ≡ fault.NoMemory };
-
-    fn from(_e: AllocError) -> RunFault {
         RunFault::NoMemory
     }
 }

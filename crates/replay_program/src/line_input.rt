@@ -22,8 +22,7 @@ fn lengthen(line: &mut Vec<u8>, more: &[u8], number: u64) -> Result<(), RunFault
     if more.len() > LONGEST_LINE - line.len() {
         return Err(RunFault::Line(number + 1));
     }
-    line.extend_from_slice(more)?;
-    Ok(())
+    line.extend_from_slice(more).map_err(|_| RunFault::NoMemory)
 }
 
 /// Takes the next bytes of a script: each line that they end is carried out, and the rest kept.

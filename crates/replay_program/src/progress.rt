@@ -1,10 +1,9 @@
-ghost use Rattle.std.specs.Prelude.{◌≡◌, ◌≤◌, ◌<◌, ◌+◌, ◌^◌, ◌⊎◌, ℕ, List, [], OnOk, IfOk, MatchResult, string_bytes, length};
-ghost use Rattle.std.specs.Io.KnownBytes.{Appends, Keeps};
+ghost use Rattle.std.specs.Prelude.{◌≡◌, ◌≤◌, ◌<◌, ◌+◌, ◌^◌, ℕ, List, [], OnOk, IfOk, MatchResult, string_bytes, length};
+ghost use Rattle.std.specs.Io.KnownBytes.{Appends};
 ghost use Rattle.std.specs.Option.{option_map, option_copied};
 ghost use Rattle.slp_script.specs.Commands.{longest_line, Single};
-ghost use Rattle.slp_script.specs.declared.command.Block.TheVariants as block;
 ghost use Rattle.slp_script.specs.declared.command.Order.TheVariants as order;
-ghost use Rattle.replay_program.specs.Sessions.{Acts};
+ghost use Rattle.replay_program.specs.Sessions.{Acts, Writes};
 ghost use Rattle.replay_program.specs.Turns.{Closes, block_text_with, LacksLoop, TurnsOutside, TurnsInside, OrderFails, OutsideFails, InsideFails, TurnsTo, TurnFails};
 ghost use Rattle.replay_program.specs.declared.fault.RunFault.TheVariants as fault;
 
@@ -72,70 +71,7 @@ fn lengthen_text(text: Option<String>, line: &str) -> Result<Option<String>, NoM
     Ok(Some(text))
 }
 
-// Ends a configuration of which this text is kept.
-fn close_config<W: Write>(
-    session: &mut Session,
-    alloc: Global,
-    text: Option<&str>,
-    writer: &mut W,
-) -> Result<(), RunFault>
-    ensures { MatchResult result
-        (λ _. (now : List ℕ) × Appends (W.contents writer.old) (W.contents writer.new) now × Closes session.old block.Config (option_copied text.entry) now session.new)
-        (λ e. (e ≡ fault.Write) ⊎ ((e ≡ fault.NoMemory) × Keeps (W.contents writer.old) (W.contents writer.new))) }
-{
-    let written = if session.late {
-        writer.write_all(b"! late\n")
-    } else {
-        print_config(session.agent.configure(alloc, text)?, writer)
-    };
-    match written {
-        Ok(()) => Ok(()),
-        Err(_) => Err(RunFault::Write),
-    }
-}
-
-// Ends a template of which this text is kept.
-fn close_template<W: Write>(
-    session: &mut Session,
-    alloc: Global,
-    text: Option<&str>,
-    writer: &mut W,
-) -> Result<(), RunFault>
-    ensures { MatchResult result
-        (λ _. (now : List ℕ) × Appends (W.contents writer.old) (W.contents writer.new) now × Closes session.old block.Template (option_copied text.entry) now session.new)
-        (λ e. (e ≡ fault.Write) ⊎ ((e ≡ fault.NoMemory) × Keeps (W.contents writer.old) (W.contents writer.new))) }
-{
-    let written = if session.late {
-        writer.write_all(b"! late\n")
-    } else {
-        print_template(session.agent.add_template(alloc, text)?, writer)
-    };
-    match written {
-        Ok(()) => Ok(()),
-        Err(_) => Err(RunFault::Write),
-    }
-}
-
-// Ends a rule file of which this text is kept, after which it is too late for another site.
-fn close_rules<W: Write>(
-    session: &mut Session,
-    alloc: Global,
-    text: Option<&str>,
-    writer: &mut W,
-) -> Result<(), RunFault>
-    ensures { MatchResult result
-        (λ _. (now : List ℕ) × Appends (W.contents writer.old) (W.contents writer.new) now × Closes session.old block.Rules (option_copied text.entry) now session.new)
-        (λ e. (e ≡ fault.Write) ⊎ ((e ≡ fault.NoMemory) × Keeps (W.contents writer.old) (W.contents writer.new))) }
-{
-    let told = session.agent.reload(alloc, text)?;
-    session.late = true;
-    match print_rules(told, writer) {
-        Ok(()) => Ok(()),
-        Err(_) => Err(RunFault::Write),
-    }
-}
-
-// Ends a block of which this text is kept.
+// Ends a block of which this text is kept. After a rule file it is too late for another site.
 fn close<W: Write>(
     session: &mut Session,
     alloc: Global,
@@ -143,14 +79,21 @@ fn close<W: Write>(
     text: Option<&str>,
     writer: &mut W,
 ) -> Result<(), RunFault>
-    ensures { MatchResult result
-        (λ _. (now : List ℕ) × Appends (W.contents writer.old) (W.contents writer.new) now × Closes session.old block (option_copied text.entry) now session.new)
-        (λ e. (e ≡ fault.Write) ⊎ ((e ≡ fault.NoMemory) × Keeps (W.contents writer.old) (W.contents writer.new))) }
+    ensures { Writes (W.contents writer.old) (W.contents writer.new) (λ now. Closes session.old block (option_copied text.entry) now session.new) result }
 {
-    match block {
-        Block::Config => close_config(session, alloc, text, writer),
-        Block::Template => close_template(session, alloc, text, writer),
-        Block::Rules => close_rules(session, alloc, text, writer),
+    let written = match block {
+        Block::Rules => {
+            let told = session.agent.reload(alloc, text)?;
+            session.late = true;
+            print_rules(told, writer)
+        }
+        Block::Config | Block::Template if session.late => writer.write_all(b"! late\n"),
+        Block::Config => print_config(session.agent.configure(alloc, text)?, writer),
+        Block::Template => print_template(session.agent.add_template(alloc, text)?, writer),
+    };
+    match written {
+        Ok(()) => Ok(()),
+        Err(_) => Err(RunFault::Write),
     }
 }
 
@@ -185,9 +128,7 @@ fn take_stream<W: Write>(
     answer: &mut Answer,
     writer: &mut W,
 ) -> Result<(), RunFault>
-    ensures { MatchResult result
-        (λ _. (now : List ℕ) × Appends (W.contents writer.old) (W.contents writer.new) now × Acts session.old (Single (order.Tcp bytes)) now session.new)
-        (λ e. (e ≡ fault.Write) ⊎ ((e ≡ fault.NoMemory) × Keeps (W.contents writer.old) (W.contents writer.new))) }
+    ensures { Writes (W.contents writer.old) (W.contents writer.new) (λ now. Acts session.old (Single (order.Tcp bytes)) now session.new) result }
 {
     session.late = true;
     take_piece(session, alloc, bytes.as_slice(), answer, writer)

@@ -75,7 +75,9 @@ impl Replay {
         // Where it is known what the reader has, that is the script.
         ensures known { KnownGives (R.remaining reader.old) (W.contents writer.old) (W.contents writer.new) result }
     {
-        let mut chunk = vec![in alloc; 0u8; CHUNK]?;
+        let Ok(mut chunk) = vec![in alloc; 0u8; CHUNK] else {
+            return Err(RunFault::NoMemory);
+        };
         let mut progress = Progress::begin(alloc)?;
         run_through(
             alloc,

@@ -1,6 +1,6 @@
-ghost use Rattle.std.specs.Prelude.{◌≡◌, ◌⊎◌, ℕ, List, None, MatchResult, OnOk};
-ghost use Rattle.std.specs.Io.KnownBytes.{Appends, Keeps};
-ghost use Rattle.replay_program.specs.Sessions.{TakesPiece, Drains};
+ghost use Rattle.std.specs.Prelude.{◌≡◌, ℕ, List, None, MatchResult, OnOk};
+ghost use Rattle.std.specs.Io.KnownBytes.{Appends};
+ghost use Rattle.replay_program.specs.Sessions.{TakesPiece, Drains, Writes};
 ghost use Rattle.replay_program.specs.Worlds.{bad_length_text};
 ghost use Rattle.replay_program.specs.declared.fault.RunFault.TheVariants as fault;
 
@@ -60,9 +60,7 @@ pub fn take_piece<W: Write>(
     answer: &mut Answer,
     writer: &mut W,
 ) -> Result<(), RunFault>
-    ensures { MatchResult result
-        (λ _. (now : List ℕ) × Appends (W.contents writer.old) (W.contents writer.new) now × TakesPiece session.old bytes.now now session.new)
-        (λ e. (e ≡ fault.Write) ⊎ ((e ≡ fault.NoMemory) × Keeps (W.contents writer.old) (W.contents writer.new))) }
+    ensures { Writes (W.contents writer.old) (W.contents writer.new) (λ now. TakesPiece session.old bytes.now now session.new) result }
 {
     match session.stream.feed(bytes) {
         Ok(()) => drain(
