@@ -1,4 +1,4 @@
-use crate::assertion::{Asking, assert_table};
+use crate::tests::assertion::{Asking, Question, assert_table};
 use service_url::{ServiceType, Url, UrlFault, parse_authority};
 use slp_text::NoMemory;
 use std::alloc::Global;
@@ -35,18 +35,11 @@ fn put(out: &mut String, text: &str) -> Result<(), NoMemory> {
 impl Asking for Services {
     type Fault = UrlFault;
 
-    fn print(
-        self,
-        alloc: Global,
-        word: &str,
-        text: &str,
-        beside: &str,
-        out: &mut String,
-    ) -> Result<(), UrlFault> {
-        match word {
-            "type" => print_type(alloc, text, beside, out),
-            "authority" => print_authority(alloc, text, out),
-            _ => print_url(alloc, text, out),
+    fn print(self, alloc: Global, row: Question<'_>, out: &mut String) -> Result<(), UrlFault> {
+        match row.word {
+            "type" => print_type(alloc, row.text, row.beside, out),
+            "authority" => print_authority(alloc, row.text, out),
+            _ => print_url(alloc, row.text, out),
         }
     }
 }

@@ -4,8 +4,8 @@ ghost use Rattle.std.specs.Arc.{arc_value};
 mod numbers;
 mod walks;
 
-use crate::assertion::found;
-use crate::entries::{Parts, entry_of};
+use crate::tests::assertion::found;
+use crate::tests::entries::{Parts, entry_of};
 use access_rules::Addr;
 use numbers::Numbers;
 use registry_core::{Entry, ListRegistry, Registry, RegistryFault};

@@ -1,7 +1,7 @@
 ghost use Rattle.std.specs.Prelude.{◌≤◌, ◌<◌, length, IfOk};
 ghost use Rattle.std.specs.Arc.{arc_value};
 
-use crate::assertion::found;
+use crate::tests::assertion::found;
 use access_rules::Addr;
 use attr_list::Attrs;
 use registry_core::Entry;

@@ -1,4 +1,4 @@
-use crate::assertion::{Asking, assert_table};
+use crate::tests::assertion::{Asking, Question, assert_table};
 use attr_list::Attrs;
 use search_filter::{Filter, FilterFault};
 use std::alloc::Global;
@@ -15,16 +15,9 @@ fn holds(alloc: Global, filter: &Filter, attributes: &str) -> Result<bool, Filte
 impl Asking for Filters {
     type Fault = FilterFault;
 
-    fn print(
-        self,
-        alloc: Global,
-        _word: &str,
-        text: &str,
-        beside: &str,
-        out: &mut String,
-    ) -> Result<(), FilterFault> {
-        let filter = Filter::parse(alloc, text)?;
-        let told = holds(alloc, &filter, beside);
+    fn print(self, alloc: Global, row: Question<'_>, out: &mut String) -> Result<(), FilterFault> {
+        let filter = Filter::parse(alloc, row.text)?;
+        let told = holds(alloc, &filter, row.beside);
         drop(filter);
         Ok(out.push_str(if told? { "yes" } else { "no" })?)
     }

@@ -1,6 +1,6 @@
 mod rows;
 
-use crate::assertion::{Asking, assert_table, found, lines};
+use crate::tests::assertion::{Asking, Question, assert_table, found, lines};
 use attr_list::Attrs;
 use rows::{BOTH, TABLE};
 use service_url::ServiceType;
@@ -49,22 +49,15 @@ fn print_checked(
 impl Asking for SiteTemplates {
     type Fault = ParseFault;
 
-    fn print(
-        self,
-        alloc: Global,
-        word: &str,
-        text: &str,
-        beside: &str,
-        out: &mut String,
-    ) -> Result<(), ParseFault> {
-        let text = lines(alloc, text, &[])?;
-        match word {
+    fn print(self, alloc: Global, row: Question<'_>, out: &mut String) -> Result<(), ParseFault> {
+        let text = lines(alloc, row.text, &[])?;
+        match row.word {
             "template" => {
                 let _template = Template::parse(alloc, text.as_str())?;
                 Ok(())
             }
-            "site" => print_checked(alloc, text.as_str(), "", beside, out),
-            _ => print_checked(alloc, BOTH, text.as_str(), beside, out),
+            "site" => print_checked(alloc, text.as_str(), "", row.beside, out),
+            _ => print_checked(alloc, BOTH, text.as_str(), row.beside, out),
         }
     }
 }

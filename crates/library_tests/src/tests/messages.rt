@@ -1,6 +1,6 @@
 mod rows;
 
-use crate::assertion::{Asking, assert_table, whole};
+use crate::tests::assertion::{Asking, Question, assert_table, whole};
 use rows::TABLE;
 use slp_text::{NoMemory, Row, Text};
 use slp_wire::{
@@ -97,16 +97,9 @@ fn print_long(alloc: Global, bytes: &[u8], out: &mut String) -> Result<(), WireF
 impl Asking for Messages {
     type Fault = WireFault;
 
-    fn print(
-        self,
-        alloc: Global,
-        word: &str,
-        text: &str,
-        _beside: &str,
-        out: &mut String,
-    ) -> Result<(), WireFault> {
-        let bytes = bytes_of(alloc, text)?;
-        match word {
+    fn print(self, alloc: Global, row: Question<'_>, out: &mut String) -> Result<(), WireFault> {
+        let bytes = bytes_of(alloc, row.text)?;
+        match row.word {
             "written" => print_written(alloc, bytes.as_slice(), out),
             "long" => print_long(alloc, bytes.as_slice(), out),
             _ => Ok(print_fronts(alloc, bytes.as_slice(), out)?),

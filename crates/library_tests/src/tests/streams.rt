@@ -1,5 +1,5 @@
-use crate::assertion::{Asking, assert_table};
-use crate::messages::{bytes_of, put_bytes};
+use crate::tests::assertion::{Asking, Question, assert_table};
+use crate::tests::messages::{bytes_of, put_bytes};
 use slp_stream::Framer;
 use slp_text::NoMemory;
 use std::alloc::Global;
@@ -31,17 +31,10 @@ fn print_whole(
 impl Asking for Streams {
     type Fault = NoMemory;
 
-    fn print(
-        self,
-        alloc: Global,
-        word: &str,
-        text: &str,
-        beside: &str,
-        out: &mut String,
-    ) -> Result<(), NoMemory> {
-        let stream = bytes_of(alloc, text)?;
-        let mut framer = Framer::new(alloc, beside.parse::<usize>().unwrap_or(0));
-        for piece in stream.chunks(word.parse::<usize>().unwrap_or(1).max(1)) {
+    fn print(self, alloc: Global, row: Question<'_>, out: &mut String) -> Result<(), NoMemory> {
+        let stream = bytes_of(alloc, row.text)?;
+        let mut framer = Framer::new(alloc, row.beside.parse::<usize>().unwrap_or(0));
+        for piece in stream.chunks(row.word.parse::<usize>().unwrap_or(1).max(1)) {
             print_whole(alloc, &mut framer, piece, out)?;
         }
         Ok(())

@@ -1,4 +1,4 @@
-use crate::assertion::{Asking, assert_table, lines};
+use crate::tests::assertion::{Asking, Question, assert_table, lines};
 use site_config::{Config, ConfigFault};
 use slp_text::NoMemory;
 use std::alloc::Global;
@@ -33,15 +33,8 @@ fn print_config(config: &Config, out: &mut String) -> Result<(), NoMemory> {
 impl Asking for Configurations {
     type Fault = ConfigFault;
 
-    fn print(
-        self,
-        alloc: Global,
-        _word: &str,
-        text: &str,
-        _beside: &str,
-        out: &mut String,
-    ) -> Result<(), ConfigFault> {
-        let text = lines(alloc, text, &LINES)?;
+    fn print(self, alloc: Global, row: Question<'_>, out: &mut String) -> Result<(), ConfigFault> {
+        let text = lines(alloc, row.text, &LINES)?;
         let config = Config::from_text(alloc, text.as_str())?;
         let told = print_config(&config, out);
         drop(config);

@@ -3,8 +3,8 @@ ghost use Rattle.slp_text.specs.Scopes.{printed_scopes};
 
 mod rows;
 
-use crate::assertion::{Asking, assert_table, found, part_of};
-use crate::messages::bytes_of;
+use crate::tests::assertion::{Asking, Question, assert_table, found, part_of};
+use crate::tests::messages::bytes_of;
 use access_rules::{Addr, Rules};
 use directory_judge::{Change, Judged, Site, judge_on};
 use directory_questions::{Authority, Target};
@@ -296,22 +296,15 @@ fn print_judgement(
 impl Asking for Directories {
     type Fault = QueryFault;
 
-    fn print(
-        self,
-        alloc: Global,
-        word: &str,
-        text: &str,
-        beside: &str,
-        out: &mut String,
-    ) -> Result<(), QueryFault> {
+    fn print(self, alloc: Global, row: Question<'_>, out: &mut String) -> Result<(), QueryFault> {
         let mut directory = opened(alloc)?;
-        take_steps(alloc, &mut directory, text, out)?;
-        match word {
-            "services" => print_services(alloc, &directory, beside, out),
-            "attributes" => print_attributes(alloc, &directory, beside, out),
-            "types" => print_types(alloc, &directory, beside, out),
+        take_steps(alloc, &mut directory, row.text, out)?;
+        match row.word {
+            "services" => print_services(alloc, &directory, row.beside, out),
+            "attributes" => print_attributes(alloc, &directory, row.beside, out),
+            "types" => print_types(alloc, &directory, row.beside, out),
             "number" => Ok(write!(out, "{}", directory.registry().len())?),
-            _ => Ok(print_judgement(alloc, &directory, beside, out)?),
+            _ => Ok(print_judgement(alloc, &directory, row.beside, out)?),
         }
     }
 }

@@ -1,4 +1,4 @@
-use crate::assertion::{Asking, assert_table};
+use crate::tests::assertion::{Asking, Question, assert_table};
 use access_rules::{Addr, number};
 use std::alloc::{AllocError, Global};
 
@@ -8,24 +8,17 @@ struct Addresses;
 impl Asking for Addresses {
     type Fault = AllocError;
 
-    fn print(
-        self,
-        _alloc: Global,
-        word: &str,
-        text: &str,
-        _beside: &str,
-        out: &mut String,
-    ) -> Result<(), AllocError> {
-        match word {
-            "number" => match number(text.as_bytes()) {
+    fn print(self, _alloc: Global, row: Question<'_>, out: &mut String) -> Result<(), AllocError> {
+        match row.word {
+            "number" => match number(row.text.as_bytes()) {
                 Some(number) => write!(out, "{number}"),
                 None => out.push_str("none"),
             },
-            "address" => match Addr::parse(text.as_bytes()) {
+            "address" => match Addr::parse(row.text.as_bytes()) {
                 Some(address) => write!(out, "{address} {}", address.0),
                 None => out.push_str("none"),
             },
-            _ => match Addr::parse_with_port(text.as_bytes()) {
+            _ => match Addr::parse_with_port(row.text.as_bytes()) {
                 Some((address, port)) => write!(out, "{address} {port}"),
                 None => out.push_str("none"),
             },

@@ -1,4 +1,4 @@
-use crate::assertion::{Asking, assert_table, lines};
+use crate::tests::assertion::{Asking, Question, assert_table, lines};
 use slp_text::{Place, ScopeList, TagList, TextFault, escape_into, key, unescape, unescape_any};
 use std::alloc::Global;
 
@@ -31,38 +31,27 @@ fn print_selected(alloc: Global, text: &str, tag: &str, out: &mut String) -> Res
     Ok(out.push_str(told)?)
 }
 
-fn print_text(
-    alloc: Global,
-    word: &str,
-    text: &str,
-    beside: &str,
-    out: &mut String,
-) -> Result<(), TextFault> {
-    match word {
+fn print_text(alloc: Global, row: Question<'_>, out: &mut String) -> Result<(), TextFault> {
+    let text = row.text;
+    match row.word {
         "key" => print_key(alloc, text, out),
         "value" => Ok(escape_into(text, Place::Value, out)?),
         "tag" => Ok(escape_into(text, Place::Tag, out)?),
         "scope" => Ok(escape_into(text, Place::Scope, out)?),
         "escapes" => print_read(unescape(alloc, text), out),
         "bytes" => print_read(unescape_any(alloc, text), out),
-        "scopes" => print_scopes(alloc, text, beside, out),
-        _ => print_selected(alloc, text, beside, out),
+        "scopes" => print_scopes(alloc, text, row.beside, out),
+        _ => print_selected(alloc, text, row.beside, out),
     }
 }
 
 impl Asking for Texts {
     type Fault = TextFault;
 
-    fn print(
-        self,
-        alloc: Global,
-        word: &str,
-        text: &str,
-        beside: &str,
-        out: &mut String,
-    ) -> Result<(), TextFault> {
-        let text = lines(alloc, text, &[])?;
-        print_text(alloc, word, text.as_str(), beside, out)
+    fn print(self, alloc: Global, row: Question<'_>, out: &mut String) -> Result<(), TextFault> {
+        let text = lines(alloc, row.text, &[])?;
+        let text = text.as_str();
+        print_text(alloc, Question { text, ..row }, out)
     }
 }
 

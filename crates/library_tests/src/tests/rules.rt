@@ -1,6 +1,6 @@
 mod rows;
 
-use crate::assertion::{Asking, assert_table, found, lines, part_of, whole};
+use crate::tests::assertion::{Asking, Question, assert_table, found, lines, part_of, whole};
 use access_rules::{Action, Addr, RuleFault, Rules};
 use rows::{FILES, LINES, TABLE};
 use service_url::ServiceType;
@@ -129,19 +129,13 @@ fn print_decided(
     Ok(print_verdict(rules, question, &scope, out)?)
 }
 
-fn print_decision(
-    alloc: Global,
-    word: &str,
-    text: &str,
-    scope: &str,
-    out: &mut String,
-) -> Result<(), RuleFault> {
-    let Some((name, text)) = text.split_once(' ') else {
+fn print_decision(alloc: Global, row: Question<'_>, out: &mut String) -> Result<(), RuleFault> {
+    let Some((name, text)) = row.text.split_once(' ') else {
         return Err(RuleFault::Toml);
     };
     let file = whole(alloc, part_of(name, &FILES))?;
     let rules = Rules::from_text(alloc, file.as_str())?;
-    let told = print_decided(alloc, word, &rules, text, scope, out);
+    let told = print_decided(alloc, row.word, &rules, text, row.beside, out);
     drop(rules);
     told
 }
@@ -149,22 +143,15 @@ fn print_decision(
 impl Asking for RuleFiles {
     type Fault = RuleFault;
 
-    fn print(
-        self,
-        alloc: Global,
-        word: &str,
-        text: &str,
-        beside: &str,
-        out: &mut String,
-    ) -> Result<(), RuleFault> {
-        match word {
-            "decided" | "hidden" => print_decision(alloc, word, text, beside, out),
+    fn print(self, alloc: Global, row: Question<'_>, out: &mut String) -> Result<(), RuleFault> {
+        match row.word {
+            "decided" | "hidden" => print_decision(alloc, row, out),
             "file" => {
-                let file = lines(alloc, text, &LINES)?;
+                let file = lines(alloc, row.text, &LINES)?;
                 print_file(alloc, file.as_str(), out)
             }
             key => {
-                let line = lines(alloc, text, &[])?;
+                let line = lines(alloc, row.text, &[])?;
                 print_value(alloc, key, line.as_str(), out)
             }
         }

@@ -1,4 +1,4 @@
-use crate::assertion::{Asking, assert_table, found};
+use crate::tests::assertion::{Asking, Question, assert_table, found};
 use attr_list::{AttrFault, Attrs, Value, read_value};
 use slp_text::{NoMemory, TagList};
 use std::alloc::Global;
@@ -36,36 +36,22 @@ fn print_list(alloc: Global, text: &str, out: &mut String) -> Result<(), AttrFau
     Ok(())
 }
 
-fn print_with_list(
-    alloc: Global,
-    text: &str,
-    is_union: bool,
-    more: &str,
-    out: &mut String,
-) -> Result<(), AttrFault> {
-    let attrs = Attrs::parse(alloc, text)?;
-    let more = Attrs::parse(alloc, more)?;
-    let made = if is_union {
-        attrs.union(alloc, &more)?
-    } else {
-        attrs.updated(alloc, &more)?
+fn print_with_list(alloc: Global, row: Question<'_>, out: &mut String) -> Result<(), AttrFault> {
+    let attrs = Attrs::parse(alloc, row.text)?;
+    let more = Attrs::parse(alloc, row.beside)?;
+    let made = match row.word {
+        "union" => attrs.union(alloc, &more)?,
+        _ => attrs.updated(alloc, &more)?,
     };
     made.print_into(out)
 }
 
-fn print_with_tags(
-    alloc: Global,
-    text: &str,
-    is_selected: bool,
-    tags: &str,
-    out: &mut String,
-) -> Result<(), AttrFault> {
-    let attrs = Attrs::parse(alloc, text)?;
-    let tags = found(TagList::parse(alloc, tags))?;
-    let made = if is_selected {
-        attrs.select(alloc, &tags)?
-    } else {
-        attrs.without(alloc, &tags)?
+fn print_with_tags(alloc: Global, row: Question<'_>, out: &mut String) -> Result<(), AttrFault> {
+    let attrs = Attrs::parse(alloc, row.text)?;
+    let tags = found(TagList::parse(alloc, row.beside))?;
+    let made = match row.word {
+        "selected" => attrs.select(alloc, &tags)?,
+        _ => attrs.without(alloc, &tags)?,
     };
     made.print_into(out)
 }
@@ -73,21 +59,12 @@ fn print_with_tags(
 impl Asking for Attributes {
     type Fault = AttrFault;
 
-    fn print(
-        self,
-        alloc: Global,
-        word: &str,
-        text: &str,
-        beside: &str,
-        out: &mut String,
-    ) -> Result<(), AttrFault> {
-        match word {
-            "value" => print_value(alloc, text, out),
-            "list" => print_list(alloc, text, out),
-            "union" => print_with_list(alloc, text, true, beside, out),
-            "updated" => print_with_list(alloc, text, false, beside, out),
-            "selected" => print_with_tags(alloc, text, true, beside, out),
-            _ => print_with_tags(alloc, text, false, beside, out),
+    fn print(self, alloc: Global, row: Question<'_>, out: &mut String) -> Result<(), AttrFault> {
+        match row.word {
+            "value" => print_value(alloc, row.text, out),
+            "list" => print_list(alloc, row.text, out),
+            "union" | "updated" => print_with_list(alloc, row, out),
+            _ => print_with_tags(alloc, row, out),
         }
     }
 }

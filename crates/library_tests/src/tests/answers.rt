@@ -1,5 +1,5 @@
-use crate::assertion::{Asking, assert_table};
-use crate::messages::{bytes_of, put_bytes};
+use crate::tests::assertion::{Asking, Question, assert_table};
+use crate::tests::messages::{bytes_of, put_bytes};
 use access_rules::Addr;
 use slp_answer::{is_change, refusal};
 use slp_text::NoMemory;
@@ -27,16 +27,9 @@ fn print_refusal(alloc: Global, bytes: &[u8], out: &mut String) -> Result<(), No
 impl Asking for Answers {
     type Fault = NoMemory;
 
-    fn print(
-        self,
-        alloc: Global,
-        word: &str,
-        text: &str,
-        _beside: &str,
-        out: &mut String,
-    ) -> Result<(), NoMemory> {
-        let bytes = bytes_of(alloc, text)?;
-        match word {
+    fn print(self, alloc: Global, row: Question<'_>, out: &mut String) -> Result<(), NoMemory> {
+        let bytes = bytes_of(alloc, row.text)?;
+        match row.word {
             "change" if is_change(bytes.as_slice()) => Ok(out.push_str("yes")?),
             "change" => Ok(out.push_str("no")?),
             _ => print_refusal(alloc, bytes.as_slice(), out),

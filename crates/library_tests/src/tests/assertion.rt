@@ -3,20 +3,21 @@ use std::alloc::{AllocError, Global};
 use std::fmt::Debug;
 use std::process::Abort;
 
+/// A question of one word on a text and one beside it.
+#[derive(Clone, Copy)]
+pub struct Question<'a> {
+    pub word: &'a str,
+    pub text: &'a str,
+    pub beside: &'a str,
+}
+
 /// What is asked about texts, in the rows of a table.
 pub trait Asking: Copy {
     /// Why a text has no answer.
     type Fault: Debug + Copy;
 
-    /// Appends the answer to a question of one word on a text and one beside it.
-    fn print(
-        self,
-        alloc: Global,
-        word: &str,
-        text: &str,
-        beside: &str,
-        out: &mut String,
-    ) -> Result<(), Self::Fault>;
+    /// Appends the answer to a question.
+    fn print(self, alloc: Global, row: Question<'_>, out: &mut String) -> Result<(), Self::Fault>;
 }
 
 /// What was read, where no fault is looked for.
@@ -82,11 +83,13 @@ pub fn lines(alloc: Global, text: &str, parts: &[(&str, &str)]) -> Result<String
 fn is_answered<A: Asking>(alloc: Global, asking: A, row: &str) -> Result<bool, AllocError> {
     let row = whole(alloc, row)?;
     let mut columns = row.as_str().split('¦');
-    let word = columns.next().unwrap_or("");
-    let text = columns.next().unwrap_or("");
-    let beside = columns.next().unwrap_or("");
+    let question = Question {
+        word: columns.next().unwrap_or(""),
+        text: columns.next().unwrap_or(""),
+        beside: columns.next().unwrap_or(""),
+    };
     let mut out = String::new(alloc);
-    if let Err(fault) = asking.print(alloc, word, text, beside, &mut out) {
+    if let Err(fault) = asking.print(alloc, question, &mut out) {
         write!(out, "! {fault:?}")?;
     }
     Ok(out.as_str() == columns.next().unwrap_or(""))

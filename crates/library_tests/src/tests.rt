@@ -1,0 +1,15 @@
+mod addresses;
+mod answers;
+mod assertion;
+mod attributes;
+mod configurations;
+mod directories;
+mod entries;
+mod filters;
+mod messages;
+mod registries;
+mod rules;
+mod services;
+mod streams;
+mod templates;
+mod texts;
