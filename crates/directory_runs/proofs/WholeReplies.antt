@@ -33,31 +33,23 @@ use Rattle.directory_runs.specs.Promises.{HoldsExactly, IsAdvert, is_overflowed}
 
 -- ---- the flag
 
-flag_is_kept : (a b c : Bool) → (flags_of (word_of (record { overflow = a; fresh = b; multicast = c }))).overflow ≡ a
-flag_is_kept true true true = refl
-flag_is_kept true true false = refl
-flag_is_kept true false true = refl
-flag_is_kept true false false = refl
-flag_is_kept false true true = refl
-flag_is_kept false true false = refl
-flag_is_kept false false true = refl
-flag_is_kept false false false = refl
-
-word_is_short : (a b c : Bool) → word_of (record { overflow = a; fresh = b; multicast = c }) < 2 ^ 16
-word_is_short true true true = lit< tt
-word_is_short true true false = lit< tt
-word_is_short true false true = lit< tt
-word_is_short true false false = lit< tt
-word_is_short false true true = lit< tt
-word_is_short false true false = lit< tt
-word_is_short false false true = lit< tt
-word_is_short false false false = lit< tt
+-- the flag is read as it was written, in a word of 16 bits
+word_keeps : (a b c : Bool) → let w = word_of (record { overflow = a; fresh = b; multicast = c }) in ((flags_of w).overflow ≡ a) × (w < 2 ^ 16)
+word_keeps true true true = (refl, lit< tt)
+word_keeps true true false = (refl, lit< tt)
+word_keeps true false true = (refl, lit< tt)
+word_keeps true false false = (refl, lit< tt)
+word_keeps false true true = (refl, lit< tt)
+word_keeps false true false = (refl, lit< tt)
+word_keeps false false true = (refl, lit< tt)
+word_keeps false false false = (refl, lit< tt)
 
 overflow_of : (m : Message) → is_overflowed (plain_bytes m) ≡ (header_of m).flags.overflow
 overflow_of m =
     let f = (header_of m).flags in
-    let word : (fields_of (plain_bytes m)).flags ≡ word_of f = two_again (word_of f) (drop 7 (plain_bytes m)) (word_is_short f.overflow f.fresh f.multicast) in
-    ap (λ (w : ℕ). (flags_of w).overflow) word ∙ flag_is_kept f.overflow f.fresh f.multicast
+    let kept = word_keeps f.overflow f.fresh f.multicast in
+    let word : (fields_of (plain_bytes m)).flags ≡ word_of f = two_again (word_of f) (drop 7 (plain_bytes m)) kept.1 in
+    ap (λ (w : ℕ). (flags_of w).overflow) word ∙ kept.0
 
 -- ---- what is cut, and is not
 
