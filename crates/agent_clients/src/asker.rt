@@ -1,4 +1,4 @@
-ghost use Rattle.std.specs.Prelude.{◌≡◌, ℕ, Bool, List, true, false, Ok, Err};
+ghost use Rattle.std.specs.Prelude.{◌≡◌, ℕ, Bool, List, Ok, Err};
 ghost use Rattle.agent_clients.specs.Asking.{happening_of};
 ghost use Rattle.agent_clients.specs.Runs.{Goes};
 ghost use Rattle.agent_clients.specs.Wires.{Deed, Starts, Acts, Tells, Takes, Does, TakesAll, TakesPiece, asker_of};
@@ -140,7 +140,7 @@ impl Asker {
         }
     }
 
-    // Waits for a datagram until a moment.
+    // Waits until a moment: for bytes of the stream where it is open, else for a datagram.
     fn wait<W: Wire>(
         &mut self,
         alloc: Global,
@@ -148,31 +148,19 @@ impl Asker {
         buffer: &mut [u8],
         moment: u32,
     ) -> Result<Step, ClientFault>
-        requires { self.old.is_open ≡ false }
         ensures { Goes W.may Does wire.old (Acts self.old (Ok (step.Wait moment))) wire.new (Acts self.new result) }
     {
+        if self.is_open {
+            return match wire.read(moment, buffer) {
+                Ok(Some(count)) => self.take_now(alloc, wire, &buffer[..count]),
+                Ok(None) => self.tell(alloc, wire, Event::Tick),
+                Err(_) => self.tell(alloc, wire, Event::StreamFailed),
+            };
+        }
         match wire.receive(moment, buffer) {
             Ok(Some(count)) => self.tell(alloc, wire, Event::Datagram(&buffer[..count])),
             Ok(None) => self.tell(alloc, wire, Event::Tick),
             Err(fault) => Err(fault),
-        }
-    }
-
-    // Waits for bytes of the stream until a moment.
-    fn read<W: Wire>(
-        &mut self,
-        alloc: Global,
-        wire: &mut W,
-        buffer: &mut [u8],
-        moment: u32,
-    ) -> Result<Step, ClientFault>
-        requires { self.old.is_open ≡ true }
-        ensures { Goes W.may Does wire.old (Acts self.old (Ok (step.Wait moment))) wire.new (Acts self.new result) }
-    {
-        match wire.read(moment, buffer) {
-            Ok(Some(count)) => self.take_now(alloc, wire, &buffer[..count]),
-            Ok(None) => self.tell(alloc, wire, Event::Tick),
-            Err(_) => self.tell(alloc, wire, Event::StreamFailed),
         }
     }
 
@@ -190,13 +178,7 @@ impl Asker {
             Step::Done => Ok(Step::Done),
             Step::Send => self.send(alloc, wire),
             Step::OpenStream => self.open(alloc, wire),
-            Step::Wait(moment) => {
-                if self.is_open {
-                    self.read(alloc, wire, buffer, moment)
-                } else {
-                    self.wait(alloc, wire, buffer, moment)
-                }
-            }
+            Step::Wait(moment) => self.wait(alloc, wire, buffer, moment),
         }
     }
 }
