@@ -83,28 +83,6 @@ where
     Ok(())
 }
 
-// Starts them all, or has those end that were started, before they did anything.
-fn start_all<'s, E, R, S, T>(
-    rt: &'s R,
-    scope: &Scope<'s, E>,
-    signals: &'s Signals,
-    jobs: Vec<Job<S, T>>,
-    started: &mut Started,
-) -> Result<(), StartFault>
-where
-    R: Threads + Wait + Clock + Sync,
-    S: Serve + Drop + Send + 's,
-    T: Task + Drop + Send + 's,
-{
-    let door = signals.door.lock(rt);
-    let told = start(rt, scope, signals, jobs, started);
-    if told.is_err() {
-        signals.stop.store(true, Ordering::SeqCst);
-    }
-    drop(door);
-    told
-}
-
 // The status of an agent one of whose loops ended, beside those that ended before it.
 fn end_status(before: u8, told: Result<(), LoopFault>) -> u8
     ensures { result ≡ spec.end_status before told }
@@ -125,7 +103,8 @@ fn join_all<R: Threads>(rt: &R, started: Started) -> u8 {
     status
 }
 
-// Runs the jobs on threads of a scope, while the console lasts on this one.
+// Runs the jobs on threads of a scope, while the console lasts on this one. Where one can't be started, those that were end before
+// they did anything.
 fn serve_in<'s, E, R, S, T, C>(
     rt: &'s R,
     scope: &Scope<'s, E>,
@@ -141,7 +120,12 @@ where
 {
     let mut console = console;
     let mut started = Vec::with_capacity(alloc, jobs.len())?;
-    let told = start_all(rt, scope, signals, jobs, &mut started);
+    let door = signals.door.lock(rt);
+    let told = start(rt, scope, signals, jobs, &mut started);
+    if told.is_err() {
+        signals.stop.store(true, Ordering::SeqCst);
+    }
+    drop(door);
     if told.is_ok() {
         console.run(&signals.stop);
     }
