@@ -40,6 +40,8 @@ impl<'a, R: Registry> Model for Grounds<'a, R> {
 
 impl<'a, R: Registry> Grounds<'a, R> {
     // What the rules say of an action on what a registrant has of a type in a scope.
+    // Inlined, so that the deed lies in registers.
+    #[inline(always)]
     fn rule_in<'b>(
         &self,
         action: Action,
