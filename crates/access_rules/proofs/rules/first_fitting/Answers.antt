@@ -1,5 +1,5 @@
 use Rattle.std.proofs.Common.{◌≡◌, ◌<◌, ◌≤◌, ℕ, suc, Bool, true, false, cond, List, [], ◌∷◌, ◌+◌, drop, drop-cons, add-one, get_or, inl, inr, refl, length, Some, None, sym, ap, ◌∙◌, arith}
-use Rattle.std.specs.Prelude.{nat_lt, position}
+use Rattle.std.specs.Prelude.{nat_lt, position, slice_get}
 use Rattle.std.specs.List.{position_or_len}
 use Rattle.std.proofs.lemmas.Bool.{cases_lt}
 use Rattle.std.proofs.lemmas.Bool.Decides.{nat_tests}
@@ -40,10 +40,18 @@ one_more p xs at x within before is fails k d less = elim (cases_lt k at) [
 ]
 
 -- what the first of what is left is
-first_left : {A : Type 0} (xs more : List A) (at : ℕ) (x : A) → at < length xs → drop at xs ≡ x ∷ more → (x ≡ get_or xs at x) × (drop (at + 1) xs ≡ more)
-first_left xs more at x within left =
-    let is : x ∷ more ≡ get_or xs at x ∷ drop (suc at) xs = sym left ∙ drop-cons xs at x within in
-    (cc, ap (λ n. drop n xs) (add-one at) ∙ cc)
+record IsFirstLeft {A : Type 0} (xs more : List A) (at : ℕ) (x : A) : Type 0 where
+  within : at < length xs
+  is : x ≡ get_or xs at x
+  there : slice_get xs at ≡ Some x
+  left : drop (at + 1) xs ≡ more
+
+first_left : {A : Type 0} (xs rest more : List A) (at : ℕ) (x : A) → at + length rest ≡ length xs → drop at xs ≡ rest → rest ≡ x ∷ more → IsFirstLeft xs more at x
+first_left xs rest more at x count left cut =
+    let within : at < length xs = omega (arith, count, ap length cut) in
+    let is : x ∷ more ≡ get_or xs at x ∷ drop (suc at) xs = sym (left ∙ cut) ∙ drop-cons xs at x within in
+    let same : x ≡ get_or xs at x = cc in
+    record { within = within; is = same; there = slice_get-get_or xs at x within ∙ ap Some (sym same); left = ap (λ n. drop n xs) (add-one at) ∙ cc }
 
 pub loop-rule-init : goal.loop-rule-init
 loop-rule-init c = record {
@@ -55,34 +63,21 @@ loop-rule-init c = record {
 pub returns-then-fits-clause-place : goal.returns-then-fits-clause-place
 returns-then-fits-clause-place c =
     let now = c.loop-rule.invariant in
-    let rules = c.args.rules.now in
-    let rule = c.in-Some.rule.now in
-    let cut = c.in-Some.ensures.cases in
-    let within : c.loop-rule.place < length rules = omega (arith, now.count, cut.1) in
-    let first = first_left rules c.in-Some.more.now c.loop-rule.place rule within (now.left ∙ cut.0) in
-    found (fits (deed_in c.args.deed.now) c.args.scope.now) rules c.loop-rule.place rule within now.passed first.0 (sym c.fits.ensures ∙ c.if-fits.true)
+    let first = first_left c.args.rules.now c.loop-rule.rest.now c.in-Some.more.now c.loop-rule.place c.in-Some.rule.now now.count now.left c.in-Some.ensures.cases.0 in
+    found (fits (deed_in c.args.deed.now) c.args.scope.now) c.args.rules.now c.loop-rule.place c.in-Some.rule.now first.within now.passed first.is (sym c.fits.ensures ∙ c.if-fits.true)
 
 pub returns-then-fits-clause-rule : goal.returns-then-fits-clause-rule
 returns-then-fits-clause-rule c =
     let now = c.loop-rule.invariant in
-    let rules = c.args.rules.now in
-    let rule = c.in-Some.rule.now in
-    let cut = c.in-Some.ensures.cases in
-    let within : c.loop-rule.place < length rules = omega (arith, now.count, cut.1) in
-    let first = first_left rules c.in-Some.more.now c.loop-rule.place rule within (now.left ∙ cut.0) in
-    slice_get-get_or rules c.loop-rule.place rule within ∙ ap Some (sym first.0)
+    (first_left c.args.rules.now c.loop-rule.rest.now c.in-Some.more.now c.loop-rule.place c.in-Some.rule.now now.count now.left c.in-Some.ensures.cases.0).there
 
 pub loop-rule-preserved : goal.loop-rule-preserved
 loop-rule-preserved c =
     let now = c.loop-rule.invariant in
-    let rules = c.args.rules.now in
-    let rule = c.in-Some.rule.now in
-    let cut = c.in-Some.ensures.cases in
-    let within : c.loop-rule.place < length rules = omega (arith, now.count, cut.1) in
-    let first = first_left rules c.in-Some.more.now c.loop-rule.place rule within (now.left ∙ cut.0) in record {
-      left = first.1;
-      count = omega (arith, now.count, cut.1);
-      passed = one_more (fits (deed_in c.args.deed.now) c.args.scope.now) rules c.loop-rule.place rule within now.passed first.0 (sym c.fits.ensures ∙ c.if-fits.false);
+    let first = first_left c.args.rules.now c.loop-rule.rest.now c.in-Some.more.now c.loop-rule.place c.in-Some.rule.now now.count now.left c.in-Some.ensures.cases.0 in record {
+      left = first.left;
+      count = omega (arith, now.count, c.in-Some.ensures.cases.1);
+      passed = one_more (fits (deed_in c.args.deed.now) c.args.scope.now) c.args.rules.now c.loop-rule.place c.in-Some.rule.now first.within now.passed first.is (sym c.fits.ensures ∙ c.if-fits.false);
     }
 
 pub returns-clause-place : goal.returns-clause-place
