@@ -62,8 +62,8 @@ impl<'a, R: Registry> Grounds<'a, R> {
         Finding::by_rules(verdict, kind, scope)
     }
 
-    /// What they say of it in some scopes, if there are any: what denies it in the first of them, in key order, in which it is denied, else
-    /// what allows it in the first of all. Each scope is asked once, and no memory is taken.
+    /// What the rules say of an action on what a registrant has of a type in some scopes, if there are any: what denies it in the first of
+    /// them, in key order, in which it is denied, else what allows it in the first of all. Each scope is asked once, and no memory is taken.
     pub fn rule<'b>(
         &self,
         action: Action,

@@ -1,4 +1,4 @@
-ghost use Rattle.std.specs.Prelude.{◌≡◌, IfOk};
+ghost use Rattle.std.specs.Prelude.{◌≡◌, false, true, IfOk};
 ghost use Rattle.std.specs.Option.{option_copied};
 ghost use Rattle.directory_judge.specs.Judgements.{because_of, because_on, by_step, code_by, finding_code};
 
@@ -97,6 +97,7 @@ pub struct Finding<'a> {
 impl<'a> Finding<'a> {
     /// Nobody had to decide, on a type, where one is known.
     pub fn by_nobody(kind: Option<&'a ServiceType>) -> Finding<'a>
+        ensures allow { result.allow ≡ true }
         ensures code { finding_code result ≡ code_by Decider.Nobody }
         ensures because { because_of result ≡ by_step Decider.Nobody (option_copied kind.entry) }
     {
@@ -110,6 +111,7 @@ impl<'a> Finding<'a> {
 
     /// A step denies, by which a type may be known.
     pub fn deny(decider: Decider, kind: Option<&'a ServiceType>) -> Finding<'a>
+        ensures allow { result.allow ≡ false }
         ensures code { finding_code result ≡ code_by decider }
         ensures because { because_of result ≡ by_step decider (option_copied kind.entry) }
     {
