@@ -95,8 +95,8 @@ scripts:
 
 bench:
 	@bench/instructions bin/slpreplay
-	@make/build view_rows
-	@bench/views bin/view_rows
+	@make/build script_rows
+	@bench/views bin/script_rows
 	@bench/server bin/slpda
 
 refusals:

@@ -6,8 +6,9 @@ use Rattle.std.specs.Option.{option_map_or}
 use Rattle.std.proofs.lemmas.Bool.Decides.{nat_tests}
 use Rattle.std.proofs.lemmas.List.Folds.{list_any-append}
 use Rattle.std.proofs.lemmas.Option.{slice_get_past}
-use Rattle.slp_text.specs.Tags.{selects}
-use Rattle.access_rules.specs.Deciding.{Deed, SiteRules, IsPart, SeeAlike, action_eq, allows_kind, allows_scope, deciding, fits, hides_in, holds, is_hide_about, is_hiding, is_own, is_rule_about, rules_in, verdict_at}
+use Rattle.slp_tags.specs.Tags.{selects}
+use Rattle.access_rules.specs.Deciding.{Deed, SiteRules, IsPart, SeeAlike, action_eq, allows_kind, allows_scope, deciding, fits, hides_in, is_hide_about, is_hiding, is_own, is_rule_about, rules_in, verdict_at}
+use Rattle.addresses.specs.Addresses.{holds}
 use Rattle.access_rules.specs.declared.hide.Hide.{Hide}
 use Rattle.access_rules.specs.declared.rule.Action.TheVariants.{See}
 use Rattle.access_rules.specs.declared.rule.Rule.{Rule}

@@ -1,8 +1,8 @@
 -- Which rule decides, and which tags are hidden.
-use Rattle.std.specs.Prelude.{◌≡◌, ℕ, Bool, true, false, ◌-◌, ◌/◌, ◌^◌, ◌==◌, ◌&&◌, ◌||◌, not, nat_le, List, [], ◌++◌, length, position, slice_get, Option, Some, None}
+use Rattle.std.specs.Prelude.{◌≡◌, ℕ, Bool, true, false, ◌==◌, ◌&&◌, ◌||◌, not, List, [], ◌++◌, length, position, slice_get, Option, Some, None}
 use Rattle.std.specs.List.{list_all, list_any}
 use Rattle.std.specs.Option.{option_map_or}
-use Rattle.slp_text.specs.Tags.{selects}
+use Rattle.slp_tags.specs.Tags.{selects}
 use Rattle.slp_text.specs.Words.{bytes_eq}
 use Rattle.service_url.specs.Types.{covers}
 use Rattle.access_rules.specs.declared.about.RulesAbout.{RulesAbout}
@@ -11,13 +11,9 @@ use Rattle.access_rules.specs.declared.hide.Hide.{Hide}
 use Rattle.access_rules.specs.declared.rule.Action.{Action}
 use Rattle.access_rules.specs.declared.rule.Action.TheVariants.{Register, Withdraw, See}
 use Rattle.access_rules.specs.declared.rule.Deed as code
-use Rattle.access_rules.specs.declared.rule.Prefix.{Prefix}
+use Rattle.addresses.specs.Addresses.{holds}
 use Rattle.access_rules.specs.declared.rule.Rule.{Rule}
 use Rattle.access_rules.specs.declared.rules.Verdict.{Verdict}
-
--- the first bits of a prefix are those of the address; bits after them are ignored
-abbrev pub holds : Prefix → ℕ → Bool
-holds p addr = nat_le p.bits 32 && (p.addr / 2 ^ (32 - p.bits) == addr / 2 ^ (32 - p.bits))
 
 abbrev pub action_eq : Action → Action → Bool
 action_eq Register Register = true

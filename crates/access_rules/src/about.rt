@@ -2,10 +2,10 @@
 ghost use Rattle.std.specs.Prelude.{◌≡◌, ℕ, List, length, nat_eq};
 ghost use Rattle.access_rules.specs.Deciding.{deciding, deed_in, hides_in, is_hidden, is_hidden_from, part_in, IsPart, SeeAlike};
 
-use crate::address::Addr;
 use crate::hide::{FittingHides, Hide, fitting, some_hides};
 use crate::rule::{Action, Deed, Rule, is_from};
 use crate::rules::{Rules, first_fitting};
+use addresses::Addr;
 use slp_text::Key;
 
 // What names the askers that it is about.
@@ -40,16 +40,10 @@ impl Concerns for Hide {
     }
 }
 
-// So few are asked of each entry sooner than looked through once before.
-const FEW: usize = 8;
-
-// The part of a list from the first that is about an asker to the last; all of a short one.
+// The part of a list from the first that is about an asker to the last.
 fn part_about<T: Concerns>(all: &[T], asker: Addr) -> &[T]
     ensures { IsPart (λ x. T.is_about x asker) result.now all.now }
 {
-    if all.len() <= FEW {
-        return all;
-    }
     let mut part = all;
     while let Some((first, rest)) = part.split_first() {
         if first.concerns(asker) {
@@ -66,8 +60,8 @@ fn part_about<T: Concerns>(all: &[T], asker: Addr) -> &[T]
     part
 }
 
-/// The rules and the hide tables that are about what one asker sees: each from the first to the last, with those of others that lie between. Of few
-/// they are all. A question is answered by these alone.
+/// The rules and the hide tables that are about what one asker sees: each from the first to the last, with those of others that lie between. A
+/// question is answered by these alone.
 #[derive(Clone, Copy)]
 pub struct RulesAbout<'a> {
     rules: &'a [Rule],

@@ -3,10 +3,10 @@ ghost use Rattle.std.specs.Prelude.{◌≡◌, ◌<◌, IfSome};
 ghost use Rattle.access_rules.specs.Deciding.{deciding, deed, is_hidden, number};
 ghost use Rattle.access_rules.specs.declared.rule.Action.TheVariants.{See};
 
-use crate::address::Addr;
 use crate::hide::some_hides;
 use crate::rule::{Action, Deed};
 use crate::rules::{Rules, Verdict};
+use addresses::Addr;
 use service_url::ServiceType;
 use slp_text::Key;
 

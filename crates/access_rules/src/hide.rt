@@ -1,10 +1,14 @@
 //! Tables that hide attributes.
-ghost use Rattle.std.specs.Prelude.{◌≡◌, ℕ, List};
-ghost use Rattle.access_rules.specs.Deciding.{deed_in, is_hidden_by, is_hidden_from, is_hiding, some_hides};
+ghost use Rattle.std.specs.Prelude.{◌≡◌, ℕ, List, length, nat_eq};
+ghost use Rattle.slp_tags.specs.Tags.{selects};
+ghost use Rattle.access_rules.specs.Deciding.{deed_in, is_hidden_from, is_hiding, some_hides};
 
-use crate::rule::{Deed, Prefix, is_from, is_in_scope, is_of_kind};
+use crate::rule::{Deed, is_from, is_in_scope, is_of_kind};
+use addresses::Prefix;
 use service_url::ServiceType;
-use slp_text::{Key, Row, ScopeList, TagList, Text};
+use slp_scopes::ScopeList;
+use slp_tags::TagList;
+use slp_text::{Key, Row, Text};
 
 /// A hide table of the rule file: tags that are not shown to these askers.
 #[derive(Drop)]
@@ -41,16 +45,30 @@ pub struct FittingHides<'a> {
     rest: &'a [Hide],
 }
 
+// Inlined, so that a tag costs no more than its look-up where one table fits.
 impl FittingHides<'_> {
-    /// Whether one of them hides a tag of what is asked in that scope. The first is known to fit, those after it are asked. Takes no
-    /// memory.
-    // Inlined, so that a tag costs no more than its look-up where one table fits.
+    /// Whether the first of them, which is known to fit, selects a tag. Takes no memory.
     #[inline(always)]
-    pub fn hide_tag(&self, deed: &Deed<'_>, scope: &Key, tag: &Key) -> bool
-        ensures { result ≡ is_hidden_by self.now (deed_in deed.now) scope.now tag.now }
+    pub fn first_hides(&self, tag: &Key) -> bool
+        ensures { result ≡ selects self.now.first.now.tags tag.now }
     {
         self.first.tags.selects(tag)
-            || (!self.rest.is_empty() && some_hides(self.rest, deed, scope, tag))
+    }
+
+    /// Whether no table stands after the first. Takes no memory.
+    #[inline(always)]
+    pub fn is_one(&self) -> bool
+        ensures { result ≡ nat_eq (length self.now.rest.now) 0 }
+    {
+        self.rest.is_empty()
+    }
+
+    /// Whether one of those after the first fits what is asked in a scope, and selects a tag: each is asked. Takes no memory.
+    #[inline(always)]
+    pub fn others_hide(&self, deed: &Deed<'_>, scope: &Key, tag: &Key) -> bool
+        ensures { result ≡ some_hides self.now.rest.now (deed_in deed.now) scope.now tag.now }
+    {
+        some_hides(self.rest, deed, scope, tag)
     }
 }
 

@@ -1,11 +1,8 @@
 //! What holds of every list of rules. The functions do nothing: their contracts are the laws.
-ghost use Rattle.std.specs.Prelude.{◌≡◌, ◌≢◌, ◌<◌, ◌&&◌, ℕ, true, false, List, slice_get, Some, None, Ok};
+ghost use Rattle.std.specs.Prelude.{◌≡◌, ◌≢◌, ◌<◌, ◌&&◌, ℕ, true, false, List, slice_get, Some, None};
 ghost use Rattle.std.specs.List.{list_all, list_any};
-ghost use Rattle.toml.specs.Data.{Members};
 ghost use Rattle.access_rules.specs.Deciding.{Deed, SiteRules, deciding, deed, fits, is_own, is_owners, is_without_owners, rules_in};
-ghost use Rattle.access_rules.specs.RuleFiles.{rules_in_table, version_in};
 ghost use Rattle.access_rules.specs.declared.rule.Action.{Action};
-ghost use Rattle.access_rules.specs.declared.version.Version.TheVariants.{One};
 ghost use Rattle.access_rules.specs.declared.rule.Rule.{Rule};
 
 /// The rule that decides fits, its word is the verdict, and no rule before it fits.
@@ -39,9 +36,4 @@ pub fn owners_alone_are_allowed()
 pub fn without_owners_nobody_is_asked_for()
     ensures { (rules : SiteRules) (asker : ℕ) (action : Action) (kind : List ℕ) (one other : ℕ) (scope : List ℕ) → is_without_owners rules ≡ true
         → deciding rules (deed asker action kind one) scope ≡ deciding rules (deed asker action kind other) scope }
-{}
-
-/// A file of version 1 has no rules about owners.
-pub fn the_first_version_has_no_owners()
-    ensures { (table : Members) (rules : SiteRules) → version_in table ≡ Some One → rules_in_table table ≡ Ok rules → is_without_owners rules ≡ true }
 {}

@@ -1,6 +1,6 @@
 -- What an agent prints of a reload and a sweep, and what it answers where a loop fails.
 use Rattle.std.specs.Prelude.{ℕ, Result, Ok, Err, List, [], ◌∷◌, ◌++◌, codes}
-use Rattle.access_rules.specs.declared.fault.RuleFault.TheVariants as rule_fault
+use Rattle.rule_files.specs.declared.fault.RuleFault.TheVariants as rule_fault
 use Rattle.site_reports.specs.Reports.{rule_fault_text, ruled_text}
 use Rattle.published_view.specs.declared.fault.ViewFault.{ViewFault}
 use Rattle.slp_loops.specs.declared.fault.LoopFault.{LoopFault}

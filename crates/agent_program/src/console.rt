@@ -10,9 +10,10 @@ ghost use Rattle.published_view.specs.declared.fault.ViewFault.{ViewFault};
 
 use crate::threads::Task;
 use crate::words::{Act, Input, Word, hear};
-use access_rules::{RuleFault, Rules};
+use access_rules::Rules;
 use arrayvec::ArrayVec;
 use published_view::{DirectoryWriter, Naming, ViewFault};
+use rule_files::RuleFault;
 use site_opening::{StartFault, rules_at};
 use site_reports::print_rules;
 use slp_loops::{Log, Moments, WallClock};

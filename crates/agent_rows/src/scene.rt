@@ -1,23 +1,22 @@
 //! The rows of a scene.
-use crate::fake::{Answers, Fake};
-use crate::handed::Handed;
+mod asking;
+mod calling;
+
+use crate::fake::Answers;
 use crate::kinds::{AgentRow, PlaceRow, PrepareRow, Row, StreamRow, ToolRow, Way};
-use crate::printing::{Times, print_bytes, print_lines, print_request, print_runs};
+use crate::printing::{Times, print_bytes, print_runs};
 use crate::props::Props;
-use crate::sockets::{
-    Sent, free_port, pair, read_message, receive, replies_in_order, seconds, send_datagrams,
-    send_messages, socket, stream,
-};
-use crate::words::{address_of, cut, expanded, message_of, number_of, words_of};
+use crate::sockets::{Sent, free_port, seconds, stream};
+use crate::words::{address_of, cut, expanded, message_of, number_of};
 use site_check::check_run;
 use std::alloc::Global;
 use std::fs::File;
-use std::io::{self, BufRead, BufReader, ErrorKind, Read, Write};
+use std::io::{self, BufReader, Read, Write};
 use std::net::{Ipv4Addr, Net, SocketAddr, TcpListener, TcpStream, UdpSocket};
 use std::rt::Files;
 use std::sync::Wait;
-use std::sync::atomic::{AtomicU64, Ordering};
-use std::thread::{Threads, join};
+use std::sync::atomic::Ordering;
+use std::thread::Threads;
 use std::time::{Clock, Duration};
 use std::{fs, thread};
 use tool_program::tool_run;
@@ -163,189 +162,6 @@ where
         out.write_all(b"> -\n")
     }
 
-    // Sends a datagram, and waits for one.
-    fn ask(&self, message: &[u8], patience: u64) -> io::Result<Vec<u8>> {
-        let socket = socket(self.rt, self.place.from, patience)?;
-        socket.send_to(message, self.peer())?;
-        Ok(receive(self.alloc, &socket)?.0)
-    }
-
-    fn udp(&mut self, text: &str, out: &mut Vec<u8>) -> io::Result<()> {
-        let message = self.message(text)?;
-        match self.ask(message.as_slice(), self.wait()) {
-            Ok(reply) => self.print_reply(reply.as_slice(), out),
-            Err(_) => self.print_no_reply(out),
-        }
-    }
-
-    // Sends a datagram that is not to be answered.
-    fn quiet(&self, text: &str, out: &mut Vec<u8>) -> io::Result<()> {
-        let message = self.message(text)?;
-        match self.ask(message.as_slice(), QUIET) {
-            Ok(reply) => self.print_reply(reply.as_slice(), out),
-            Err(_) => out.write_all(b"> -\n"),
-        }
-    }
-
-    // Closes the valve once all lines are out, sends a datagram whose line the agent then can't write out, and waits until it waits
-    // there. No reply may leave before. Without a message it closes the valve alone.
-    fn hold(&mut self, text: &str, out: &mut Vec<u8>) -> io::Result<()> {
-        self.props.valve.close(self.rt);
-        if text.is_empty() {
-            return Ok(());
-        }
-        let message = self.message(text)?;
-        let socket = socket(self.rt, self.place.from, QUIET)?;
-        socket.send_to(message.as_slice(), self.peer())?;
-        if !self.props.valve.is_reached(self.rt) {
-            out.write_all(b"(not held)\n")?;
-        }
-        if receive(self.alloc, &socket).is_ok() {
-            out.write_all(b"(answered)\n")?;
-        }
-        self.held = Some(socket);
-        Ok(())
-    }
-
-    // Opens the valve, and prints the reply to the datagram that was held.
-    fn release(&mut self, out: &mut Vec<u8>) -> io::Result<()> {
-        self.props.valve.open();
-        let Some(socket) = self.held.take() else {
-            return Ok(());
-        };
-        socket.set_read_timeout(Some(Duration::from_millis(self.wait())))?;
-        match receive(self.alloc, &socket) {
-            Ok((reply, _)) => self.print_reply(reply.as_slice(), out),
-            Err(_) => self.print_no_reply(out),
-        }
-    }
-
-    // Opens a stream, which the next rows mean.
-    fn open(&mut self) -> io::Result<()> {
-        let stream = stream(self.rt, self.peer(), self.wait())?;
-        self.streams.push(stream)?;
-        Ok(())
-    }
-
-    // Writes a piece on the stream that was opened last.
-    fn send(&mut self, text: &str) -> io::Result<()> {
-        let piece = self.message(text)?;
-        if let Some(stream) = self.streams.last_mut() {
-            let _ = stream.write_all(piece.as_slice());
-        }
-        Ok(())
-    }
-
-    // A message of the stream that was opened last, or that it ended.
-    fn take(&mut self, out: &mut Vec<u8>) -> io::Result<()> {
-        let Some(stream) = self.streams.last_mut() else {
-            return out.write_all(b"(no stream)\n");
-        };
-        match read_message(self.alloc, stream) {
-            Ok(reply) => self.print_reply(reply.as_slice(), out),
-            Err(e) if matches!(e.kind(), ErrorKind::WouldBlock | ErrorKind::TimedOut) => {
-                self.print_no_reply(out)
-            }
-            Err(_) => out.write_all(b"> closed\n"),
-        }
-    }
-
-    // The same where no message is to come.
-    fn still(&mut self, out: &mut Vec<u8>) -> io::Result<()> {
-        let (wait, patience) = (self.wait(), self.patience);
-        self.set_stream_patience(QUIET)?;
-        let told = self.take(out);
-        self.set_stream_patience(wait)?;
-        self.patience = patience;
-        told
-    }
-
-    // How long the stream that was opened last is read, in milliseconds.
-    fn set_stream_patience(&self, millis: u64) -> io::Result<()> {
-        match self.streams.last() {
-            Some(stream) => stream.set_read_timeout(Some(Duration::from_millis(millis))),
-            None => Ok(()),
-        }
-    }
-
-    // Ends the stream that was opened last, where a byte is taken first and others are left: so it is reset.
-    fn reset(&mut self) {
-        if let Some(mut stream) = self.streams.pop() {
-            let mut byte = [0; 1];
-            let _ = stream.read(&mut byte);
-            drop(stream);
-        }
-    }
-
-    // Sends a message so many times at once from one socket.
-    fn datagrams(&mut self, text: &str) -> io::Result<()> {
-        let (count, text) = cut(text);
-        let mut message = self.message(text)?;
-        let socket = socket(self.rt, self.place.from, self.wait())?;
-        let count = number_of(count, 60_000) as u16;
-        let sent = send_datagrams(socket, self.peer(), message.as_mut_slice(), count)?;
-        self.sent.push(sent)?;
-        Ok(())
-    }
-
-    // Opens so many streams, and writes a message on each.
-    fn streams(&mut self, text: &str) -> io::Result<()> {
-        let (count, text) = cut(text);
-        let mut message = self.message(text)?;
-        for xid in 0..number_of(count, 1_000) {
-            let stream = stream(self.rt, self.peer(), self.wait())?;
-            let numbers = (xid as u16, 1);
-            let sent = send_messages(self.alloc, stream, message.as_mut_slice(), numbers)?;
-            self.sent.push(sent)?;
-        }
-        Ok(())
-    }
-
-    // Opens a stream, and writes a message so many times at once.
-    fn messages(&mut self, text: &str) -> io::Result<()> {
-        let (count, text) = cut(text);
-        let mut message = self.message(text)?;
-        let stream = stream(self.rt, self.peer(), self.wait())?;
-        let numbers = (0, number_of(count, 60_000) as u16);
-        let sent = send_messages(self.alloc, stream, message.as_mut_slice(), numbers)?;
-        self.sent.push(sent)?;
-        Ok(())
-    }
-
-    // Waits for the replies to what was sent at once, and prints how many came in order.
-    fn replies(&mut self, out: &mut Vec<u8>) -> io::Result<()> {
-        let mut count = 0u64;
-        for sent in self.sent.iter_mut() {
-            count = count.saturating_add(u64::from(replies_in_order(self.alloc, sent)));
-        }
-        self.sent.clear();
-        writeln!(out, "> {count} replies")
-    }
-
-    // Opens files until no more can be opened, and no socket either.
-    fn take_files(&mut self) -> io::Result<()> {
-        for _ in 0..MOST_FILES {
-            match fs::open(self.rt, "agent.toml") {
-                Ok(file) => self.files.push(file)?,
-                Err(_) => break,
-            }
-        }
-        Ok(())
-    }
-
-    // The next line of the agent's output.
-    fn log(&mut self, out: &mut Vec<u8>) -> io::Result<()> {
-        let patience = Some(Duration::from_millis(self.wait()));
-        self.log.get_ref().set_read_timeout(patience)?;
-        let mut line = Vec::new(self.alloc);
-        let told = self.log.read_until(b'\n', &mut line);
-        if told.is_err() || line.is_empty() {
-            self.patience = self.patience.min(HASTY);
-            return out.write_all(b"(no line)\n");
-        }
-        out.write_all(line.as_slice())
-    }
-
     fn type_in(&mut self, text: &str, end: &str) {
         if let Some(console) = self.console.as_mut() {
             let _ = console.write_all(text.as_bytes());
@@ -354,135 +170,6 @@ where
     }
 
     // The words of the tool, with an address before them.
-    fn words(&self, to: Ipv4Addr, port: u16, line: &str) -> io::Result<Vec<String>> {
-        let line = format!(in self.alloc; "{to}:{port} {line}")?;
-        Ok(words_of(self.alloc, line.as_str())?)
-    }
-
-    fn print_call(&self, status: u8, printed: &[u8], out: &mut Vec<u8>) -> io::Result<()> {
-        print_lines(out, printed, self.times())?;
-        writeln!(out, "= {status}")
-    }
-
-    // Has the tool not be called any more where it had no answer.
-    fn note_status(&mut self, status: u8) {
-        if status == NO_ANSWER {
-            self.patience = 0;
-        }
-    }
-
-    // Calls the tool, whose input begins with a line, and ends after so long. Once it had no answer it is not called any more.
-    fn call(&mut self, after: u64, words: &[String], out: &mut Vec<u8>) -> io::Result<()> {
-        if self.patience == 0 {
-            return out.write_all(b"(not called)\n");
-        }
-        let (mut ours, theirs) = pair(self.rt)?;
-        ours.write_all(b"a\n")?;
-        theirs.set_read_timeout(Some(Duration::from_millis(after.max(1))))?;
-        let mut printed = Vec::new(self.alloc);
-        let handed = Handed {
-            rt: self.rt,
-            moment: &self.props.steady,
-            is_running: true,
-            seconds: &self.props.seconds,
-            asked: &self.props.asked,
-        };
-        let status = tool_run(&handed, self.alloc, words, theirs, &mut printed);
-        self.note_status(status);
-        self.print_call(status, printed.as_slice(), out)
-    }
-
-    // Calls the tool with these words as they are.
-    fn call_by_words(&mut self, line: &str, out: &mut Vec<u8>) -> io::Result<()> {
-        let words = words_of(self.alloc, line)?;
-        self.call(PATIENT, words.as_slice(), out)
-    }
-
-    // Calls the check of a site with these words as they are.
-    fn check(&self, line: &str, out: &mut Vec<u8>) -> io::Result<()> {
-        let words = words_of(self.alloc, line)?;
-        let mut printed = Vec::new(self.alloc);
-        let status = check_run(self.rt, self.alloc, words.as_slice(), &mut printed);
-        self.print_call(status, printed.as_slice(), out)
-    }
-
-    // Calls the tool at the agent.
-    fn tool(&mut self, after: u64, line: &str, out: &mut Vec<u8>) -> io::Result<()> {
-        let words = self.words(self.place.to, self.place.port, line)?;
-        self.call(after, words.as_slice(), out)
-    }
-
-    // Keeps a service registered for so long.
-    fn keep(&mut self, line: &str, out: &mut Vec<u8>) -> io::Result<()> {
-        let (after, words) = cut(line);
-        let words = format!(in self.alloc; "keep {words}")?;
-        self.tool(number_of(after, 10_000), words.as_str(), out)
-    }
-
-    // Calls the tool with a directory that answers what the rows before said.
-    fn serve(&mut self, line: &str, out: &mut Vec<u8>) -> io::Result<()> {
-        if self.patience == 0 {
-            return out.write_all(b"(not called)\n");
-        }
-        let mut fake = Fake::new(self.rt)?;
-        let words = self.words(Ipv4Addr::LOCALHOST, fake.port()?, line)?;
-        let (_ours, theirs) = pair(self.rt)?;
-        let mut printed = Vec::new(self.alloc);
-        let (rt, alloc) = (self.rt, self.alloc);
-        let handed = Handed {
-            rt,
-            moment: &self.props.steady,
-            is_running: true,
-            seconds: &self.props.seconds,
-            asked: &self.props.asked,
-        };
-        let answers = &mut self.answers;
-        let (requests, status) = join(
-            rt,
-            || fake.answer(rt, alloc, answers),
-            || tool_run(&handed, alloc, words.as_slice(), theirs, &mut printed),
-        );
-        self.answers = Answers::none(self.alloc);
-        self.note_status(status);
-        if let Ok(requests) = requests {
-            self.print_requests(requests.as_slice(), out)?;
-        }
-        self.print_call(status, printed.as_slice(), out)
-    }
-
-    fn print_requests(&self, requests: &[Vec<u8>], out: &mut Vec<u8>) -> io::Result<()> {
-        for request in requests {
-            out.write_all(b"< ")?;
-            print_request(out, request.as_slice(), self.times())?;
-            out.write_all(b"\n")?;
-        }
-        Ok(())
-    }
-
-    // Calls the tool with a directory that is silent, by a clock that is handed in.
-    fn silent(&self, line: &str, out: &mut Vec<u8>) -> io::Result<()> {
-        let fake = Fake::new(self.rt)?;
-        let words = self.words(Ipv4Addr::LOCALHOST, fake.port()?, line)?;
-        let (_ours, theirs) = pair(self.rt)?;
-        let moment = AtomicU64::new(0);
-        let handed = Handed {
-            rt: self.rt,
-            moment: &moment,
-            is_running: false,
-            seconds: &self.props.seconds,
-            asked: &self.props.asked,
-        };
-        let (mut printed, mut moments) = (Vec::new(self.alloc), Vec::new(self.alloc));
-        let (_, status) = join(
-            self.rt,
-            || fake.stay_silent(&moment, &mut moments).is_ok(),
-            || tool_run(&handed, self.alloc, words.as_slice(), theirs, &mut printed),
-        );
-        out.write_all(moments.as_slice())?;
-        self.print_call(status, printed.as_slice(), out)
-    }
-
-    // Takes a line of a file, or its end.
     fn take_line(&mut self, mut block: Block, line: &str) -> io::Result<()> {
         if line == "." {
             return fs::write(self.rt, block.name.as_str(), block.text.as_str());

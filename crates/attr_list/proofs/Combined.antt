@@ -9,7 +9,7 @@ use Rattle.std.specs.Ordering.{is_eq, is_lt}
 use Rattle.std.specs.declared.cmp.Ordering.{Ordering}
 use Rattle.std.specs.declared.cmp.Ordering.TheVariants.{Less, Equal, Greater}
 use Rattle.std.proofs.lemmas.Map.Lookups.{exact_bytes}
-use Rattle.slp_text.specs.Tags.{Part, selects}
+use Rattle.slp_tags.specs.Tags.{Part, selects}
 use Rattle.slp_text.specs.Words.{bytes_cmp}
 use Rattle.attr_values.specs.Kinds.{IsValue}
 use Rattle.attr_list.specs.Lists.{Attributes, attributes_of, values_in}

@@ -1,7 +1,7 @@
 -- Texts that are written one after the other, with a comma between each two.
 use Rattle.std.proofs.Common.{◌≡◌, ℕ, ◌+◌, ◌<◌, Bool, true, false, List, [], ◌∷◌, ◌++◌, drop, length, get_or, sym, ap, ◌∙◌, append_assoc, append-nil, drop-cons, add-one}
 use Rattle.slp_text.specs.Ascii.{comma}
-use Rattle.slp_text.specs.Scopes.{comma_list}
+use Rattle.slp_text.specs.Lists.{comma_list}
 use Rattle.slp_text.specs.Steps.{BeginsWith}
 use Rattle.attr_list.specs.Writing.{written_item}
 

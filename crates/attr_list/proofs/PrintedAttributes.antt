@@ -18,13 +18,13 @@ use lib.Utf8.{scalar, scalars}
 use Rattle.slp_text.specs.Ascii.{backslash, comma, equals_sign, left_parenthesis, right_parenthesis}
 use Rattle.slp_text.specs.Escapes.{capital_digit, escaped_text, is_refused, is_reserved, written_character}
 use Rattle.slp_text.specs.Keys.{is_white, key_of}
-use Rattle.slp_text.specs.Scopes.{comma_list}
+use Rattle.slp_text.specs.Lists.{comma_list}
 use Rattle.slp_text.specs.Words.{bytes_cmp, bytes_eq}
 use Rattle.slp_text.specs.declared.escapes.Place.{Place}
 use Rattle.slp_text.specs.declared.escapes.Place.TheVariants as place
-use Rattle.slp_text.proofs.EscapedTexts.{escapable_small, read_again, refused_free, reserved_escapable}
+use Rattle.slp_text.proofs.EscapedTexts.{escapable_small, read_again, refused_free, reserved_escapable, append-scalars, digit-scalar}
 use Rattle.slp_text.proofs.KeySets.{bytes_same}
-use Rattle.slp_text.proofs.PrintedScopes.{append-scalars, digit-scalar, key_of-folded_text}
+use Rattle.slp_text.proofs.KeysOfKeys.{key_of-folded_text}
 use Rattle.attr_values.specs.Kinds.{IsValue}
 use Rattle.attr_values.specs.Values.{escaped_byte, value_text}
 use Rattle.attr_values.specs.declared.value.Value.{Value}

@@ -5,9 +5,9 @@ use Rattle.std.specs.List.{list_all}
 use Rattle.std.proofs.lemmas.Bool.{and_parts}
 use Rattle.slp_text.specs.Ascii.{comma, equals_sign, left_parenthesis, right_parenthesis}
 use Rattle.slp_text.specs.Escapes.{unescaped_text_at}
-use Rattle.slp_text.specs.Keys.{is_white}
+use Rattle.slp_text.specs.Keys.{is_white, folded_text}
 use Rattle.slp_text.specs.Reading.{read_map, read_then}
-use Rattle.slp_text.specs.Scopes.{comma_list, folded_text}
+use Rattle.slp_text.specs.Lists.{comma_list}
 use Rattle.slp_text.specs.declared.escapes.Place.TheVariants as place
 use Rattle.attr_values.specs.Values.{value_of}
 use Rattle.attr_values.specs.declared.fault.AttrFault.{AttrFault}

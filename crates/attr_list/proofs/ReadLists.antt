@@ -4,7 +4,7 @@ use Rattle.std.specs.List.{list_all, onto_first, slice_split, AllByRecursion}
 use Rattle.slp_text.specs.Ascii.{comma}
 use Rattle.slp_text.specs.Keys.{is_white, trim_start}
 use Rattle.slp_text.specs.Reading.{read_all, read_map, read_then}
-use Rattle.slp_text.specs.Scopes.{is_comma}
+use Rattle.slp_text.specs.Lists.{is_comma}
 use Rattle.attr_values.specs.Kinds.{IsValue}
 use Rattle.attr_values.specs.Reading.{IsFault}
 use Rattle.attr_values.specs.Values.{value_of}

@@ -2,12 +2,10 @@
 use Rattle.std.proofs.Common.{◌≡◌, ℕ, true, false, cond, ◌==◌, List, length, Result, Ok, Err, sym, ap, subst, ◌∙◌, chars, encode_utf8_all}
 use Rattle.std.specs.Prelude.{IsUtf8}
 use Rattle.std.proofs.lemmas.Str.{chars_from_encodes, scalars-chars}
-use Rattle.slp_text.specs.Keys.{key_of}
+use Rattle.slp_text.specs.Keys.{key_of, folded_text}
 use Rattle.slp_text.specs.Reading.{read_map, read_then}
-use Rattle.slp_text.specs.Scopes.{folded_text}
 use Rattle.slp_text.specs.declared.faults.TextFault.{TextFault}
-use Rattle.slp_text.proofs.KeysOfKeys.{fixed_key, key-again, key_chars, key_of-chars, scalars-fixed}
-use Rattle.slp_text.proofs.PrintedScopes.{key_of-folded_text}
+use Rattle.slp_text.proofs.KeysOfKeys.{fixed_key, key-again, key_chars, key_of-chars, scalars-fixed, key_of-folded_text}
 use Rattle.attr_values.specs.Reading.{IsFault}
 use Rattle.attr_values.specs.declared.fault.AttrFault.{AttrFault}
 use Rattle.attr_values.specs.declared.fault.AttrFault.TheVariants.{BadEscape, BadTag, BadList, NoMemory}

@@ -6,7 +6,7 @@ use Rattle.std.proofs.lemmas.Bool.Decides.{nat_tests}
 use Rattle.slp_text.specs.Ascii.{comma, right_parenthesis}
 use Rattle.slp_text.specs.Keys.{is_white}
 use Rattle.slp_text.specs.Reading.{read_all, read_map, read_then}
-use Rattle.slp_text.specs.Scopes.{is_comma}
+use Rattle.slp_text.specs.Lists.{is_comma}
 use Rattle.attr_values.specs.Reading.{IsFault}
 use Rattle.attr_values.specs.Rests.{rest_after, rest_of}
 use Rattle.attr_values.specs.Values.{value_of}

@@ -6,7 +6,7 @@ use Rattle.std.specs.List.{list_any}
 use Rattle.std.proofs.lemmas.List.Elements.{filter-append}
 use Rattle.std.proofs.lemmas.Map.Lookups.{exact_bytes}
 use Rattle.slp_text.proofs.KeySets.{bytes_same}
-use Rattle.slp_text.specs.Tags.{Part, selects}
+use Rattle.slp_tags.specs.Tags.{Part, selects}
 use Rattle.slp_text.specs.Words.{bytes_eq}
 use Rattle.attr_list.specs.Elements.{Element}
 use Rattle.attr_list.specs.Lists.{Attributes, attributes_of, distinct_values, held_of, values_named}

@@ -7,7 +7,7 @@ use Rattle.std.proofs.lemmas.List.Folds.{list_all-append}
 use Rattle.slp_text.specs.Ascii.{comma, equals_sign, left_parenthesis, right_parenthesis}
 use Rattle.slp_text.specs.Keys.{is_white}
 use Rattle.slp_text.specs.Reading.{read_map, read_then}
-use Rattle.slp_text.specs.Scopes.{comma_list}
+use Rattle.slp_text.specs.Lists.{comma_list}
 use Rattle.attr_values.specs.declared.fault.AttrFault.{AttrFault}
 use Rattle.attr_values.specs.declared.fault.AttrFault.TheVariants.{BadList, BadTag}
 use Rattle.attr_values.specs.declared.value.Value.{Value}

@@ -8,7 +8,7 @@ use Rattle.std.specs.Option.{option_map}
 use Rattle.std.specs.FinMap as fin
 use Rattle.std.specs.FinMap.Entries.{below_all, find-where_key, is_sorted-where_key, where_key}
 use Rattle.std.proofs.lemmas.Map.Lookups.{exact_bytes}
-use Rattle.slp_text.specs.Scopes.{comma_list}
+use Rattle.slp_text.specs.Lists.{comma_list}
 use Rattle.attr_list.specs.Writing.{text_of, texts_of}
 use Rattle.attr_list.proofs.Combined.{both_parts}
 use Rattle.attr_list.proofs.Gathered.{all_filtered}

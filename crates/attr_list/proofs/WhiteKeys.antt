@@ -9,9 +9,8 @@ use Rattle.caseless.specs.Caseless.{default_case_fold}
 use Rattle.caseless.proofs.CaselessLemmas.{default_case_fold-ascii}
 use Rattle.slp_text.specs.Ascii.{backslash}
 use Rattle.slp_text.specs.Escapes.{is_refused, unescaped_text_at}
-use Rattle.slp_text.specs.Keys.{is_white, squeezed_rest, squeezed_text, trim_start}
+use Rattle.slp_text.specs.Keys.{is_white, squeezed_rest, squeezed_text, trim_start, folded_text}
 use Rattle.slp_text.specs.Reading.{read_map}
-use Rattle.slp_text.specs.Scopes.{folded_text}
 use Rattle.slp_text.specs.declared.escapes.Place.TheVariants as place
 
 -- white space is ASCII

@@ -3,8 +3,8 @@ use Rattle.std.specs.Prelude.{◌≡◌, ◌≢◌, ◌⊎◌, ℕ, true, List, 
 use Rattle.std.specs.List.{list_all}
 use Rattle.slp_text.specs.Ascii.{equals_sign, left_parenthesis, right_parenthesis}
 use Rattle.slp_text.specs.Escapes.{unescaped_text_at}
-use Rattle.slp_text.specs.Keys.{is_white}
-use Rattle.slp_text.specs.Scopes.{comma_list, folded_text}
+use Rattle.slp_text.specs.Keys.{is_white, folded_text}
+use Rattle.slp_text.specs.Lists.{comma_list}
 use Rattle.slp_text.specs.declared.escapes.Place.TheVariants as place
 use Rattle.attr_values.specs.Values.{value_of}
 use Rattle.attr_values.specs.declared.value.Value.{Value}

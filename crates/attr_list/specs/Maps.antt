@@ -1,7 +1,7 @@
 -- What is made of attributes: updated, without some tags, some of them, and joined.
 use Rattle.std.specs.Prelude.{ℕ, Bool, not, List, [], ◌∷◌, ◌++◌, map, flat_map}
 use Rattle.std.specs.FinMap as fin
-use Rattle.slp_text.specs.Tags.{Part, selects}
+use Rattle.slp_tags.specs.Tags.{Part, selects}
 use Rattle.attr_list.specs.Elements.{Element}
 use Rattle.attr_list.specs.Lists.{Attributes, attributes_of, values_in}
 use Rattle.attr_list.specs.declared.held.Held.{Held}

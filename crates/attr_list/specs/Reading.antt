@@ -3,9 +3,8 @@ use Rattle.std.specs.Prelude.{ℕ, ◌==◌, ◌&&◌, List, [], ◌∷◌, ◌+
 use Rattle.std.specs.List.{list_all}
 use Rattle.slp_text.specs.Ascii.{comma, equals_sign, left_parenthesis, right_parenthesis}
 use Rattle.slp_text.specs.Escapes.{unescaped_text_at}
-use Rattle.slp_text.specs.Keys.{is_white}
+use Rattle.slp_text.specs.Keys.{is_white, folded_text}
 use Rattle.slp_text.specs.Reading.{read_map, read_then}
-use Rattle.slp_text.specs.Scopes.{folded_text}
 use Rattle.slp_text.specs.declared.escapes.Place.TheVariants as place
 use Rattle.slp_text.specs.declared.faults.TextFault.{TextFault}
 use Rattle.slp_text.specs.declared.faults.TextFault.TheVariants as text

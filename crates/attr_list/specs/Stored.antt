@@ -1,6 +1,6 @@
 -- What a list of attributes keeps.
 use Rattle.std.specs.Prelude.{ℕ, Bool, List, map, filter, flat_map, T}
-use Rattle.slp_text.specs.Tags.{Part, selects}
+use Rattle.slp_tags.specs.Tags.{Part, selects}
 use Rattle.std.specs.FinMap as fin
 use Rattle.std.specs.FinMap.{is_sorted}
 use Rattle.std.specs.List.{AllByRecursion}

@@ -5,7 +5,7 @@ use Rattle.std.specs.List.{AllByRecursion}
 use Rattle.slp_text.specs.Ascii.{equals_sign, left_parenthesis, right_parenthesis}
 use Rattle.slp_text.specs.Escapes.{escaped_text}
 use Rattle.slp_text.specs.Keys.{key_of}
-use Rattle.slp_text.specs.Scopes.{comma_list}
+use Rattle.slp_text.specs.Lists.{comma_list}
 use Rattle.slp_text.specs.declared.escapes.Place.TheVariants as place
 use Rattle.attr_values.specs.Kinds.{IsValue}
 use Rattle.attr_values.specs.Values.{value_text}

@@ -1,7 +1,7 @@
 -- How attributes are appended to a text, one after the other.
 use Rattle.std.specs.Prelude.{ℕ, Bool, List, ◌∷◌, map, if◌then◌else◌}
 use Rattle.slp_text.specs.Ascii.{comma}
-use Rattle.slp_text.specs.Scopes.{comma_list}
+use Rattle.slp_text.specs.Lists.{comma_list}
 use Rattle.attr_list.specs.Texts.{attribute_text}
 use Rattle.attr_list.specs.declared.attrs.Attribute.{Attribute}
 

@@ -1,7 +1,7 @@
 ghost use Rattle.std.specs.Prelude.{◌≡◌, ◌++◌, ℕ, Bool, List, map, IfOk, OnErr};
 ghost use Rattle.std.specs.List.{AllByRecursion};
 ghost use Rattle.std.specs.FinMap as fin;
-ghost use Rattle.slp_text.specs.Tags.{selects};
+ghost use Rattle.slp_tags.specs.Tags.{selects};
 ghost use Rattle.attr_values.specs.declared.fault.AttrFault.TheVariants as fault;
 ghost use Rattle.attr_list.specs.Maps.{attributes_without, elements_in, joined_attributes, kept_attributes, selected_attributes, union_of, updated_attributes};
 ghost use Rattle.attr_list.specs.Pieces.{element_in, IsElement};
@@ -14,7 +14,8 @@ use crate::gathering::join;
 use crate::held::copies;
 use crate::merging::merge;
 use attr_values::AttrFault;
-use slp_text::{Key, NoMemory, TagList};
+use slp_tags::TagList;
+use slp_text::{Key, NoMemory};
 use std::alloc::Global;
 
 // Those attributes whose tags a test accepts.

@@ -1,7 +1,7 @@
 ghost use Rattle.std.specs.Prelude.{◌≡◌, [], chars, map, IfOk, None};
 ghost use Rattle.std.specs.List.{AllByRecursion, slice_split};
 ghost use Rattle.slp_text.specs.Reading.{read_all, read_map};
-ghost use Rattle.slp_text.specs.Scopes.{is_comma};
+ghost use Rattle.slp_text.specs.Lists.{is_comma};
 ghost use Rattle.attr_values.specs.Kinds.{IsValue};
 ghost use Rattle.attr_values.specs.Reading.{IsFault, IsReading};
 ghost use Rattle.attr_values.specs.Rests.{rest_of};

@@ -1,7 +1,7 @@
 ghost use Rattle.std.specs.Prelude.{◌≡◌, ◌<◌, ◌++◌, ◌∷◌, [], map, chars, encode_utf8_all, slice_get, string_bytes, IfOk, OnErr, IfSome};
 ghost use Rattle.std.specs.FinMap as fin;
 ghost use Rattle.slp_text.specs.Ascii.{right_parenthesis};
-ghost use Rattle.slp_text.specs.Scopes.{comma_list};
+ghost use Rattle.slp_text.specs.Lists.{comma_list};
 ghost use Rattle.slp_text.specs.Steps.{BeginsWith};
 ghost use Rattle.attr_values.specs.Values.{value_text};
 ghost use Rattle.attr_values.specs.declared.fault.AttrFault.TheVariants as fault;

@@ -1,5 +1,5 @@
 ghost use Rattle.std.specs.Prelude.{◌≡◌, ◌++◌, map, string_bytes, IfOk};
-ghost use Rattle.slp_text.specs.Scopes.{comma_list};
+ghost use Rattle.slp_text.specs.Lists.{comma_list};
 ghost use Rattle.attr_values.specs.Values.{value_text};
 ghost use Rattle.attr_list.specs.Lists.{distinct_values, held_of};
 ghost use Rattle.attr_list.specs.Texts.{attribute_text, opening_text};

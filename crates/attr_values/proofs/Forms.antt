@@ -3,13 +3,11 @@ use Rattle.std.proofs.Common.{◌≡◌, ℕ, Bool, true, false, cond, List, Opt
 use Rattle.std.specs.Prelude.{IsUtf8, IfOk, OnErr, codes, ℤ}
 use Rattle.std.specs.Option.{option_map_or}
 use Rattle.std.proofs.lemmas.Str.{chars_from_encodes, encodes-chars}
-use Rattle.slp_text.specs.Keys.{key_of, squeezed_text}
+use Rattle.slp_text.specs.Keys.{key_of, squeezed_text, folded_text}
 use Rattle.slp_text.specs.Reading.{read_map}
-use Rattle.slp_text.specs.Scopes.{folded_text}
 use Rattle.slp_text.specs.Words.{bytes_eq}
 use Rattle.slp_text.specs.declared.faults.TextFault.{TextFault}
-use Rattle.slp_text.proofs.KeysOfKeys.{squeeze_again}
-use Rattle.slp_text.proofs.PrintedScopes.{key_of-folded_text}
+use Rattle.slp_text.proofs.KeysOfKeys.{squeeze_again, key_of-folded_text}
 use Rattle.attr_values.specs.Reading.{IsReading}
 use Rattle.attr_values.specs.Values.{integer_of, value_by, value_of_form}
 use Rattle.attr_values.specs.declared.fault.AttrFault.{AttrFault}

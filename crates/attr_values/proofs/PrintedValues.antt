@@ -21,8 +21,7 @@ use Rattle.slp_text.specs.Reading.{read_map}
 use Rattle.slp_text.specs.Words.{bytes_eq}
 use Rattle.slp_text.specs.declared.escapes.Place.TheVariants as place
 use Rattle.slp_text.proofs.AsciiKeys.{key-word}
-use Rattle.slp_text.proofs.EscapedTexts.{digit-capital, escapable_small, read_again, refused_free, reserved_escapable}
-use Rattle.slp_text.proofs.PrintedScopes.{append-scalars, digit-scalar}
+use Rattle.slp_text.proofs.EscapedTexts.{digit-capital, escapable_small, read_again, refused_free, reserved_escapable, append-scalars, digit-scalar}
 use Rattle.attr_values.specs.Kinds.{IsNumber, IsTextValue, IsValue}
 use Rattle.attr_values.specs.Values.{escaped_byte, integer_of, is_f, opaque_bytes, opaque_rest, value_by, value_of, value_of_form, value_text}
 use Rattle.attr_values.specs.declared.value.Value.{Value}

@@ -4,8 +4,7 @@ use Rattle.std.specs.Fmt.{signed_decimal}
 use Rattle.std.specs.Option.{option_and_then, option_map_or}
 use Rattle.slp_text.specs.Ascii.{backslash, digit_zero, hyphen, is_digit, lower_f, upper_f}
 use Rattle.slp_text.specs.Escapes.{capital_digit, escaped_text, unescaped_text_at, unescaped_text_from}
-use Rattle.slp_text.specs.Keys.{squeezed_text, trimmed_text}
-use Rattle.slp_text.specs.Scopes.{folded_text}
+use Rattle.slp_text.specs.Keys.{squeezed_text, trimmed_text, folded_text}
 use Rattle.slp_text.specs.Words.{bytes_eq}
 use Rattle.slp_text.specs.declared.escapes.Place.TheVariants as place
 use Rattle.slp_text.specs.declared.escapes.Stage.TheVariants.{Plain}

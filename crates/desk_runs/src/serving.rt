@@ -1,7 +1,7 @@
 //! What is relied on of whoever serves messages: the contract of its one call, said once more by a function that makes the call.
 ghost use Rattle.std.specs.Prelude.{◌≤◌};
 
-use access_rules::Addr;
+use addresses::Addr;
 use slp_answer::{Answer, Sent};
 use slp_loops::Serve;
 use slp_text::NoMemory;

@@ -7,7 +7,7 @@ use Rattle.std.specs.FinMap as fin
 use Rattle.std.proofs.lemmas.Bool.Decides.{nat_tests}
 use Rattle.std.proofs.lemmas.Option.{none-some, same_Some}
 use Rattle.slp_text.specs.Keys.{key_of}
-use Rattle.slp_text.specs.Tags.{Part}
+use Rattle.slp_tags.specs.Tags.{Part}
 use Rattle.access_rules.specs.Deciding.{deed}
 use Rattle.attr_list.specs.Lists.{Attributes}
 use Rattle.attr_list.specs.Maps.{attributes_without}

@@ -3,7 +3,7 @@ use Rattle.std.specs.Prelude.{ℕ, max, List, [], ◌∷◌, Option, None}
 use Rattle.std.specs.Option.{option_or}
 use Rattle.access_rules.specs.Deciding.{SiteRules}
 use Rattle.attr_list.specs.Lists.{Attributes}
-use Rattle.slp_text.specs.Tags.{Part}
+use Rattle.slp_tags.specs.Tags.{Part}
 
 -- a registration, and who asked for it
 pub record Putting : Type 0 where

@@ -9,8 +9,9 @@ use Rattle.std.specs.Result.{result_ok}
 use Rattle.std.specs.Arc.{arc_value}
 use Rattle.std.specs.FinMap as fin
 use Rattle.slp_text.specs.Keys.{key_of}
-use Rattle.slp_text.specs.Scopes.{scopes_of, common_scopes}
-use Rattle.slp_text.specs.Tags.{Part, tags_of}
+use Rattle.slp_scopes.specs.Scopes.{scopes_of}
+use Rattle.slp_text.specs.Sets.{common_keys}
+use Rattle.slp_tags.specs.Tags.{Part, tags_of}
 use Rattle.slp_text.specs.Words.{bytes_eq, bytes_cmp, texts_eq}
 use Rattle.slp_messages.specs.declared.code.TheConstants.{OK, LANGUAGE_NOT_SUPPORTED, PARSE_ERROR, INVALID_REGISTRATION, SCOPE_NOT_SUPPORTED, AUTHENTICATION_UNKNOWN, VERSION_NOT_SUPPORTED, INTERNAL_ERROR, DIRECTORY_BUSY, OPTION_NOT_UNDERSTOOD, INVALID_UPDATE}
 use Rattle.slp_messages.specs.declared.header.Header.{Header}
@@ -154,7 +155,7 @@ denial_by d = denial (by_step d None)
 
 -- the URL, the type, the attributes, and those of the scopes that the site supports; or the first fault, where something is not read
 abbrev pub particulars_of_texts : Site → Option (List ℕ) → Option (List ℕ) → Option Attributes → Option (List (List ℕ)) → Result Particulars Judgement
-particulars_of_texts site (Some kind) (Some url) (Some attrs) (Some scopes) = Ok (record { url = url; kind = kind; scopes = common_scopes site.scopes scopes; attrs = attrs })
+particulars_of_texts site (Some kind) (Some url) (Some attrs) (Some scopes) = Ok (record { url = url; kind = kind; scopes = common_keys site.scopes scopes; attrs = attrs })
 particulars_of_texts site (Some kind) (Some url) (Some attrs) None = Err (denial_by decider.Parse)
 particulars_of_texts site (Some kind) (Some url) None scopes = Err (denial (by_step decider.Attributes (Some kind)))
 particulars_of_texts site (Some kind) None attrs scopes = Err (denial_by decider.Registration)
@@ -335,7 +336,7 @@ judgement_in_scopes g q tags (s ∷ ss) = judgement_of_tags g q tags (s ∷ ss)
 
 -- a URL, a list of tags and scopes that were read, each if it is one, and the language
 abbrev pub judgement_of_texts : Grounds → List ℕ → Option (List ℕ) → Option (List Part) → Option (List (List ℕ)) → Judgement
-judgement_of_texts g language (Some url) (Some tags) (Some scopes) = judgement_in_scopes g (url, language) tags (common_scopes g.site.scopes scopes)
+judgement_of_texts g language (Some url) (Some tags) (Some scopes) = judgement_in_scopes g (url, language) tags (common_keys g.site.scopes scopes)
 judgement_of_texts g language (Some url) (Some tags) None = denial_by decider.Parse
 judgement_of_texts g language (Some url) None scopes = denial_by decider.Parse
 judgement_of_texts g language None tags scopes = denial_by decider.Parse

@@ -4,7 +4,7 @@ use Rattle.std.specs.List.{list_any}
 use Rattle.std.specs.FinMap as fin
 use Rattle.access_rules.specs.Deciding.{SiteRules}
 use Rattle.attr_list.specs.declared.held.Held.{Held}
-use Rattle.slp_text.specs.Tags.{selects}
+use Rattle.slp_tags.specs.Tags.{selects}
 use Rattle.slp_text.specs.Words.{bytes_eq, texts_eq}
 use Rattle.registry_core.specs.declared.entry.Entry.{Entry}
 use Rattle.registry_core.specs.Entries.{Pair, Entries, pair_of, pair_eq}

@@ -1,7 +1,7 @@
 -- What stays the same while a directory runs.
 use Rattle.std.specs.Prelude.{ℕ, ◌<◌, ◌≤◌, List, length, refl}
 use Rattle.std.specs.Coded.{Coded, code_by, coded×, coded_ℕ, coded_list}
-use Rattle.slp_text.specs.Scopes.{printed_scopes}
+use Rattle.slp_scopes.specs.Scopes.{printed_scopes}
 use Rattle.srv_template.specs.Codes.{templates_code}
 use Rattle.srv_template.specs.Conformity.{SiteTemplates}
 

@@ -4,7 +4,8 @@ ghost use Rattle.std.specs.Arc.{arc_value};
 use access_rules::Rules;
 use registry_core::Entry;
 use service_url::Url;
-use slp_text::{NoMemory, ScopeList};
+use slp_scopes::ScopeList;
+use slp_text::NoMemory;
 use std::sync::Arc;
 
 /// An entry of 1 to 16 scopes, as a change leaves it, and the moment of that in seconds.

@@ -8,11 +8,13 @@ ghost use Rattle.directory_judge.specs.Judgements.{because_of, by_rule, ruling_o
 
 use crate::reason::Finding;
 use crate::site::Site;
-use access_rules::{Action, Addr, Deed, Rules};
+use access_rules::{Action, Deed, Rules};
+use addresses::Addr;
 use attr_list::Attrs;
 use registry_core::{Entry, Registry};
 use service_url::{ServiceType, Url};
-use slp_text::{Key, ScopeList};
+use slp_scopes::ScopeList;
+use slp_text::Key;
 use std::marker::Model;
 
 /// What a message is judged on: the entries, of which those count that are live, the rules, the site,

@@ -1,7 +1,8 @@
 ghost use Rattle.std.specs.Prelude.{◌≡◌, ◌≤◌, length, IfOk, IfSome, Some};
 ghost use Rattle.std.specs.Option.{option_map};
 ghost use Rattle.std.specs.Result.{result_ok};
-ghost use Rattle.slp_text.specs.Scopes.{scopes_of, common_scopes};
+ghost use Rattle.slp_scopes.specs.Scopes.{scopes_of};
+ghost use Rattle.slp_text.specs.Sets.{common_keys};
 ghost use Rattle.slp_messages.specs.Views.{header_in, registration_in};
 ghost use Rattle.service_url.specs.Types.{type_of};
 ghost use Rattle.attr_list.specs.Reading.{attributes_in};
@@ -12,7 +13,8 @@ use crate::site::Site;
 use attr_list::Attrs;
 use service_url::{ServiceType, Url};
 use slp_messages::{KeptHeader, RegistrationView};
-use slp_text::{NoMemory, ScopeList};
+use slp_scopes::ScopeList;
+use slp_text::NoMemory;
 use std::alloc::Global;
 
 /// What a registration names: its URL, its type, those of its scopes that the site supports, and its
@@ -34,7 +36,7 @@ pub enum Reading {
 
 /// The scopes that a text names and the site supports, if it is a list of scopes.
 pub fn read_supported(alloc: Global, site: &Site, text: &str) -> Result<Option<ScopeList>, NoMemory>
-    ensures value { IfOk result (λ l. l ≡ option_map (common_scopes site.now.scopes) (result_ok (scopes_of text.now))) }
+    ensures value { IfOk result (λ l. l ≡ option_map (common_keys site.now.scopes) (result_ok (scopes_of text.now))) }
     ensures few { IfOk result (λ l. IfSome l (λ scopes. length scopes ≤ 16)) }
 {
     let Some(scopes) = ScopeList::read(alloc, text)? else {

@@ -10,7 +10,8 @@ use crate::judgement::Decision;
 use crate::reason::{Decider, Finding};
 use access_rules::Action;
 use registry_core::{Entry, Registry};
-use slp_text::{Key, NoMemory, TagList};
+use slp_tags::TagList;
+use slp_text::{Key, NoMemory};
 use std::alloc::Global;
 use std::sync::Arc;
 

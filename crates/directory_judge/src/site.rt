@@ -1,7 +1,8 @@
 ghost use Rattle.std.specs.Prelude.{◌≡◌, ◌<◌, ◌≤◌, length, IfOk};
-ghost use Rattle.slp_text.specs.Scopes.{printed_scopes};
+ghost use Rattle.slp_scopes.specs.Scopes.{printed_scopes};
 
-use slp_text::{NoMemory, ScopeList};
+use slp_scopes::ScopeList;
+use slp_text::NoMemory;
 use srv_template::Templates;
 use std::alloc::Global;
 use std::marker::Model;

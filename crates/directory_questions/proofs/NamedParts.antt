@@ -7,7 +7,7 @@ use Rattle.std.proofs.lemmas.List.Elements.{All-nil, All-cons}
 use Rattle.std.proofs.lemmas.List.Splits.{slice_split_at, slice_split_none}
 use Rattle.slp_text.specs.Ascii.{comma}
 use Rattle.slp_text.specs.Keys.{trimmed_text}
-use Rattle.slp_text.specs.Scopes.{is_comma}
+use Rattle.slp_text.specs.Lists.{is_comma}
 use Rattle.slp_text.specs.Words.{bytes_eq, Lacks}
 use Rattle.directory_questions.specs.Questions.{names}
 

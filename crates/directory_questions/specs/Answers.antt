@@ -3,8 +3,8 @@ use Rattle.std.specs.Prelude.{◌≡◌, ◌⊎◌, ℕ, Bool, true, false, ◌=
 use Rattle.std.specs.List.{list_any}
 use Rattle.std.specs.Option.{option_map_or}
 use Rattle.slp_headers.specs.Headers.{Heading, heading_of}
-use Rattle.access_rules.specs.Addresses.{address_text}
-use Rattle.slp_text.specs.Scopes.{printed_scopes}
+use Rattle.addresses.specs.Addresses.{address_text}
+use Rattle.slp_scopes.specs.Scopes.{printed_scopes}
 use Rattle.slp_wire.specs.Reading.{reading}
 use Rattle.slp_wire.specs.Spelling.{plain_bytes}
 use Rattle.slp_fields.specs.declared.fault.WireFault.{WireFault}

@@ -1,7 +1,7 @@
 -- How a reply is cut to what fits (RFC 2608, section 8.2).
 use Rattle.std.specs.Prelude.{◌≡◌, ℕ, ◌≤◌, Bool, false, nat_lt, List, length, take}
 use Rattle.slp_headers.specs.Headers.{Heading}
-use Rattle.slp_text.specs.Scopes.{comma_list}
+use Rattle.slp_text.specs.Lists.{comma_list}
 use Rattle.slp_wire.specs.Spelling.{plain_bytes}
 use Rattle.slp_messages.specs.declared.header.Header.{Header}
 use Rattle.slp_messages.specs.declared.message.Message.{Message}

@@ -4,8 +4,9 @@ use Rattle.std.specs.List.{list_any, slice_split}
 use Rattle.std.specs.Option.{option_map}
 use Rattle.std.specs.Result.{result_ok}
 use Rattle.slp_text.specs.Keys.{key_of, trimmed_text}
-use Rattle.slp_text.specs.Scopes.{is_comma, scopes_of}
-use Rattle.slp_text.specs.Tags.{Part, tags_of}
+use Rattle.slp_scopes.specs.Scopes.{scopes_of}
+use Rattle.slp_text.specs.Lists.{is_comma}
+use Rattle.slp_tags.specs.Tags.{Part, tags_of}
 use Rattle.slp_text.specs.Words.{bytes_eq}
 use Rattle.search_filter.specs.Filters.{Filter}
 use Rattle.search_filter.specs.Reading.{predicate_in}
@@ -17,7 +18,7 @@ use Rattle.slp_messages.specs.declared.message.ServiceRequest.{ServiceRequest}
 use Rattle.slp_messages.specs.declared.message.TypeRequest.{TypeRequest}
 use Rattle.service_url.specs.Types.{is_directory_agent, is_service_agent, named_authority, type_of}
 use Rattle.service_url.specs.Urls.{url_of}
-use Rattle.access_rules.specs.Addresses.{address_text}
+use Rattle.addresses.specs.Addresses.{address_text}
 use Rattle.directory_questions.specs.declared.query.Authority.{Authority}
 use Rattle.directory_questions.specs.declared.query.Authority.TheVariants as authority
 use Rattle.directory_questions.specs.declared.query.Target.{Target}

@@ -1,7 +1,7 @@
 ghost use Rattle.std.specs.Prelude.{◌≡◌, ◌≤◌};
 ghost use Rattle.directory_questions.specs.Bytes.{AreBytes};
 
-use access_rules::Addr;
+use addresses::Addr;
 
 /// Bytes that an asker sends at a moment, in seconds, to an address of the directory, and how many
 /// bytes a reply may have: no fewer than a datagram takes, and no more than a message has.

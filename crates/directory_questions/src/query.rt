@@ -6,7 +6,9 @@ ghost use Rattle.directory_questions.specs.declared.query.QueryFault.TheVariants
 use registry_core::Entry;
 use search_filter::Filter;
 use service_url::{ServiceType, Url};
-use slp_text::{Key, NoMemory, ScopeList, TagList};
+use slp_scopes::ScopeList;
+use slp_tags::TagList;
+use slp_text::{Key, NoMemory};
 use std::alloc::{AllocError, AllocFailed};
 use thiserror::Error;
 

@@ -6,7 +6,7 @@ ghost use Rattle.slp_messages.specs.Views.{attribute_request_in, authority_in, r
 ghost use Rattle.slp_wire.specs.Asking.{question_in};
 ghost use Rattle.slp_wire.specs.Reading.{kept_header};
 ghost use Rattle.directory_questions.specs.Answers.{question_of};
-ghost use Rattle.slp_text.specs.Scopes.{scopes_of};
+ghost use Rattle.slp_scopes.specs.Scopes.{scopes_of};
 ghost use Rattle.directory_questions.specs.Questions.{agents_in, attribute_question, authority_asked, service_question, target_of, type_question};
 ghost use Rattle.directory_questions.specs.Readings.{IsAsked, IsUnread};
 ghost use Rattle.directory_questions.specs.Requests.{function_in, is_change_function};
@@ -16,7 +16,9 @@ use crate::query::{AgentQuery, AttrQuery, Authority, ServiceQuery, Target, TypeQ
 use crate::responders;
 use search_filter::{Filter, FilterFault};
 use service_url::{ServiceType, Url, UrlFault, parse_authority};
-use slp_text::{Key, NoMemory, ScopeList, TagList, is_blank};
+use slp_scopes::ScopeList;
+use slp_tags::TagList;
+use slp_text::{Key, NoMemory, is_blank};
 use slp_wire::{
     AttributeRequestView, AuthorityView, HeaderView, QuestionView, ServiceRequestView,
     TypeRequestView, WireFault, read_question,

@@ -3,7 +3,7 @@ ghost use Rattle.std.specs.Prelude.{◌≡◌, IfOk};
 ghost use Rattle.slp_text.specs.Keys.{trim_start, trimmed_text};
 ghost use Rattle.directory_questions.specs.Questions as spec;
 
-use access_rules::Addr;
+use addresses::Addr;
 use slp_text::{NoMemory, cut, is_white_byte};
 use std::alloc::Global;
 

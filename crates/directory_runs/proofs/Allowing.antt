@@ -11,8 +11,9 @@ use Rattle.std.proofs.lemmas.Bool.Decides.{nat_tests}
 use Rattle.std.proofs.lemmas.List.Elements.{All-nil, All-cons, All-head, All-tail, All-weaker, All-contains, All-contains_itself, filter_passes}
 use Rattle.std.proofs.lemmas.Option.{none-some, same_Some}
 use Rattle.slp_text.specs.Keys.{key_of}
-use Rattle.slp_text.specs.Scopes.{scopes_of, common_scopes}
-use Rattle.slp_text.specs.Tags.{Part, tags_of}
+use Rattle.slp_scopes.specs.Scopes.{scopes_of}
+use Rattle.slp_text.specs.Sets.{common_keys}
+use Rattle.slp_tags.specs.Tags.{Part, tags_of}
 use Rattle.slp_text.specs.Words.{bytes_cmp, bytes_eq, texts_eq}
 use Rattle.slp_text.proofs.KeySets.{bytes_same}
 use Rattle.slp_messages.specs.declared.header.Header.{Header}
@@ -484,7 +485,7 @@ module _ (g : Grounds) (h : Header) (w : Withdrawal) (event : Event) where
   texts-allowed : (because : Because) (url : Option (List ℕ)) (tags : Option (List Part)) (scopes : Option (List (List ℕ))) → result_ok (url_of w.entry.url) ≡ url → result_ok (tags_of w.tags) ≡ tags → result_ok (scopes_of w.scopes) ≡ scopes
       → judgement_of_texts g (key_of h.language) url tags scopes ≡ Accepts event because → WithdrawalIsAllowed g h w event
   texts-allowed because (Some url) (Some tags) (Some scopes) u t s is =
-      let k = scopes-allowed g (url, key_of h.language) tags (common_scopes g.site.scopes scopes) event because is in
+      let k = scopes-allowed g (url, key_of h.language) tags (common_keys g.site.scopes scopes) event because is in
       record {
         url = url;
         tags = tags;
@@ -504,7 +505,7 @@ module _ (g : Grounds) (h : Header) (w : Withdrawal) (event : Event) where
 
   allowed-withdrawal : WithdrawalIsAllowed g h w event → (because : Because) × (judgement_of_withdrawal g h w ≡ Accepts event because)
   allowed-withdrawal may =
-      let k = allowed-scopes g (may.url, key_of h.language) may.tags (common_scopes g.site.scopes may.scopes) event may.in_scope may.released in (
+      let k = allowed-scopes g (may.url, key_of h.language) may.tags (common_keys g.site.scopes may.scopes) event may.in_scope may.released in (
         k.0,
         ap (λ x. judgement_of_texts g (key_of h.language) (result_ok x) (result_ok (tags_of w.tags)) (result_ok (scopes_of w.scopes))) may.reads_url
             ∙ ap (λ x. judgement_of_texts g (key_of h.language) (Some may.url) (result_ok x) (result_ok (scopes_of w.scopes))) may.reads_tags

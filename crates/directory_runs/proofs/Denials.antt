@@ -9,8 +9,9 @@ use Rattle.std.specs.Result.{result_ok}
 use Rattle.std.proofs.lemmas.Bool.Decides.{nat_tests}
 use Rattle.std.proofs.lemmas.Option.{none-some, same_Some}
 use Rattle.slp_text.specs.Keys.{key_of}
-use Rattle.slp_text.specs.Scopes.{scopes_of, common_scopes}
-use Rattle.slp_text.specs.Tags.{Part, tags_of}
+use Rattle.slp_scopes.specs.Scopes.{scopes_of}
+use Rattle.slp_text.specs.Sets.{common_keys}
+use Rattle.slp_tags.specs.Tags.{Part, tags_of}
 use Rattle.slp_text.specs.Words.{bytes_eq, texts_eq}
 use Rattle.slp_headers.specs.Headers.{Heading, heading_of, refusal_bytes, reply_function_of}
 use Rattle.slp_messages.specs.Messages.{function_of}
@@ -254,7 +255,7 @@ module _ (g : Grounds) where
   just-scopes q tags (s ∷ ss) = just-tags q tags (s ∷ ss)
 
   just-withdrawal : (language : List ℕ) (url : Option (List ℕ)) (tags : Option (List Part)) (scopes : Option (List (List ℕ))) → JustWithdrawn (judgement_of_texts g language url tags scopes)
-  just-withdrawal language (Some url) (Some tags) (Some scopes) = just-scopes (url, language) tags (common_scopes g.site.scopes scopes)
+  just-withdrawal language (Some url) (Some tags) (Some scopes) = just-scopes (url, language) tags (common_keys g.site.scopes scopes)
   just-withdrawal language (Some url) (Some tags) None = just-by decider.Parse tt
   just-withdrawal language (Some url) None scopes = just-by decider.Parse tt
   just-withdrawal language None tags scopes = just-by decider.Parse tt

@@ -14,11 +14,11 @@ use Rattle.ucd_case.specs.FullFoldingRows.{full_folding_rows}
 use Rattle.ucd_table.specs.Rows.{value_in}
 use Rattle.caseless.specs.Caseless.{default_case_fold}
 use Rattle.slp_text.specs.Keys.{key_of}
-use Rattle.slp_text.specs.Scopes.{scopes_of}
+use Rattle.slp_scopes.specs.Scopes.{scopes_of}
 use Rattle.slp_text.specs.Words.{bytes_cmp}
 use Rattle.slp_text.proofs.KeySets.{here, member_cases}
-use Rattle.slp_text.proofs.Matches.{second_of}
-use Rattle.slp_text.proofs.Searches.{first-of}
+use Rattle.slp_tags.proofs.Matches.{second_of}
+use Rattle.slp_tags.proofs.Searches.{first-of}
 use Rattle.slp_headers.specs.Headers.{Heading}
 use Rattle.slp_messages.specs.declared.code.TheConstants.{OK}
 use Rattle.slp_messages.specs.declared.header.Header.{Header}
@@ -35,7 +35,7 @@ use Rattle.access_rules.specs.Deciding.{SiteRules, no_rules}
 use Rattle.access_rules.specs.declared.rule.Action.{Action}
 use Rattle.access_rules.specs.declared.rule.Action.TheVariants.{Register, Withdraw, See}
 use Rattle.access_rules.specs.declared.rule.Rule.{Rule}
-use Rattle.access_rules.specs.declared.rule.Prefix.{Prefix}
+use Rattle.addresses.specs.declared.prefix.Prefix.{Prefix}
 use Rattle.registry_core.specs.Entries.{Pair, pair_cmp, pair_eq, pair_of}
 use Rattle.registry_core.specs.declared.entry.Entry.{Entry}
 use Rattle.registry_core.proofs.Lists.{pair_eq-true}

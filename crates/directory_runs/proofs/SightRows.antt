@@ -5,7 +5,7 @@ use Rattle.slp_text.proofs.KeySets.{here, there, member_cases}
 use Rattle.attr_list.specs.Lists.{attributes_of}
 use Rattle.access_rules.specs.Deciding.{SiteRules, deciding, deed}
 use Rattle.access_rules.specs.declared.rule.Action.TheVariants.{See}
-use Rattle.access_rules.specs.declared.rule.Prefix.{Prefix}
+use Rattle.addresses.specs.declared.prefix.Prefix.{Prefix}
 use Rattle.registry_core.specs.declared.entry.Entry.{Entry}
 use Rattle.directory_judge.specs.History.{Event, Putting, Put, Set}
 use Rattle.directory_judge.specs.Meaning.{founding}

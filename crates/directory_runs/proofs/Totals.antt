@@ -8,7 +8,7 @@ use Rattle.std.specs.declared.cmp.Ordering.TheVariants.{Less, Equal, Greater}
 use Rattle.std.proofs.lemmas.Bool.{leb-true, leb-false}
 use Rattle.std.proofs.lemmas.Cmp.{nat_list_cmp_total}
 use Rattle.slp_text.proofs.KeySets.{member_cases}
-use Rattle.slp_text.specs.Scopes.{comma_list}
+use Rattle.slp_text.specs.Lists.{comma_list}
 use Rattle.slp_text.specs.Words.{bytes_cmp, bytes_eq, IsAscending}
 use Rattle.attr_list.specs.Maps.{joined_attributes, selected_attributes}
 use Rattle.slp_headers.specs.Headers.{Heading, heading_of}

@@ -2,8 +2,9 @@
 use Rattle.std.specs.Prelude.{◌≡◌, ℕ, ◌<◌, Bool, true, false, List, [], ◌∷◌, length, Contains, Some, None, Ok, IsTrue}
 use Rattle.std.specs.FinMap as fin
 use Rattle.slp_text.specs.Keys.{key_of}
-use Rattle.slp_text.specs.Scopes.{scopes_of, common_scopes}
-use Rattle.slp_text.specs.Tags.{Part, tags_of}
+use Rattle.slp_scopes.specs.Scopes.{scopes_of}
+use Rattle.slp_text.specs.Sets.{common_keys}
+use Rattle.slp_tags.specs.Tags.{Part, tags_of}
 use Rattle.slp_messages.specs.declared.header.Header.{Header}
 use Rattle.slp_messages.specs.declared.message.Message.{Message}
 use Rattle.slp_messages.specs.declared.message.Message.TheVariants as message
@@ -93,8 +94,8 @@ pub record WithdrawalIsAllowed (g : Grounds) (h : Header) (w : Withdrawal) (even
   pub reads_url : url_of w.entry.url ≡ Ok url
   pub reads_tags : tags_of w.tags ≡ Ok tags
   pub reads_scopes : scopes_of w.scopes ≡ Ok scopes
-  pub in_scope : 0 < length (common_scopes g.site.scopes scopes)
-  pub released : IsReleased g (url, key_of h.language) tags (common_scopes g.site.scopes scopes) event
+  pub in_scope : 0 < length (common_keys g.site.scopes scopes)
+  pub released : IsReleased g (url, key_of h.language) tags (common_keys g.site.scopes scopes) event
 
 -- ---- messages
 

@@ -1,10 +1,11 @@
 -- What hide tables keep from everyone but who registered it.
 use Rattle.std.specs.Prelude.{◌≡◌, ℕ, true, not, List, Contains, None}
 use Rattle.std.specs.List.{list_any}
-use Rattle.slp_text.specs.Tags.{selects}
+use Rattle.slp_tags.specs.Tags.{selects}
 use Rattle.slp_text.specs.Words.{bytes_eq}
 use Rattle.attr_list.specs.Maps.{kept_attributes}
-use Rattle.access_rules.specs.Deciding.{SiteRules, hides_in, holds}
+use Rattle.access_rules.specs.Deciding.{SiteRules, hides_in}
+use Rattle.addresses.specs.Addresses.{holds}
 use Rattle.access_rules.specs.declared.hide.Hide.{Hide}
 use Rattle.registry_core.specs.declared.entry.Entry.{Entry}
 

@@ -12,7 +12,7 @@ use Rattle.attr_list.specs.Maps.{elements_in, joined_attributes, kept_attributes
 use Rattle.attr_list.proofs.Combined.{same_attributes}
 use Rattle.attr_list.proofs.KeptAttributes.{get-kept, joined-kept, kept-all, kept-twice}
 use Rattle.slp_text.proofs.KeySets.{member_cases}
-use Rattle.slp_text.specs.Tags.{Part, selects}
+use Rattle.slp_tags.specs.Tags.{Part, selects}
 use Rattle.slp_text.specs.Words.{bytes_eq, IsAscending}
 use Rattle.access_rules.specs.Deciding.{Deed, deed, hides_in, is_hidden, is_hidden_by, is_hidden_from, part_in, some_hides}
 use Rattle.access_rules.specs.declared.hide.FittingHides.{FittingHides}
@@ -100,14 +100,11 @@ pub hides-there : (v : Viewer) (e : Entry) (o : Option FittingHides) (d : Deed) 
 hides-there v e o d place s is at hides = subst (HidesAs v e o (seeing v e)) (sym (get_or_from_slice_get v.asked place s [] at)) (subst (λ x. HidesAs v e o x s) is hides)
 
 -- a tag is shown where the tables of the first scope do not hide it, or in a scope after it
-pub by-sight : (v : Viewer) (e : Entry) (s : Sight) (tag : List ℕ) (d : Deed) (scope : List ℕ) (hidden : Bool) → IsSight v e s → d ≡ seeing v e → slice_get v.asked s.first ≡ Some scope
-    → hidden ≡ is_hidden_by s.tables d scope tag
+pub by-sight : (v : Viewer) (e : Entry) (s : Sight) (tag : List ℕ) (hidden : Bool) → IsSight v e s → hidden ≡ is_hidden_by s.tables (seeing v e) (get_or v.asked s.first []) tag
     → is_shown v.rules.now v.asker v.asked e tag ≡ (not hidden || list_any (is_left_in v.rules.now v.asker e tag) (open_scopes v e (s.first + 1)))
-by-sight v e s tag d scope hidden sight is at by =
+by-sight v e s tag hidden sight by =
     ap (list_any (is_left_in v.rules.now v.asker e tag)) sight.first.first
-    ∙ ap (λ b. not b || list_any (is_left_in v.rules.now v.asker e tag) (open_scopes v e (s.first + 1)))
-    (sym (sight.hidden tag) ∙ ap (λ x. is_hidden_by s.tables (seeing v e) x tag) (get_or_from_slice_get v.asked s.first scope [] at)
-    ∙ ap (λ x. is_hidden_by s.tables x scope tag) (sym is) ∙ sym by)
+    ∙ ap (λ b. not b || list_any (is_left_in v.rules.now v.asker e tag) (open_scopes v e (s.first + 1))) (sym (sight.hidden tag) ∙ sym by)
 
 -- ---- where nothing is hidden
 

@@ -4,7 +4,7 @@ use Rattle.access_rules.specs.Deciding.{SiteRules, deed, is_hidden, is_hidden_by
 use Rattle.access_rules.specs.declared.rule.Action.TheVariants.{See}
 use Rattle.attr_list.specs.Elements.{Element}
 use Rattle.attr_list.specs.Maps.{elements_in, kept_attributes}
-use Rattle.slp_text.specs.Tags.{Part, selects}
+use Rattle.slp_tags.specs.Tags.{Part, selects}
 use Rattle.registry_core.specs.Entries.{Entries, outlives, pair_of, IsListing}
 use Rattle.registry_core.specs.declared.entry.Entry.{Entry}
 use Rattle.slp_messages.specs.declared.message.UrlEntry.{UrlEntry}

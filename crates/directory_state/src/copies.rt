@@ -11,7 +11,7 @@ ghost use Rattle.directory_state.specs.Searches.{entries_lent};
 
 use crate::arranging::describe;
 use crate::directory::Directory;
-use access_rules::Addr;
+use addresses::Addr;
 use attr_list::Attrs;
 use directory_judge::{Judged, change_view};
 use directory_questions::{AttrQuery, QueryFault, ServiceQuery, TypeQuery};

@@ -15,7 +15,7 @@ use crate::asked::Viewer;
 use crate::deadlines::Deadlines;
 use crate::directory::Directory;
 use crate::viewer::Seen;
-use access_rules::Addr;
+use addresses::Addr;
 use directory_questions::{QueryFault, ServiceQuery};
 use registry_core::{Entry, Registry};
 use service_url::Url;

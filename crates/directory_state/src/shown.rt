@@ -1,6 +1,8 @@
 //! What is shown of an entry, and to whom.
-ghost use Rattle.std.specs.Prelude.{◌≡◌, ◌+◌, ◌<◌, ◌++◌, flat_map, length, map, IfOk, MatchOption};
+ghost use Rattle.std.specs.Prelude.{◌≡◌, ◌+◌, ◌<◌, ◌++◌, flat_map, get_or, length, map, [], IfOk, MatchOption};
 ghost use Rattle.std.specs.List.{list_any};
+ghost use Rattle.access_rules.specs.Deciding.{deed, is_hidden_by};
+ghost use Rattle.access_rules.specs.declared.rule.Action.TheVariants.{See};
 ghost use Rattle.attr_list.specs.Lists.{attributes_of};
 ghost use Rattle.search_filter.specs.Filters.{holds};
 ghost use Rattle.directory_questions.specs.Sights.{is_left_in, is_shown};
@@ -13,7 +15,8 @@ use attr_list::Attrs;
 use attr_union::{AttrUnion, Gathering};
 use registry_core::Entry;
 use search_filter::Filter;
-use slp_text::{Key, NoMemory, TagList};
+use slp_tags::TagList;
+use slp_text::{Key, NoMemory};
 use std::alloc::Global;
 
 /// How an entry is seen of which something may be hidden: it is open in the scope at this place of those that are asked for, and in
@@ -60,15 +63,30 @@ impl Viewer<'_> {
         false
     }
 
+    // Whether a tag of an entry is hidden in the scope in which it is open first. Which scope that is is looked up only where a table after
+    // the first is asked.
+    #[inline(always)]
+    fn hides_first(&self, entry: &Entry, sight: &Sight<'_>, tag: &Key) -> bool
+        requires { IsSight self.now entry.now sight.now }
+        ensures { result ≡ is_hidden_by sight.now.tables (deed self.now.asker See entry.now.kind entry.now.owner) (get_or self.now.asked sight.now.first []) tag.now }
+    {
+        if sight.tables.first_hides(tag) {
+            return true;
+        }
+        if sight.tables.is_one() {
+            return false;
+        }
+        let scope = self.asked.at(sight.first);
+        sight.tables.others_hide(&self.seeing(entry), scope, tag)
+    }
+
     // Whether a tag of an entry is shown: in one of the scopes in which the entry is open no hide table takes it away. The scopes
     // after the first are asked where it is hidden there. Takes no memory.
     fn shows(&self, entry: &Entry, sight: &Sight<'_>, tag: &Key) -> bool
         requires { IsSight self.now entry.now sight.now }
         ensures { result ≡ is_shown self.now.rules.now self.now.asker self.now.asked entry.now tag.now }
     {
-        let scope = self.asked.at(sight.first);
-        !sight.tables.hide_tag(&self.seeing(entry), scope, tag)
-            || self.shows_after(entry, sight.first, tag)
+        !self.hides_first(entry, sight, tag) || self.shows_after(entry, sight.first, tag)
     }
 
     /// Whether a filter holds on what is shown of an entry that is seen. Where nothing is hidden from who asks, no tag is asked about. Takes no

@@ -161,6 +161,8 @@ impl Viewer<'_> {
 
     /// Of what is open an entry of each type, and it may be more. Where one of a type was seen, the walk goes on past the others of the
     /// type, if the registry knows where they end: after a look at the next one, and where the type before had others, without.
+    // A call of its own in the machine's code, so that the walk keeps its registers.
+    #[inline(never)]
     pub fn gather_types<'a, R: Registry>(
         &self,
         alloc: Global,

@@ -4,7 +4,7 @@ ghost use Rattle.std.specs.Prelude.{◌≡◌};
 use crate::assertion::assert_holds;
 use crate::fakes::{Sink, Source};
 use crate::messages::{EMPTY_REPLY, REQUEST, numbered};
-use access_rules::Addr;
+use addresses::Addr;
 use slp_answer::{Answer, Sent};
 use slp_loops::{Connection, LoopFault, Next, Serve, settle};
 use slp_text::NoMemory;

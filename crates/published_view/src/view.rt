@@ -9,7 +9,7 @@ ghost use Rattle.published_view.specs.Traces.{last_at, IsAsked};
 use crate::fault::ViewFault;
 use crate::gate::Gate;
 use crate::rule::{RuledFactory, RuledReader, answered, learnt};
-use access_rules::Addr;
+use addresses::Addr;
 use history_log::{Front, Naming};
 use slp_answer::{Answer, Call, Heard, Sent};
 use std::alloc::Global;

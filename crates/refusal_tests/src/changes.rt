@@ -4,13 +4,15 @@ ghost use Rattle.std.specs.Arc.{arc_value};
 
 use crate::hoard::{Hoard, are_refused};
 use crate::site::{CLOSED, directory, found, rules_of};
-use access_rules::{Addr, Rules};
+use access_rules::Rules;
+use addresses::Addr;
 use attr_list::Attrs;
 use directory_judge::{Change, Placed, Withdrawn};
 use directory_state::Directory;
 use registry_core::{Entry, Registry};
 use service_url::{ServiceType, Url};
-use slp_text::{Key, NoMemory, ScopeList};
+use slp_scopes::ScopeList;
+use slp_text::{Key, NoMemory};
 use std::alloc::Global;
 use std::sync::Arc;
 use table_registry::SiteRegistry;

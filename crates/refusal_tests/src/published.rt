@@ -10,7 +10,8 @@ use crate::messages::{
     WITHDRAWN, bytes_of,
 };
 use crate::site::{CLOSED, OPEN, rules_of, site};
-use access_rules::{Addr, Rules};
+use access_rules::Rules;
+use addresses::Addr;
 use directory_judge::Site;
 use published_view::{DirectoryWriter, LoopView, Naming, Note, OpenGate, Opened, ViewFault, open};
 use slp_answer::{Answer, is_change};

@@ -1,11 +1,13 @@
 //! A site of one scope.
 ghost use Rattle.std.specs.Prelude.{◌≡◌, ◌≤◌, ◌<◌, length, IfOk};
-ghost use Rattle.slp_text.specs.Scopes.{printed_scopes};
+ghost use Rattle.slp_scopes.specs.Scopes.{printed_scopes};
 
 use access_rules::Rules;
 use directory_judge::Site;
 use directory_state::Directory;
-use slp_text::{NoMemory, ScopeList};
+use rule_files::rules_of_text;
+use slp_scopes::ScopeList;
+use slp_text::NoMemory;
 use srv_template::Templates;
 use std::alloc::Global;
 use std::sync::Arc;
@@ -34,7 +36,7 @@ pub fn found<T, E: Copy>(read: Result<T, E>) -> Result<T, NoMemory> {
 
 /// The rules of a text.
 pub fn rules_of(alloc: Global, text: &str) -> Result<Rules, NoMemory> {
-    found(Rules::from_text(alloc, text))
+    found(rules_of_text(alloc, text))
 }
 
 // The one scope of the site.

@@ -5,7 +5,7 @@ use crate::messages::{
     FOUND, NOTHING, ONE_TYPE, REGISTERED, REGISTRATION, REQUEST, TYPES, bytes_of,
 };
 use crate::site::{OPEN, directory};
-use access_rules::Addr;
+use addresses::Addr;
 use directory_state::Directory;
 use slp_answer::{Answer, Call, Sent, step};
 use slp_text::NoMemory;

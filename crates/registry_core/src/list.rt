@@ -8,7 +8,8 @@ ghost use Rattle.registry_core.specs.Entries.{is_of, is_at_place, is_kind, is_of
 use crate::entry::Entry;
 use crate::registry::{Registry, RegistryFault};
 use service_url::{ServiceType, Url};
-use slp_text::{Key, ScopeList};
+use slp_scopes::ScopeList;
+use slp_text::Key;
 use std::alloc::Global;
 use std::marker::Model;
 use std::sync::Arc;

@@ -7,7 +7,8 @@ ghost use Rattle.registry_core.specs.declared.registry.RegistryFault.TheVariants
 
 use crate::entry::Entry;
 use service_url::{ServiceType, Url};
-use slp_text::{Key, ScopeList};
+use slp_scopes::ScopeList;
+use slp_text::Key;
 use std::alloc::AllocError;
 use std::sync::Arc;
 use thiserror::Error;

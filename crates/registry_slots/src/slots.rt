@@ -9,7 +9,7 @@ ghost use Rattle.slot_chains.specs.Links.{rest};
 use registry_core::Entry;
 use service_url::Url;
 use slot_chains::Chains;
-use slp_text::ScopeList;
+use slp_scopes::ScopeList;
 use std::alloc::{AllocError, Global};
 use std::marker::Model;
 use std::sync::Arc;

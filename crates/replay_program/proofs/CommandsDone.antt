@@ -16,9 +16,9 @@ use Rattle.replay_program.specs.declared.progress.Progress.{Progress}
 use Rattle.replay_program.specs.declared.agent.Agent.{Agent}
 use Rattle.replay_program.specs.declared.session.Session.{Session}
 use Rattle.access_rules.specs.Deciding.{SiteRules}
-use Rattle.access_rules.specs.RuleFiles.{rules_in_text}
-use Rattle.access_rules.specs.declared.fault.RuleFault.{RuleFault}
-use Rattle.access_rules.specs.declared.fault.RuleFault.TheVariants as rule_fault
+use Rattle.rule_files.specs.RuleFiles.{rules_in_text}
+use Rattle.rule_files.specs.declared.fault.RuleFault.{RuleFault}
+use Rattle.rule_files.specs.declared.fault.RuleFault.TheVariants as rule_fault
 use Rattle.slp_stream.specs.Framing.{Frames}
 use Rattle.std.specs.Option.{option_map_or}
 use Rattle.site_config.specs.Configurations.{config_of}

@@ -5,9 +5,9 @@ use Rattle.std.specs.Result.{is_ok, result_ok}
 use Rattle.std.proofs.lemmas.Bool.{false≢true}
 use Rattle.toml.proofs.OnLiterals.{toml_on_literals}
 use Rattle.access_rules.specs.Deciding.{SiteRules}
-use Rattle.access_rules.specs.RuleFiles.{IsFault, rules_in_table, rules_in_text}
-use Rattle.access_rules.specs.declared.fault.RuleFault.{RuleFault}
-use Rattle.access_rules.specs.declared.fault.RuleFault.TheVariants.{Shape, TwiceName, NoMemory, Toml}
+use Rattle.rule_files.specs.RuleFiles.{IsFault, rules_in_table, rules_in_text}
+use Rattle.rule_files.specs.declared.fault.RuleFault.{RuleFault}
+use Rattle.rule_files.specs.declared.fault.RuleFault.TheVariants.{Shape, TwiceName, NoMemory, Toml}
 use Rattle.replay_program.specs.OpeningRules.{opening_rules}
 use Rattle.replay_program.specs.declared.opening.TheConstants.{OPENING_RULES}
 

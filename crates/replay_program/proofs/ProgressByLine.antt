@@ -5,9 +5,9 @@ use Rattle.std.specs.Io.KnownBytes.{Keeps}
 use Rattle.std.specs.Option.{option_map, option_map_or}
 use Rattle.std.proofs.lemmas.List.{append-nil}
 use Rattle.access_rules.specs.Deciding.{SiteRules}
-use Rattle.access_rules.specs.RuleFiles.{rules_in_text}
-use Rattle.access_rules.specs.declared.fault.RuleFault.{RuleFault}
-use Rattle.access_rules.specs.declared.fault.RuleFault.TheVariants as rule_fault
+use Rattle.rule_files.specs.RuleFiles.{rules_in_text}
+use Rattle.rule_files.specs.declared.fault.RuleFault.{RuleFault}
+use Rattle.rule_files.specs.declared.fault.RuleFault.TheVariants as rule_fault
 use Rattle.site_config.specs.Configurations.{config_of}
 use Rattle.site_config.specs.declared.config.Config.{Config}
 use Rattle.site_config.specs.declared.fault.ConfigFault.{ConfigFault}

@@ -3,7 +3,7 @@ use Rattle.std.specs.Prelude.{◌≡◌, ◌⊎◌, ℕ, ◌-◌, Bool, true, fa
 use Rattle.std.specs.Io.KnownBytes.{Appends, Keeps}
 use Rattle.replay_program.specs.OpeningRules.{opening_rules}
 use Rattle.access_rules.specs.Deciding.{SiteRules, number}
-use Rattle.access_rules.specs.declared.fault.RuleFault.{RuleFault}
+use Rattle.rule_files.specs.declared.fault.RuleFault.{RuleFault}
 use Rattle.slp_headers.specs.Headers.{heading_of}
 use Rattle.directory_judge.specs.History.{Event}
 use Rattle.directory_state.specs.Folds.{Fold}

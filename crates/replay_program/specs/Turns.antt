@@ -3,8 +3,8 @@ use Rattle.std.specs.Prelude.{◌≡◌, ◌⊎◌, ℕ, ◌+◌, ◌≤◌, nat
 use Rattle.std.specs.Option.{option_map, option_map_or}
 use Rattle.site_config.specs.Configurations.{config_of, longest_text}
 use Rattle.site_config.specs.declared.fault.ConfigFault.TheVariants.{Range}
-use Rattle.access_rules.specs.RuleFiles.{rules_in_text}
-use Rattle.access_rules.specs.declared.fault.RuleFault.TheVariants as rule_fault
+use Rattle.rule_files.specs.RuleFiles.{rules_in_text}
+use Rattle.rule_files.specs.declared.fault.RuleFault.TheVariants as rule_fault
 use Rattle.std.specs.Io.KnownBytes.{Keeps}
 use Rattle.slp_script.specs.Commands.{Command, Single, Reads, order_of, block_of, block_start, IsBody, IsBodyLine, block_end, longest_line}
 use Rattle.slp_script.specs.declared.command.Block.{Block}

@@ -5,8 +5,8 @@ use Rattle.std.specs.Option.{option_map_or}
 use Rattle.hex.specs.Hex.{encode_lower}
 use Rattle.slp_headers.specs.Headers.{heading_of}
 use Rattle.access_rules.specs.Deciding.{SiteRules, no_rules, number}
-use Rattle.access_rules.specs.RuleFiles.{rules_in_text}
-use Rattle.access_rules.specs.declared.fault.RuleFault.{RuleFault}
+use Rattle.rule_files.specs.RuleFiles.{rules_in_text}
+use Rattle.rule_files.specs.declared.fault.RuleFault.{RuleFault}
 use Rattle.directory_judge.specs.History.{History, Event, Act, Sweep, Reload, now}
 use Rattle.directory_judge.specs.Meaning.{rules}
 use Rattle.directory_questions.specs.Answers.{IsAnswer}

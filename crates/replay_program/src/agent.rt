@@ -2,8 +2,8 @@ ghost use Rattle.std.specs.Prelude.{◌≡◌, ◌≤◌, [], IfOk, MatchResult}
 ghost use Rattle.std.specs.Arc.{arc_value};
 ghost use Rattle.std.specs.FinMap as fin;
 ghost use Rattle.std.specs.Option.{option_map_or, option_copied};
-ghost use Rattle.access_rules.specs.RuleFiles.{rules_in_text};
-ghost use Rattle.access_rules.specs.declared.fault.RuleFault.TheVariants as rule_fault;
+ghost use Rattle.rule_files.specs.RuleFiles.{rules_in_text};
+ghost use Rattle.rule_files.specs.declared.fault.RuleFault.TheVariants as rule_fault;
 ghost use Rattle.directory_state.specs.Folds.{Fold};
 ghost use Rattle.directory_state.specs.State.{opening_state};
 ghost use Rattle.replay_program.specs.Worlds.{opening_listen, site_in};
@@ -17,13 +17,16 @@ ghost use Rattle.srv_template.specs.Templates.{added_to, IsReading};
 ghost use Rattle.srv_template.specs.declared.fault.ParseFault.TheVariants as template;
 
 use crate::opening;
-use access_rules::{Addr, RuleFault, Rules};
+use access_rules::Rules;
+use addresses::Addr;
 use directory_judge::Site;
 use directory_state::Directory;
 use registry_core::RegistryFault;
+use rule_files::{RuleFault, rules_of_text};
 use site_config::{Config, ConfigFault};
 use slp_answer::{Answer, Call, Sent, step};
-use slp_text::{NoMemory, Row, ScopeList, TextFault};
+use slp_scopes::ScopeList;
+use slp_text::{NoMemory, Row, TextFault};
 use srv_template::{ParseFault, Template, Templates};
 use std::alloc::Global;
 use std::sync::Arc;
@@ -280,7 +283,7 @@ impl Agent {
         let Some(text) = text else {
             return Ok(Err(RuleFault::Shape(0)));
         };
-        match Rules::from_text(alloc, text) {
+        match rules_of_text(alloc, text) {
             Ok(rules) => {
                 let number = rules.len();
                 let rules = Arc::new(alloc, rules)?;

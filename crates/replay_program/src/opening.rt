@@ -2,7 +2,8 @@
 ghost use Rattle.std.specs.Prelude.{◌≡◌, IfOk};
 ghost use Rattle.replay_program.specs.OpeningRules.{opening_rules};
 
-use access_rules::{RuleFault, Rules};
+use access_rules::Rules;
+use rule_files::{RuleFault, rules_of_text};
 use slp_text::NoMemory;
 use std::alloc::Global;
 
@@ -39,7 +40,7 @@ verdict = \"allow\"
 pub fn rules(alloc: Global) -> Result<Rules, NoMemory>
     ensures { IfOk result (λ r. r ≡ opening_rules) }
 {
-    match Rules::from_text(alloc, OPENING_RULES) {
+    match rules_of_text(alloc, OPENING_RULES) {
         Ok(rules) => Ok(rules),
         Err(RuleFault::NoMemory) => Err(NoMemory),
         Err(RuleFault::Shape(_) | RuleFault::TwiceName | RuleFault::Toml) => unreachable!(),

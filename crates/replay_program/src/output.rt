@@ -3,7 +3,7 @@ ghost use Rattle.std.specs.Io.KnownBytes.{Appends};
 ghost use Rattle.hex.specs.Hex.{encode_lower};
 ghost use Rattle.replay_program.specs.Worlds.{no_memory_text, answer_text};
 
-use access_rules::Addr;
+use addresses::Addr;
 use slp_answer::refusal;
 use std::io;
 use std::io::Write;

@@ -11,7 +11,7 @@ use crate::exchange::meet;
 use crate::fault::RunFault;
 use crate::session::{LONGEST_ON_STREAM, LONGEST_REPLY, Session};
 use crate::stream::take_piece;
-use access_rules::Addr;
+use addresses::Addr;
 use site_config::LONGEST_CONFIG;
 use site_reports::{print_config, print_rules, print_template};
 use slp_answer::Answer;

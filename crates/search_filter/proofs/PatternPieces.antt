@@ -6,7 +6,7 @@ use Rattle.std.specs.Prelude.{string_bytes, String}
 use Rattle.std.specs.declared.alloc.Global.{Global}
 use Rattle.slp_text.specs.Ascii.{asterisk}
 use Rattle.slp_text.specs.Reading.{read_all, read_map, read_then}
-use Rattle.slp_text.specs.Tags.{is_star}
+use Rattle.slp_tags.specs.Tags.{is_star}
 use Rattle.attr_list.specs.Pieces.{part_after, part_before, IsShorter}
 use Rattle.attr_list.proofs.CutTexts.{after-shorter, by_test}
 use Rattle.search_filter.specs.Operands.{characters_in}

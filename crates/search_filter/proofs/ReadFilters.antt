@@ -16,7 +16,8 @@ use Rattle.search_filter.specs.declared.fault.FilterFault.TheVariants.{Syntax}
 use Rattle.search_filter.specs.declared.item.Item.{Item}
 use Rattle.search_filter.specs.declared.parsing.Connective.{Connective}
 use Rattle.search_filter.specs.declared.parsing.Connective.TheVariants.{And, Or, Not}
-use Rattle.search_filter.proofs.ReadItems.{item-spelled, then_ok}
+use Rattle.search_filter.proofs.ReadItems.{item-spelled}
+use Rattle.slp_text.proofs.Readers.{then_ok}
 
 -- ---- what was read before a point
 

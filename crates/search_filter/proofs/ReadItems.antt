@@ -9,6 +9,7 @@ use Rattle.slp_text.specs.declared.escapes.Place.TheVariants as place
 use Rattle.slp_text.specs.declared.escapes.Stage.TheVariants.{Plain, Slash, Digit}
 use Rattle.slp_text.specs.declared.faults.TextFault.{TextFault}
 use Rattle.slp_text.specs.declared.faults.TextFault.TheVariants.{BadEscape}
+use Rattle.slp_text.proofs.Readers.{then_ok}
 use Rattle.attr_values.specs.declared.fault.AttrFault.TheVariants.{BadTag}
 use Rattle.attr_list.specs.Pieces.{part_after, part_before}
 use Rattle.attr_list.specs.Reading as attr
@@ -171,11 +172,6 @@ operator_cut cs rest =
     (λ g. cut.by_test (ends_at less_than_sign cs) (λ t. rw (f, g, t) (marked_cut less_than_sign cs rest t)) (λ k. rw (f, g, k) (sym (append_assoc cs (equals_sign ∷ []) rest)))))
 
 -- ---- the item
-
--- what was read first, and what was read then
-pub then_ok : {A B E : Type 0} (f : A → Result B E) (r : Result A E) (y : B) → read_then f r ≡ Ok y → (x : A) × (r ≡ Ok x) × (f x ≡ Ok y)
-then_ok f (Ok x) y h = (x, refl, h)
-then_ok f (Err e) y h = cc
 
 -- the item of a tag and a condition
 abbrev item_of : List ℕ → Condition → Item

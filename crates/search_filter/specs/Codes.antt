@@ -1,34 +1,17 @@
 -- How filters are stored as data: as a list, each filter after those in it.
-use Rattle.std.specs.Prelude.{◌≡◌, ◌⊎◌, ℕ, ℤ, Bool, List, [], ◌∷◌, ◌==◌, Option, Some, None, refl, if◌then◌else◌}
+use Rattle.std.specs.Prelude.{◌≡◌, ◌⊎◌, ℕ, List, [], ◌∷◌, ◌==◌, Option, Some, None, refl, if◌then◌else◌}
 use Rattle.std.proofs.Common.{ap, ◌∙◌}
-use Rattle.std.specs.Coded.{Coded, code_by, coded×, coded⊎, coded_ℕ, coded_ℤ, coded_bool, coded_list, coded_option}
+use Rattle.std.specs.Coded.{Coded, code_by, coded×, coded⊎, coded_ℕ, coded_list, coded_option}
 use mathlib.Core.Logic.{inl, inr}
-use Rattle.slp_text.specs.Tags.{Sign}
+use Rattle.slp_tags.specs.Tags.{Sign}
 use Rattle.search_filter.specs.Filters.{Filter, Filters, all, any, negated, item, none, more}
 use Rattle.search_filter.specs.Reading.{filters_with}
 use Rattle.search_filter.specs.declared.item.Condition.{Condition}
 use Rattle.search_filter.specs.declared.item.Condition.TheVariants.{Present, Equal, AtLeast, AtMost, Like}
 use Rattle.search_filter.specs.declared.item.Item.{Item}
-use Rattle.search_filter.specs.declared.operand.Operand.{Operand}
-use Rattle.search_filter.specs.declared.operand.Operand.TheVariants as operand
+use Rattle.attr_operands.specs.Codes.{OperandChoice, operand_choice, operand_from, operand_back, operand_choice_code}
 
 -- ---- an item
-
--- an operand as one of four
-abbrev pub OperandChoice : Type 0
-OperandChoice = Bool ⊎ (ℤ ⊎ (List ℕ ⊎ List ℕ))
-
-abbrev pub operand_choice : Operand → OperandChoice
-operand_choice (operand.Bool b) = inl b
-operand_choice (operand.Int n) = inr (inl n)
-operand_choice (operand.Opaque bytes) = inr (inr (inl bytes))
-operand_choice (operand.Text k) = inr (inr (inr k))
-
-abbrev pub operand_from : OperandChoice → Operand
-operand_from (inl b) = operand.Bool b
-operand_from (inr (inl n)) = operand.Int n
-operand_from (inr (inr (inl bytes))) = operand.Opaque bytes
-operand_from (inr (inr (inr k))) = operand.Text k
 
 -- a condition as a comparison with an operand, or a pattern, if it is not that the tag is there
 abbrev pub ConditionChoice : Type 0
@@ -45,12 +28,6 @@ abbrev pub condition_from : ConditionChoice → Condition
 condition_from (inl c) = if c.0 == 0 then Equal (operand_from c.1) else (if c.0 == 1 then AtLeast (operand_from c.1) else AtMost (operand_from c.1))
 condition_from (inr None) = Present
 condition_from (inr (Some p)) = Like p
-
-abbrev pub operand_back : (o : Operand) → operand_from (operand_choice o) ≡ o
-operand_back (operand.Bool b) = refl
-operand_back (operand.Int n) = refl
-operand_back (operand.Opaque bytes) = refl
-operand_back (operand.Text k) = refl
 
 abbrev pub condition_back : (c : Condition) → condition_from (condition_choice c) ≡ c
 condition_back Present = refl
@@ -133,9 +110,6 @@ abbrev mutual
 
 abbrev pub filter_back : (f : Filter) → filter_from (marks_before f []) ≡ f
 filter_back f = ap filter_by (filter_marked f [] none [])
-
-abbrev pub operand_choice_code : Coded OperandChoice
-operand_choice_code = coded⊎ coded_bool (coded⊎ coded_ℤ (coded⊎ (coded_list coded_ℕ) (coded_list coded_ℕ)))
 
 abbrev pub condition_choice_code : Coded ConditionChoice
 condition_choice_code = coded⊎ (coded× coded_ℕ operand_choice_code) (coded_option (coded_list (coded_option coded_ℕ)))

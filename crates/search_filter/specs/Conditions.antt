@@ -1,10 +1,7 @@
 -- Which values meet the condition of an item, and on which attributes an item and its negation hold (RFC 2608, section 8.1).
-use Rattle.std.specs.Prelude.{Bool, false, true, not, ◌&&◌, ◌||◌, Option, Some, None}
+use Rattle.std.specs.Prelude.{Bool, false, true, not, Option, Some, None}
 use Rattle.std.specs.FinMap as fin
 use Rattle.std.specs.List.{list_any}
-use Rattle.std.specs.Ordering.{int_cmp, int_eq, is_eq, is_ge, is_le}
-use Rattle.slp_text.specs.Keys.{key_of}
-use Rattle.slp_text.specs.Words.{bytes_cmp, bytes_eq}
 use Rattle.text_patterns.specs.Patterns.{matches_key}
 use Rattle.attr_values.specs.declared.value.Value.{Value}
 use Rattle.attr_values.specs.declared.value.Value.TheVariants as value
@@ -14,28 +11,7 @@ use Rattle.attr_list.specs.declared.held.Held.TheVariants.{Keyword, Values}
 use Rattle.search_filter.specs.declared.item.Condition.{Condition}
 use Rattle.search_filter.specs.declared.item.Condition.TheVariants.{Present, Equal, AtLeast, AtMost, Like}
 use Rattle.search_filter.specs.declared.item.Item.{Item}
-use Rattle.search_filter.specs.declared.operand.Operand.{Operand}
-use Rattle.search_filter.specs.declared.operand.Operand.TheVariants as operand
-
--- of the operand's kind, and the same: texts by their keys
-abbrev pub is_equal : Operand → Value → Bool
-is_equal (operand.Bool a) (value.Bool b) = (a && b) || not (a || b)
-is_equal (operand.Int a) (value.Int b) = int_eq a b
-is_equal (operand.Opaque a) (value.Opaque b) = bytes_eq a b
-is_equal (operand.Text k) (value.Text t) = is_eq (bytes_cmp (key_of t) k)
-is_equal _ _ = false
-
--- both numbers or both texts, and the value is the operand or after it
-abbrev pub is_at_least : Operand → Value → Bool
-is_at_least (operand.Int a) (value.Int b) = is_le (int_cmp a b)
-is_at_least (operand.Text k) (value.Text t) = is_ge (bytes_cmp (key_of t) k)
-is_at_least _ _ = false
-
--- both numbers or both texts, and the value is the operand or before it
-abbrev pub is_at_most : Operand → Value → Bool
-is_at_most (operand.Int a) (value.Int b) = is_le (int_cmp b a)
-is_at_most (operand.Text k) (value.Text t) = is_le (bytes_cmp (key_of t) k)
-is_at_most _ _ = false
+use Rattle.attr_operands.specs.Operands.{is_equal, is_at_least, is_at_most}
 
 -- the value meets the condition; each value is there
 abbrev pub meets : Condition → Value → Bool

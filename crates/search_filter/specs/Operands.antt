@@ -5,9 +5,9 @@ use Rattle.std.specs.Option.{option_map_or}
 use Rattle.std.specs.Str.{is_utf8}
 use Rattle.slp_text.specs.Ascii.{asterisk, colon, equals_sign, greater_than_sign, less_than_sign, tilde}
 use Rattle.slp_text.specs.Escapes.{unescaped_bytes}
-use Rattle.slp_text.specs.Keys.{key_of, squeezed_text, trimmed_text}
+use Rattle.slp_text.specs.Keys.{squeezed_text, trimmed_text}
 use Rattle.slp_text.specs.Reading.{read_all, read_map, read_then}
-use Rattle.slp_text.specs.Tags.{is_star}
+use Rattle.slp_tags.specs.Tags.{is_star}
 use Rattle.slp_text.specs.declared.faults.TextFault.{TextFault}
 use Rattle.text_patterns.specs.Patterns.{pattern_of}
 use Rattle.attr_values.specs.Values.{opaque_bytes, opaque_rest, value_of_form}
@@ -22,8 +22,9 @@ use Rattle.search_filter.specs.declared.fault.FilterFault.TheVariants.{Syntax, W
 use Rattle.search_filter.specs.declared.item.Condition.{Condition}
 use Rattle.search_filter.specs.declared.item.Condition.TheVariants.{Present, Equal, AtLeast, AtMost, Like}
 use Rattle.search_filter.specs.declared.item.Item.{Item}
-use Rattle.search_filter.specs.declared.operand.Operand.{Operand}
-use Rattle.search_filter.specs.declared.operand.Operand.TheVariants as operand
+use Rattle.attr_operands.specs.declared.operand.Operand.{Operand}
+use Rattle.attr_operands.specs.declared.operand.Operand.TheVariants as operand
+use Rattle.attr_operands.specs.Operands.{operand_of}
 use Rattle.search_filter.specs.declared.reading.Operator.{Operator}
 use Rattle.search_filter.specs.declared.reading.Operator.TheVariants as operator
 
@@ -74,13 +75,6 @@ characters_by (Err e) = Err Syntax
 -- characters with their escapes read, each of any byte
 abbrev pub characters_in : List ℕ → Result (List ℕ) FilterFault
 characters_in cs = characters_by (unescaped_bytes (encode_utf8_all cs))
-
--- what values are compared with: of a text its key
-abbrev pub operand_of : Value → Operand
-operand_of (value.Bool b) = operand.Bool b
-operand_of (value.Int n) = operand.Int n
-operand_of (value.Opaque bytes) = operand.Opaque bytes
-operand_of (value.Text t) = operand.Text (key_of t)
 
 -- escapes of any byte, and nothing raw
 abbrev pub opaque_by : Result (List ℕ) TextFault → Result Operand FilterFault

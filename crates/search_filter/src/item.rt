@@ -7,8 +7,8 @@ ghost use Rattle.attr_list.specs.Tests.{AcceptsAs};
 ghost use Rattle.search_filter.specs.Conditions as spec;
 ghost use Rattle.search_filter.specs.Conditions.{is_met, is_missed, item_holds, negated_item_holds};
 
-use crate::operand::Operand;
 use attr_list::{Attrs, Held, Value};
+use attr_operands::Operand;
 use slp_text::Key;
 use text_patterns::Pattern;
 

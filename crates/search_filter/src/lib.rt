@@ -6,11 +6,10 @@ mod fault;
 mod filter;
 mod item;
 pub mod laws;
-mod operand;
 mod parsing;
 mod reading;
 mod tree;
 
+pub use attr_operands::Operand;
 pub use fault::FilterFault;
 pub use filter::Filter;
-pub use operand::Operand;

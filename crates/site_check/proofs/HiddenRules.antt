@@ -12,10 +12,11 @@ use Rattle.slp_text.proofs.KeySets.{bytes_same}
 use Rattle.slp_text.specs.Ascii.{colon}
 use Rattle.service_url.specs.Types.{covers, is_abstract}
 use Rattle.service_url.proofs.Roots.{begins}
-use Rattle.access_rules.specs.Deciding.{Deed, action_eq, is_own, allows_kind, allows_scope, fits, holds}
+use Rattle.access_rules.specs.Deciding.{Deed, action_eq, is_own, allows_kind, allows_scope, fits}
+use Rattle.addresses.specs.Addresses.{holds}
 use Rattle.access_rules.specs.declared.rule.Action.{Action}
 use Rattle.access_rules.specs.declared.rule.Action.TheVariants.{Register, Withdraw, See}
-use Rattle.access_rules.specs.declared.rule.Prefix.{Prefix}
+use Rattle.addresses.specs.declared.prefix.Prefix.{Prefix}
 use Rattle.access_rules.specs.declared.rule.Rule.{Rule}
 use Rattle.site_check.specs.Hiding.{hides, hides_kind, hides_scopes, is_inside}
 

@@ -6,7 +6,7 @@ use Rattle.std.proofs.KnownBytes.{Appends-trans}
 use Rattle.std.proofs.lemmas.List.{map-append}
 use Rattle.std.specs.Result.{result_ok}
 use Rattle.access_rules.specs.Deciding.{SiteRules}
-use Rattle.access_rules.specs.RuleFiles.{rules_in_text}
+use Rattle.rule_files.specs.RuleFiles.{rules_in_text}
 use Rattle.srv_template.specs.Conformity.{SiteTemplates}
 use Rattle.site_config.specs.Configurations.{IsFault, config_of}
 use Rattle.site_config.specs.declared.config.Config.{Config}

@@ -6,7 +6,7 @@ use Rattle.std.specs.declared.alloc.Global.{Global}
 use Rattle.std.proofs.lemmas.List.{flat_map_more}
 use Rattle.toml.specs.View.{members_view, table_view}
 use Rattle.toml.specs.declared.value.Value.{Value}
-use Rattle.access_rules.specs.Tables.{keys_of}
+use Rattle.toml_tables.specs.Tables.{keys_of}
 
 -- the texts of keys that were met
 abbrev pub texts : List (Bor (String Global)) → List (List ℕ)

@@ -4,7 +4,7 @@ use Rattle.std.specs.List.{flat_map}
 use Rattle.std.specs.Option.{option_map_or}
 use Rattle.std.specs.Result.{result_err}
 use Rattle.toml.specs.Data.{Members}
-use Rattle.access_rules.specs.Tables.{keys_of, number_in}
+use Rattle.toml_tables.specs.Tables.{keys_of, number_in}
 use Rattle.site_config.specs.Configurations.{capacity_key, connections_key, is_known, listen_in, listen_key, needed_value, optional_value, path_in, rules_key, scopes_in, scopes_key, sweep_key, templates_in, templates_key}
 use Rattle.site_config.specs.declared.fault.ConfigFault.{ConfigFault}
 use Rattle.site_config.specs.declared.fault.ConfigFault.TheVariants as fault

@@ -3,8 +3,9 @@ use Rattle.std.specs.Prelude.{ℕ, Bool, true, false, ◌&&◌, ◌||◌, not, n
 use Rattle.std.specs.List.{list_all, list_any}
 use Rattle.slp_text.specs.Words.{bytes_eq}
 use Rattle.service_url.specs.Types.{covers}
-use Rattle.access_rules.specs.Deciding.{action_eq, holds}
-use Rattle.access_rules.specs.declared.rule.Prefix.{Prefix}
+use Rattle.access_rules.specs.Deciding.{action_eq}
+use Rattle.addresses.specs.Addresses.{holds}
+use Rattle.addresses.specs.declared.prefix.Prefix.{Prefix}
 use Rattle.access_rules.specs.declared.rule.Rule.{Rule}
 
 -- each address of a prefix is one of another: that has no more bits, and holds the first of them

@@ -4,10 +4,10 @@ use Rattle.std.specs.List.{enumerate_from, flat_map}
 use Rattle.std.specs.Option.{option_map, option_map_or}
 use Rattle.toml.specs.Data.{Data, as_table, Members, get_member}
 use Rattle.slp_text.specs.Words.{bytes_eq}
-use Rattle.access_rules.specs.RuleFiles.{hide_key, is_plain_file_key, name_key, rule_key, version_in, version_key}
-use Rattle.access_rules.specs.Tables.{array_values, is_some_list, keys_of, text_at, values_at}
-use Rattle.access_rules.specs.declared.version.Version.{Version}
-use Rattle.access_rules.specs.declared.version.Version.TheVariants.{One, Two, Three}
+use Rattle.rule_files.specs.RuleFiles.{hide_key, is_plain_file_key, name_key, rule_key, version_in, version_key}
+use Rattle.toml_tables.specs.Tables.{array_values, is_some_list, keys_of, text_at, values_at}
+use Rattle.rule_files.specs.declared.version.Version.{Version}
+use Rattle.rule_files.specs.declared.version.Version.TheVariants.{One, Two, Three}
 use Rattle.site_check.specs.Lines.{At, EarlyHides, File, Missing, Place, Problem, SameName, TooManyRules, TooManyTogether, UnknownKey, Value, problem_line}
 use Rattle.site_check.specs.declared.problem.Numbered.{Numbered}
 use Rattle.site_check.specs.declared.problem.Numbered.TheVariants.{Rule, Hide}

@@ -4,10 +4,10 @@ use Rattle.std.specs.List.{flat_map, list_any}
 use Rattle.std.specs.Option.{option_map_or}
 use Rattle.toml.specs.Data.{Data, as_table, Members, get_member}
 use Rattle.slp_text.specs.Words.{bytes_eq}
-use Rattle.access_rules.specs.RuleFiles.{action_in, action_key, from_in, from_key, kind_in, name_in, name_key, owner_in, owner_key, scopes_in, scopes_key, spare_owner_in, spare_owner_key, tags_in, tags_key, type_key, verdict_in, verdict_key}
-use Rattle.access_rules.specs.Tables.{keys_of}
-use Rattle.access_rules.specs.declared.version.Version.{Version}
-use Rattle.access_rules.specs.declared.version.Version.TheVariants.{One, Two, Three}
+use Rattle.rule_files.specs.RuleFiles.{action_in, action_key, from_in, from_key, kind_in, name_in, name_key, owner_in, owner_key, scopes_in, scopes_key, spare_owner_in, spare_owner_key, tags_in, tags_key, type_key, verdict_in, verdict_key}
+use Rattle.toml_tables.specs.Tables.{keys_of}
+use Rattle.rule_files.specs.declared.version.Version.{Version}
+use Rattle.rule_files.specs.declared.version.Version.TheVariants.{One, Two, Three}
 use Rattle.site_check.specs.Lines.{EarlyKey, Missing, NotTable, Place, Problem, UnknownKey, Value, problem_line}
 use Rattle.site_check.specs.declared.rule_keys.Keys as lent
 use Rattle.site_check.specs.declared.rule_keys.RuleKey.{RuleKey}

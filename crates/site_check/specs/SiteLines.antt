@@ -5,8 +5,8 @@ use Rattle.std.specs.Fmt.{decimal}
 use Rattle.std.specs.Io.KnownBytes.{Appends}
 use Rattle.std.specs.Result.{result_ok, result_unwrap_or}
 use Rattle.access_rules.specs.Deciding.{SiteRules, rules_in}
-use Rattle.access_rules.specs.RuleFiles.{rules_in_text}
-use Rattle.access_rules.specs.declared.fault.RuleFault.{RuleFault}
+use Rattle.rule_files.specs.RuleFiles.{rules_in_text}
+use Rattle.rule_files.specs.declared.fault.RuleFault.{RuleFault}
 use Rattle.service_url.specs.Types.{type_of}
 use Rattle.site_config.specs.Configurations.{config_of}
 use Rattle.site_config.specs.declared.config.Config.{Config}

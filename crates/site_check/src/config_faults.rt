@@ -3,7 +3,7 @@ ghost use Rattle.std.specs.Prelude.{◌≡◌, ◌≤◌, OnOk, flat_map, length
 ghost use Rattle.std.specs.Io.KnownBytes.{Appends};
 ghost use Rattle.toml.specs.Errors.{IsMemory, span_start};
 ghost use Rattle.toml.specs.View.{table_view, view};
-ghost use Rattle.access_rules.specs.Tables as tables;
+ghost use Rattle.toml_tables.specs.Tables as tables;
 ghost use Rattle.site_config.specs.Tables.{members_in};
 ghost use Rattle.site_check.specs.ConfigFaults.{IsKeyFault, config_lines, config_table_lines, key_fault, key_line, key_refusal, key_text, unknown_line};
 ghost use Rattle.site_check.specs.NotToml.{AppendsStopped, Stop, not_toml_line};

@@ -6,8 +6,9 @@ ghost use Rattle.slp_text.specs.Words.{bytes_eq};
 ghost use Rattle.site_check.specs.Hiding as spec;
 ghost use Rattle.site_check.specs.Hiding.{hides_kind, hides_scopes};
 
-use access_rules::{Action, Prefix, Rule};
-use slp_text::ScopeList;
+use access_rules::{Action, Rule};
+use addresses::Prefix;
+use slp_scopes::ScopeList;
 
 // Whether each address of a prefix is one of another.
 fn is_inside(prefix: &Prefix, wide: &Prefix) -> bool

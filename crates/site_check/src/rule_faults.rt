@@ -4,7 +4,7 @@ ghost use Rattle.std.specs.Io.KnownBytes.{Appends};
 ghost use Rattle.std.specs.List.{enumerate_from};
 ghost use Rattle.std.specs.Option.{option_copied, option_map};
 ghost use Rattle.toml.specs.View.{table_view, view};
-ghost use Rattle.access_rules.specs.Tables as tables;
+ghost use Rattle.toml_tables.specs.Tables as tables;
 ghost use Rattle.site_check.specs.Lines.{place_in, problem_in};
 ghost use Rattle.site_check.specs.NotToml.{AppendsStopped};
 ghost use Rattle.site_check.specs.RuleFaults as spec;
@@ -14,10 +14,11 @@ use crate::config_faults::explain_toml;
 use crate::fault::CheckFault;
 use crate::problem::{FileText, LONGEST_TEXT, Numbered, Place, Problem, report};
 use crate::rule_keys::{explain_value, hide_keys, keys_of};
-use access_rules::{Version, fields};
+use rule_files::{Version, fields};
 use std::alloc::Global;
 use std::io::{self, Write};
 use toml::{Table, Value};
+use toml_tables::{array_values, value_at};
 
 /// The most rules and hide tables of a file.
 const MOST_RULES: usize = 1_024;
@@ -26,7 +27,7 @@ const MOST_RULES: usize = 1_024;
 fn name_of(value: &Value) -> Option<&str>
     ensures { option_copied result ≡ name_given (view value.now) }
 {
-    fields::value_at(value.as_table()?, "name")?.as_str()
+    value_at(value.as_table()?, "name")?.as_str()
 }
 
 // Whether a value gives this name.
@@ -165,7 +166,7 @@ fn explain_version<W: Write>(file: &str, table: &Table, writer: &mut W) -> io::R
     if fields::version(table).is_some() {
         return Ok(());
     }
-    let problem = match fields::value_at(table, "version") {
+    let problem = match value_at(table, "version") {
         None => Problem::Missing("version"),
         Some(_) => Problem::Value("version", "neither 1, 2 nor 3"),
     };
@@ -225,8 +226,8 @@ fn explain_file_keys<W: Write>(
 fn array_at<'a>(table: &'a Table, key: &str) -> &'a [Value]
     ensures { map view result.now ≡ spec.array_at key.now (table_view table.now) }
 {
-    match fields::value_at(table, key) {
-        Some(value) => match fields::array_values(value) {
+    match value_at(table, key) {
+        Some(value) => match array_values(value) {
             Some(values) => values,
             None => &[],
         },
@@ -238,10 +239,10 @@ fn array_at<'a>(table: &'a Table, key: &str) -> &'a [Value]
 fn explain_array<W: Write>(file: &str, table: &Table, key: &str, writer: &mut W) -> io::Result<()>
     ensures { OnOk result (Appends (W.contents writer.old) (W.contents writer.new) (array_line file.now (table_view table.now) key.now)) }
 {
-    let Some(value) = fields::value_at(table, key) else {
+    let Some(value) = value_at(table, key) else {
         return Ok(());
     };
-    match fields::array_values(value) {
+    match array_values(value) {
         Some(_) => Ok(()),
         None => {
             let problem = Problem::Value(key, "not an array of tables");

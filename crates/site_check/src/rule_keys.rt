@@ -3,18 +3,19 @@ ghost use Rattle.std.specs.Prelude.{◌≡◌, IfOk, OnOk, flat_map};
 ghost use Rattle.std.specs.Io.KnownBytes.{Appends};
 ghost use Rattle.std.specs.Option.{option_map};
 ghost use Rattle.toml.specs.View.{table_view, view};
-ghost use Rattle.access_rules.specs.Tables as tables;
+ghost use Rattle.toml_tables.specs.Tables as tables;
 ghost use Rattle.site_check.specs.Lines.{place_in, problem_in};
 ghost use Rattle.site_check.specs.RuleKeys as spec;
 ghost use Rattle.site_check.specs.RuleKeys.{key_line, key_refusal, key_text, keys_in, other_line, rule_keys, table_lines, value_lines};
 
 use crate::fault::CheckFault;
 use crate::problem::{Place, Problem, report};
-use access_rules::{Version, fields};
+use rule_files::{Version, fields};
 use slp_text::NoMemory;
 use std::alloc::Global;
 use std::io::{self, Write};
 use toml::{Table, Value};
+use toml_tables::value_at;
 
 /// A key of a rule or of a hide table.
 #[derive(Clone, Copy)]
@@ -135,7 +136,7 @@ impl RuleKey {
             return Ok(());
         }
         let (text, refusal) = self.texts();
-        let problem = match fields::value_at(table, text) {
+        let problem = match value_at(table, text) {
             None => Problem::Missing(text),
             Some(_) => Problem::Value(text, refusal),
         };

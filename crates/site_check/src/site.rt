@@ -4,7 +4,7 @@ ghost use Rattle.std.specs.FinMap as fin;
 ghost use Rattle.std.specs.Io.KnownBytes.{Appends};
 ghost use Rattle.std.specs.Option.{option_copied};
 ghost use Rattle.std.specs.Result.{result_ok, result_unwrap_or};
-ghost use Rattle.access_rules.specs.RuleFiles.{rules_in_text};
+ghost use Rattle.rule_files.specs.RuleFiles.{rules_in_text};
 ghost use Rattle.service_url.specs.Types.{type_of};
 ghost use Rattle.srv_template.specs.Templates.{added_to};
 ghost use Rattle.site_check.specs.ConfigFaults.{config_lines};
@@ -17,11 +17,13 @@ use crate::problem::{FileText, Place, Problem, Warning, report, warn};
 use crate::rule_faults::explain_rules;
 use crate::template_faults::explain_template;
 use crate::warnings::{warn_of_kind, warn_of_rules};
-use access_rules::{RuleFault, Rules};
+use access_rules::Rules;
+use rule_files::{RuleFault, rules_of_text};
 use service_url::{ServiceType, UrlFault};
 use site_config::{Config, ConfigFault};
 use site_opening::{FileFault, read};
-use slp_text::{NoMemory, ScopeList, Text};
+use slp_scopes::ScopeList;
+use slp_text::{NoMemory, Text};
 use srv_template::{ParseFault, Template, Templates};
 use std::alloc::Global;
 use std::io::Write;
@@ -61,7 +63,7 @@ fn look_at_rule_text<W: Write>(
     ensures { IfOk result (λ rules. (rules ≡ result_ok (rules_in_text file.entry.text.now))
         × AppendsStopped (W.contents writer.old) (W.contents writer.new) file.entry.text.now (rule_text_lines file.entry.path.now scopes.now file.entry.text.now)) }
 {
-    match Rules::from_text(alloc, file.text) {
+    match rules_of_text(alloc, file.text) {
         Ok(rules) => match warn_of_rules(file.path, &rules, scopes, writer) {
             Ok(()) => Ok(Some(rules)),
             Err(fault) => {

@@ -12,7 +12,8 @@ use crate::hiding::{hides, is_same};
 use crate::problem::{Numbered, Place, Warning, warn};
 use access_rules::{Action, Hide, Rule, Rules};
 use service_url::ServiceType;
-use slp_text::{Key, ScopeList};
+use slp_scopes::ScopeList;
+use slp_text::Key;
 use std::io::{self, Write};
 
 // Writes which of some earlier rules hides one, if there is one.

@@ -5,11 +5,11 @@ use Rattle.std.specs.Option.{option_map_or}
 use Rattle.toml.specs.Data.{Data, as_str, Members, get_member}
 use Rattle.toml.specs.Parse.{parse_document}
 use Rattle.slp_text.specs.Reading.{read_then}
-use Rattle.slp_text.specs.Scopes.{scopes_of, printed_scopes}
+use Rattle.slp_scopes.specs.Scopes.{scopes_of, printed_scopes}
 use Rattle.slp_text.specs.Words.{bytes_eq}
 use Rattle.slp_text.specs.declared.faults.TextFault.{TextFault}
-use Rattle.access_rules.specs.Addresses.{socket_of}
-use Rattle.access_rules.specs.Tables.{if_where, number_in, array_in, keys_of}
+use Rattle.addresses.specs.Addresses.{socket_of}
+use Rattle.toml_tables.specs.Tables.{if_where, number_in, array_in, keys_of}
 use Rattle.site_config.specs.declared.config.Config.{Config}
 use Rattle.site_config.specs.declared.fault.ConfigFault.{ConfigFault}
 use Rattle.site_config.specs.declared.fault.ConfigFault.TheVariants.{Toml, Missing, Range, NoMemory}

@@ -5,8 +5,9 @@ ghost use Rattle.site_config.specs.Tables.{members_in};
 
 use crate::fault::ConfigFault;
 use crate::keys;
-use access_rules::Addr;
-use slp_text::{Row, ScopeList, Text};
+use addresses::Addr;
+use slp_scopes::ScopeList;
+use slp_text::{Row, Text};
 use std::alloc::Global;
 use toml::Value;
 

@@ -3,15 +3,16 @@ ghost use Rattle.std.specs.Prelude.{◌≡◌, ◌≤◌, None, [], length, stri
 ghost use Rattle.std.specs.BTreeMap.{keys};
 ghost use Rattle.std.specs.List.{list_all};
 ghost use Rattle.toml.specs.View.{view};
-ghost use Rattle.access_rules.specs.Tables.{number_in, keys_of};
+ghost use Rattle.toml_tables.specs.Tables.{number_in, keys_of};
 ghost use Rattle.site_config.specs.Configurations as spec;
 ghost use Rattle.site_config.specs.Configurations.{scopes_key, listen_key, capacity_key, rules_key, templates_key, are_site_scopes, scopes_in, are_listening, listen_in, path_in, templates_in, needed_value, optional_value, numbers_in, paths_in, IsReading};
 ghost use Rattle.site_config.specs.Tables.{members_in};
 
 use crate::fault::ConfigFault;
 use crate::{sockets, values};
-use access_rules::Addr;
-use slp_text::{Row, ScopeList, Text};
+use addresses::Addr;
+use slp_scopes::ScopeList;
+use slp_text::{Row, Text};
 use std::alloc::Global;
 use toml::{Table, Value};
 
@@ -126,7 +127,7 @@ fn has_known_keys(table: &Table) -> bool
 }
 
 /// Whether a table has no key but those of a configuration.
-#[tactic(auto, using(access_rules::proofs::KeysOfTables::test_keys))]
+#[tactic(auto, using(toml_tables::proofs::KeysOfTables::test_keys))]
 pub fn are_known(table: &Value) -> bool
     ensures { result ≡ list_all spec.is_known (keys_of (members_in (view table.now))) }
 {

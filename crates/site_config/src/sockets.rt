@@ -4,13 +4,13 @@ ghost use Rattle.std.specs.List.{list_any};
 ghost use Rattle.std.specs.Option.{option_and_then};
 ghost use Rattle.toml.specs.Data.{as_str};
 ghost use Rattle.toml.specs.View.{view};
-ghost use Rattle.access_rules.specs.Addresses.{socket_of};
-ghost use Rattle.access_rules.specs.Tables.{each_in, array_in};
+ghost use Rattle.addresses.specs.Addresses.{socket_of};
+ghost use Rattle.toml_tables.specs.Tables.{each_in, array_in};
 ghost use Rattle.site_config.specs.Configurations as spec;
 ghost use Rattle.site_config.specs.Configurations.{in_range, same_socket, listen_in, IsReading};
 
 use crate::fault::ConfigFault;
-use access_rules::Addr;
+use addresses::Addr;
 use slp_text::Row;
 use std::alloc::Global;
 use toml::Value;
@@ -38,7 +38,7 @@ fn sockets(alloc: Global, values: &[Value]) -> Result<Row<(Addr, u16)>, ConfigFa
     Ok(Row::wrap(sockets))
 }
 
-#[tactic(auto, using(access_rules::proofs::Arrays::read_array))]
+#[tactic(auto, using(toml_tables::proofs::Arrays::read_array))]
 fn listed(alloc: Global, value: &Value) -> Result<Row<(Addr, u16)>, ConfigFault>
     ensures { IsReading result (in_range (array_in (λ t. option_and_then socket_of (as_str t)) (view value.now))) }
 {

@@ -2,13 +2,14 @@
 ghost use Rattle.std.specs.Prelude.{◌≡◌, ◌≤◌, ◌<◌, ◌^◌, map, length, IfOk, OnErr, IsTrue};
 ghost use Rattle.toml.specs.Data.{as_str};
 ghost use Rattle.toml.specs.View.{view};
-ghost use Rattle.access_rules.specs.Tables.{number_in, each_in, array_in};
+ghost use Rattle.toml_tables.specs.Tables.{number_in, each_in, array_in};
 ghost use Rattle.site_config.specs.Configurations as spec;
 ghost use Rattle.site_config.specs.Configurations.{in_range, scopes_in, path_in, templates_in, IsReading};
 ghost use Rattle.site_config.specs.declared.fault.ConfigFault.TheVariants as fault;
 
 use crate::fault::ConfigFault;
-use slp_text::{Row, ScopeList, Text, TextFault};
+use slp_scopes::ScopeList;
+use slp_text::{Row, Text, TextFault};
 use std::alloc::Global;
 use toml::Value;
 
@@ -72,7 +73,7 @@ pub fn path(alloc: Global, value: &Value) -> Result<Text, ConfigFault>
     Ok(Text::wrap(String::from_str(alloc, path)?))
 }
 
-#[tactic(auto, using(access_rules::proofs::Arrays::read_one, access_rules::proofs::Arrays::read_none))]
+#[tactic(auto, using(toml_tables::proofs::Arrays::read_one, toml_tables::proofs::Arrays::read_none))]
 fn paths(alloc: Global, values: &[Value]) -> Result<Row<Text>, ConfigFault>
     ensures { IsReading result (in_range (each_in as_str (map view values.now))) }
 {
@@ -86,7 +87,7 @@ fn paths(alloc: Global, values: &[Value]) -> Result<Row<Text>, ConfigFault>
     Ok(Row::wrap(paths))
 }
 
-#[tactic(auto, using(access_rules::proofs::Arrays::read_array))]
+#[tactic(auto, using(toml_tables::proofs::Arrays::read_array))]
 fn listed(alloc: Global, value: &Value) -> Result<Row<Text>, ConfigFault>
     ensures { IsReading result (in_range (array_in as_str (view value.now))) }
 {

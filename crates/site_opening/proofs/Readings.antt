@@ -2,10 +2,10 @@
 use Rattle.std.proofs.Common.{◌≡◌, List, ℕ, Option, Some, Result, Ok, Err, refl, ap, ◌∙◌}
 use Rattle.std.specs.Result.{IsErr, IsErrAnd}
 use Rattle.access_rules.specs.Deciding.{SiteRules}
-use Rattle.access_rules.specs.RuleFiles.{rules_in_text}
-use Rattle.access_rules.specs.RuleFiles as rule_files
-use Rattle.access_rules.specs.declared.fault.RuleFault.{RuleFault}
-use Rattle.access_rules.specs.declared.fault.RuleFault.TheVariants as rule_fault
+use Rattle.rule_files.specs.RuleFiles.{rules_in_text}
+use Rattle.rule_files.specs.RuleFiles as rule_files
+use Rattle.rule_files.specs.declared.fault.RuleFault.{RuleFault}
+use Rattle.rule_files.specs.declared.fault.RuleFault.TheVariants as rule_fault
 use Rattle.site_config.specs.Configurations.{config_of}
 use Rattle.site_config.specs.Configurations as configurations
 use Rattle.site_config.specs.declared.config.Config as config

@@ -2,7 +2,7 @@
 use Rattle.std.specs.Prelude.{◌≡◌, ℕ, Option, Some, None, is_some, Result, Ok, Err, IsOk, List, [], ◌∷◌, length}
 use Rattle.std.specs.FinMap as fin
 use Rattle.access_rules.specs.Deciding.{SiteRules, no_rules}
-use Rattle.access_rules.specs.RuleFiles.{rules_in_text}
+use Rattle.rule_files.specs.RuleFiles.{rules_in_text}
 use Rattle.site_config.specs.Configurations.{config_of}
 use Rattle.site_config.specs.declared.config.Config.{Config}
 use Rattle.slp_text.specs.Reading.{read_map, read_then}

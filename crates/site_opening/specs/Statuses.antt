@@ -1,7 +1,7 @@
 -- The status of a server that does not start, and what it prints.
 use Rattle.std.specs.Prelude.{ℕ, Result, Ok, Err, List, []}
-use Rattle.access_rules.specs.declared.fault.RuleFault.{RuleFault}
-use Rattle.access_rules.specs.declared.fault.RuleFault.TheVariants as rule_fault
+use Rattle.rule_files.specs.declared.fault.RuleFault.{RuleFault}
+use Rattle.rule_files.specs.declared.fault.RuleFault.TheVariants as rule_fault
 use Rattle.site_config.specs.declared.fault.ConfigFault.{ConfigFault}
 use Rattle.site_config.specs.declared.fault.ConfigFault.TheVariants as config_fault
 use Rattle.srv_template.specs.declared.fault.ParseFault.{ParseFault}

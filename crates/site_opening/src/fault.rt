@@ -4,7 +4,7 @@ ghost use Rattle.site_opening.specs.Statuses.{start_status, start_text};
 ghost use Rattle.site_opening.specs.declared.fault.StartFault.TheVariants as start;
 
 use crate::files::FileFault;
-use access_rules::RuleFault;
+use rule_files::RuleFault;
 use site_config::ConfigFault;
 use site_reports::{print_config_fault, print_rules_fault, print_template_fault};
 use slp_text::NoMemory;

@@ -7,6 +7,7 @@ ghost use Rattle.site_opening.specs.Openings.{config_start_of, named_start_of, r
 use crate::fault::StartFault;
 use crate::files;
 use access_rules::Rules;
+use rule_files::rules_of_text;
 use site_config::Config;
 use slp_text::Text;
 use srv_template::{Template, Templates};
@@ -37,7 +38,7 @@ fn config_at<R: Files>(rt: &R, alloc: Global, path: &str) -> Result<Config, Star
 fn rules_in(alloc: Global, text: &str) -> Result<Rules, StartFault>
     ensures { IsReadAs (λ t rules. t ≡ Some text.now) rules_start_of result }
 {
-    match Rules::from_text(alloc, text) {
+    match rules_of_text(alloc, text) {
         Ok(rules) => Ok(rules),
         Err(fault) => Err(StartFault::from(fault)),
     }

@@ -5,7 +5,7 @@ ghost use Rattle.std.specs.Prelude.{OnOk};
 ghost use Rattle.std.specs.Io.KnownBytes.{Appends};
 ghost use Rattle.site_reports.specs.Reports.{config_fault_text, config_text, refusal_text, rule_fault_text, rules_text, template_fault_text, template_text};
 
-use access_rules::RuleFault;
+use rule_files::RuleFault;
 use site_config::ConfigFault;
 use srv_template::ParseFault;
 use std::io::{self, Write};

@@ -1,7 +1,7 @@
 -- How long an advert is: it fits a datagram.
 use Rattle.std.proofs.Common.{◌≡◌, ℕ, ◌≤◌, ◌<◌, ◌^◌, List, [], ◌∷◌, ◌++◌, length, codes, false, sym, ap₂, subst, arith}
 use Rattle.std.proofs.lemmas.List.{length-append}
-use Rattle.access_rules.specs.Addresses.{address_text}
+use Rattle.addresses.specs.Addresses.{address_text}
 use Rattle.byteorder.specs.Endian.{big_bytes}
 use Rattle.slp_headers.specs.Headers.{Heading}
 use Rattle.slp_messages.specs.declared.header.Header.{Header}
@@ -9,7 +9,7 @@ use Rattle.slp_messages.specs.declared.message.DirectoryAdvert.TheVariants as di
 use Rattle.slp_messages.specs.declared.message.DirectoryAgent.{DirectoryAgent}
 use Rattle.slp_messages.specs.declared.message.Message.{Message}
 use Rattle.slp_messages.specs.declared.message.Message.TheVariants as message
-use Rattle.slp_text.specs.Scopes.{printed_scopes}
+use Rattle.slp_scopes.specs.Scopes.{printed_scopes}
 use Rattle.slp_wire.specs.Spelling.{body_of, plain_bytes}
 use Rattle.directory_questions.specs.Answers.{advert_of}
 use Rattle.directory_questions.specs.Cuts.{reply_header}

@@ -4,7 +4,7 @@ use Rattle.std.specs.Prelude.{◌==◌}
 use Rattle.std.specs.Fmt.{decimal, digits}
 use Rattle.std.proofs.lemmas.Bool.Decides.{nat_tests}
 use Rattle.std.proofs.lemmas.List.{length-append}
-use Rattle.access_rules.specs.Addresses.{address_text}
+use Rattle.addresses.specs.Addresses.{address_text}
 use Rattle.slp_answer.specs.Audits.{line_text, head_text, tail_text, beginning_text, decider_text, action_text, text_or_dash, ending_text}
 use Rattle.slp_answer.specs.declared.copies.Audit.{Audit}
 use Rattle.slp_text.specs.Ascii.{backslash, digit_zero, dot}

@@ -10,7 +10,7 @@ use Rattle.access_rules.specs.declared.rule.Action.{Action}
 use Rattle.access_rules.specs.declared.rule.Action.TheVariants.{Register, Withdraw, See}
 use Rattle.access_rules.specs.Deciding.{no_rules}
 use Rattle.directory_judge.specs.declared.reason.Decider.TheVariants.{Memory}
-use Rattle.access_rules.specs.Addresses.{address_text}
+use Rattle.addresses.specs.Addresses.{address_text}
 use Rattle.slp_answer.specs.Audits.{action_text, audit_text, line_text}
 use Rattle.directory_judge.specs.Judgements.{by_step}
 use Rattle.directory_questions.specs.Outcomes.{code_outcome_as, refusal_outcome, silence}

@@ -9,7 +9,7 @@ use Rattle.slp_messages.specs.declared.message.AttributeReply.TheVariants as att
 use Rattle.slp_messages.specs.declared.message.Message.TheVariants as message
 use Rattle.slp_messages.specs.declared.message.TypeReply.TheVariants as type_reply
 use Rattle.slp_text.specs.Ascii.{comma}
-use Rattle.slp_text.specs.Scopes.{comma_list}
+use Rattle.slp_text.specs.Lists.{comma_list}
 use Rattle.slp_wire.specs.Spelling.{body_of, plain_bytes}
 use Rattle.directory_questions.specs.Cuts.{attributes_with, IsCut, reply_header, types_with}
 use Rattle.slp_answer.specs.TextLists.{list_with, listed_with, written_next, IsListedFront, IsListedReply}

@@ -7,7 +7,7 @@ use Rattle.slp_text.specs.Escapes.{escaped_text}
 use Rattle.slp_text.specs.declared.escapes.Place.TheVariants.{Scope}
 use Rattle.access_rules.specs.declared.rule.Action.{Action}
 use Rattle.access_rules.specs.declared.rule.Action.TheVariants.{Register, Withdraw, See}
-use Rattle.access_rules.specs.Addresses.{address_text}
+use Rattle.addresses.specs.Addresses.{address_text}
 use Rattle.access_rules.specs.Deciding.{SiteRules, rules_in}
 use Rattle.directory_judge.specs.Judgements.{because_of}
 use Rattle.directory_judge.specs.declared.reason.Decider.{Decider}

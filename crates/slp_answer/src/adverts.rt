@@ -15,7 +15,7 @@ ghost use Rattle.slp_answer.specs.Answers.{IsQuestionAnswered, TellsOf};
 
 use crate::answer::{Answer, Sent};
 use crate::replies::Reply;
-use access_rules::Addr;
+use addresses::Addr;
 use directory_judge::{Decider, Finding, Site};
 use directory_questions::AgentQuery;
 use directory_state::Directory;

@@ -1,18 +1,20 @@
-ghost use Rattle.std.specs.Prelude.{◌≡◌, ◌≤◌, ◌+◌, [], ◌++◌, ◌∷◌, OnOk, OnErr, chars, codes, length, encode_utf8, encode_utf8_all};
+ghost use Rattle.std.specs.Prelude.{◌≡◌, ◌≤◌, ◌+◌, [], ◌++◌, ◌∷◌, IfSome, OnOk, OnErr, chars, codes, length, encode_utf8, encode_utf8_all};
 ghost use Rattle.std.specs.Fmt.{decimal};
 ghost use Rattle.std.specs.Option.{option_copied};
-ghost use Rattle.access_rules.specs.Addresses.{address_text};
+ghost use Rattle.addresses.specs.Addresses.{address_text};
 ghost use Rattle.slp_answer.specs.Audits.{action_text, audit_of, decider_text, rule_named, text_or_dash, beginning_text, ending_text, head_text, tail_text, line_text, audit_text};
 ghost use Rattle.slp_text.specs.Ascii.{dot};
 ghost use Rattle.slp_text.specs.Escapes.{written_character, escaped_text};
 ghost use Rattle.slp_text.specs.declared.escapes.Place.TheVariants.{Scope};
 
 use crate::sink::Sink;
-use access_rules::{Action, Addr, Rules};
+use access_rules::{Action, Rules};
+use addresses::Addr;
 use directory_judge::{Decider, Finding};
 use itoa::Buffer;
 use service_url::ServiceType;
-use slp_text::{Key, NoMemory, Place, capital_digit, is_plain, is_reserved};
+use slp_scopes::is_plain;
+use slp_text::{Key, NoMemory, Place, capital_digit, is_reserved};
 
 /// What came of a message: its code, who decided and on what, what was asked for, and by whom.
 #[derive(Clone, Copy)]
@@ -62,7 +64,29 @@ fn rule_name(rules: &Rules, decider: Decider) -> &str
 
 // ---- each function below appends a part of a line
 
-fn put_number<S: Sink>(sink: &mut S, number: u16) -> Result<(), NoMemory>
+// The text of a number of one digit.
+#[inline(always)]
+fn digit_text(number: u16) -> Option<&'static str>
+    ensures { IfSome result (λ t. t.now ≡ decimal number) }
+{
+    match number {
+        0 => Some("0"),
+        1 => Some("1"),
+        2 => Some("2"),
+        3 => Some("3"),
+        4 => Some("4"),
+        5 => Some("5"),
+        6 => Some("6"),
+        7 => Some("7"),
+        8 => Some("8"),
+        9 => Some("9"),
+        _ => None,
+    }
+}
+
+// A number of several digits.
+#[inline(never)]
+fn put_digits<S: Sink>(sink: &mut S, number: u16) -> Result<(), NoMemory>
     ensures ok { OnOk result (S.written sink.new ≡ S.written sink.old ++ decimal number) }
     ensures room { OnOk result (S.room sink.old ≤ S.room sink.new + length (decimal number)) }
     ensures err { OnErr result (S.room sink.old ≤ length (decimal number)) }
@@ -71,6 +95,20 @@ fn put_number<S: Sink>(sink: &mut S, number: u16) -> Result<(), NoMemory>
     sink.put(digits.format(number))
 }
 
+// Inlined, and so is what calls it: most of an address is of one digit.
+#[inline(always)]
+fn put_number<S: Sink>(sink: &mut S, number: u16) -> Result<(), NoMemory>
+    ensures ok { OnOk result (S.written sink.new ≡ S.written sink.old ++ decimal number) }
+    ensures room { OnOk result (S.room sink.old ≤ S.room sink.new + length (decimal number)) }
+    ensures err { OnErr result (S.room sink.old ≤ length (decimal number)) }
+{
+    match digit_text(number) {
+        Some(digit) => sink.put(digit),
+        None => put_digits(sink, number),
+    }
+}
+
+#[inline(always)]
 fn put_dotted<S: Sink>(sink: &mut S, number: u16) -> Result<(), NoMemory>
     ensures ok { OnOk result (S.written sink.new ≡ S.written sink.old ++ (decimal number ++ dot ∷ [])) }
     ensures room { OnOk result (S.room sink.old ≤ S.room sink.new + length (decimal number ++ dot ∷ [])) }

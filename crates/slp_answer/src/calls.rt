@@ -10,7 +10,7 @@ ghost use Rattle.slp_answer.specs.Answers.{Acknowledges, Replies, Steps};
 use crate::acknowledgements::acknowledge_heard;
 use crate::answer::{Answer, Sent, told_whole};
 use crate::questions::answer_heard;
-use access_rules::Addr;
+use addresses::Addr;
 use directory_judge::Change;
 use directory_questions::{Call, Heard};
 use directory_state::Directory;

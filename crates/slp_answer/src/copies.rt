@@ -3,7 +3,8 @@ ghost use Rattle.std.specs.Prelude.{◌≡◌, ◌++◌, OnOk, OnErr};
 ghost use Rattle.slp_answer.specs.Audits.{audit_text};
 
 use crate::audit::{AuditView, put_line};
-use access_rules::{Action, Addr, Rules};
+use access_rules::{Action, Rules};
+use addresses::Addr;
 use directory_judge::Because;
 use slp_text::NoMemory;
 

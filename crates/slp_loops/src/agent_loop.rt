@@ -9,7 +9,7 @@ use crate::datagrams::{DATAGRAMS, Datagrams};
 use crate::fault::LoopFault;
 use crate::serve::Serve;
 use crate::streams::{LISTENER, Streams};
-use access_rules::Addr;
+use addresses::Addr;
 use mio::net::{TcpListener, UdpSocket};
 use mio::{Events, Interest, Poll, Registry, Token};
 use site_config::Config;

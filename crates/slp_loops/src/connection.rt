@@ -8,7 +8,7 @@ ghost use Rattle.slp_stream.specs.Cutting.{front_of};
 
 use crate::fault::LoopFault;
 use crate::serve::{Serve, Settled};
-use access_rules::Addr;
+use addresses::Addr;
 use slp_answer::{Answer, refused_reply};
 use slp_stream::Framer;
 use std::alloc::{AllocError, Global};

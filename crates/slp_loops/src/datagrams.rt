@@ -10,7 +10,7 @@ use crate::exchange::{Back, Exchange, Rest};
 use crate::fault::{LoopFault, is_socket_lost};
 use crate::port::Port;
 use crate::serve::{Serve, Settled, settle};
-use access_rules::Addr;
+use addresses::Addr;
 use mio::net::UdpSocket;
 use mio::{Interest, Registry, Token};
 use slp_answer::refused_reply;

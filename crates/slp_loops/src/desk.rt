@@ -12,7 +12,7 @@ ghost use Rattle.slp_loops.specs.Logging.{Lined};
 use crate::clock::Moments;
 use crate::log::{Lines, Log, SharedOutput};
 use crate::serve::Serve;
-use access_rules::Addr;
+use addresses::Addr;
 use published_view::{DirectoryWriter, Gate, LoopView, Naming, Note, ViewFault};
 use slp_answer::{Answer, Call, Heard, Sent, refused_line_of};
 use slp_text::NoMemory;

@@ -11,7 +11,7 @@ ghost use Rattle.slp_loops.specs.declared.fault.LoopFault.{LoopFault as Faults};
 use crate::connection::{Connection, Next};
 use crate::fault::LoopFault;
 use crate::serve::{Serve, settle};
-use access_rules::Addr;
+use addresses::Addr;
 use mio::event::Source;
 use mio::{Interest, Registry, Token};
 use std::alloc::Global;

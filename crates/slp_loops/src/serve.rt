@@ -1,6 +1,6 @@
 ghost use Rattle.std.specs.Prelude.{◌≤◌};
 
-use access_rules::Addr;
+use addresses::Addr;
 use slp_answer::{Answer, Sent};
 use slp_text::NoMemory;
 

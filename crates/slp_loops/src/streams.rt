@@ -11,7 +11,7 @@ use crate::connection::Next;
 use crate::fault::{LoopFault, is_socket_lost};
 use crate::peer::{Peer, either};
 use crate::serve::Serve;
-use access_rules::Addr;
+use addresses::Addr;
 use mio::net::{TcpListener, TcpStream};
 use mio::{Interest, Registry, Token};
 use slab::Slab;

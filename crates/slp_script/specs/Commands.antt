@@ -5,7 +5,7 @@ use Rattle.std.specs.List.{AllByRecursion}
 use Rattle.std.specs.Cmp.Lexicographic.{pointwise}
 use Rattle.hex.specs.Hex.{decode_of}
 use Rattle.hex.specs.declared.error.FromHexError.{FromHexError}
-use Rattle.access_rules.specs.Addresses.{number_of, address_of}
+use Rattle.addresses.specs.Addresses.{number_of, address_of}
 use Rattle.slp_script.specs.Lines.{Line}
 use Rattle.slp_script.specs.declared.command.Block.{Block}
 use Rattle.slp_script.specs.declared.command.Block.TheVariants.{Config, Template, Rules}

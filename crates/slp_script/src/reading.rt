@@ -3,7 +3,7 @@ ghost use Rattle.slp_script.specs.Commands.{at_word, from_word, longest_line, lo
 ghost use Rattle.slp_script.specs.Readings.{IsReading};
 
 use crate::command::{Block, Order};
-use access_rules::{Addr, number};
+use addresses::{Addr, number};
 use hex::FromHexError;
 use slp_text::{NoMemory, Row};
 use std::alloc::Global;

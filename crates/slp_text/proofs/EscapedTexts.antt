@@ -1,7 +1,8 @@
 -- What is written as escapes is read again.
-use Rattle.std.proofs.Common.{◌≡◌, ℕ, ◌+◌, ◌*◌, ◌<◌, ◌/◌, ◌%◌, Bool, true, false, ◌==◌, List, [], ◌∷◌, ◌++◌, Some, Result, Ok, refl, sym, ap, ◌∙◌, arith, eqb-true}
-use Rattle.std.specs.Prelude.{if◌then◌else◌}
+use Rattle.std.proofs.Common.{◌≡◌, ℕ, ◌+◌, ◌*◌, ◌<◌, ◌/◌, ◌%◌, Bool, true, false, ◌==◌, List, [], ◌∷◌, ◌++◌, Some, Result, Ok, refl, sym, ap, ◌∙◌, arith, eqb-true, ap₂}
+use Rattle.std.specs.Prelude.{if◌then◌else◌, ◌&&◌}
 use Rattle.std.proofs.lemmas.Bool.Decides.{nat_tests}
+use Rattle.std.proofs.lemmas.Bool.{and_parts}
 use Rattle.slp_text.specs.Ascii.{backslash}
 use Rattle.slp_text.specs.Escapes.{is_reserved, is_refused, is_escapable, digit_of, capital_digit, unescaped_text_from, written_character, escaped_text}
 use Rattle.slp_text.specs.Reading.{read_map}
@@ -9,6 +10,7 @@ use Rattle.slp_text.specs.declared.escapes.Place.{Place}
 use Rattle.slp_text.specs.declared.escapes.Place.TheVariants.{Value, Tag, Scope}
 use Rattle.slp_text.specs.declared.escapes.Stage.TheVariants.{Plain}
 use Rattle.slp_text.specs.declared.faults.TextFault.{TextFault}
+use lib.Utf8.{scalar, scalars}
 
 pub escapable_small : (c : ℕ) → is_escapable c ≡ true → c < 128
 escapable_small c h = grind (arith, nat_tests)
@@ -65,3 +67,10 @@ module _ (place : Place) (refused : ℕ → Bool) (free : (c : ℕ) → is_reser
 
 pub refused_free : (place : Place) (c : ℕ) → is_reserved place c ≡ false → is_refused place c ≡ false
 refused_free place c h = rw h refl
+
+pub digit-scalar : (d : ℕ) → d < 16 → scalar (capital_digit d) ≡ true
+digit-scalar d h = grind (arith, nat_tests)
+
+pub append-scalars : (cs ds : List ℕ) → scalars cs ≡ true → scalars ds ≡ true → scalars (cs ++ ds) ≡ true
+append-scalars [] ds p q = q
+append-scalars (c ∷ cs) ds p q = let both = and_parts (scalar c) (scalars cs) p in ap₂ (λ a b. a && b) both.0 (append-scalars cs ds both.1 q)

@@ -1,10 +1,9 @@
 -- Keys of small texts, by computation.
-use Rattle.std.proofs.Common.{◌≡◌, [], ◌∷◌, ◌++◌, Ok, length, refl}
+use Rattle.std.proofs.Common.{◌≡◌, [], ◌∷◌, ◌++◌, refl}
 use Rattle.std.specs.Prelude.{codes}
 use Rattle.std.specs.Str.{chars}
 use Rattle.caseless.proofs.Computing.{caseless}
 use Rattle.slp_text.specs.Keys.{key_of}
-use Rattle.slp_text.specs.Scopes.{printed_scopes, scopes_of}
 
 -- white space at the ends, and a run of it inside
 default_key : key_of (codes "  DEFAULT " ++ 9 ∷ codes " x ") ≡ codes "default x"
@@ -15,13 +14,3 @@ default_key = refl
 folded_key : key_of (0x4C ∷ 0x55 ∷ 0xC4 ∷ 0x8C ∷ 0x49 ∷ 0xC4 ∷ 0x86 ∷ codes "") ≡ 0x6C ∷ 0x75 ∷ 0xC4 ∷ 0x8D ∷ 0x69 ∷ 0xC4 ∷ 0x87 ∷ codes ""
 unfolding key_of caseless chars lib.Utf8.encode
 folded_key = refl
-
--- `DEFAULT` alone is one scope
-pub default_scopes : scopes_of (codes "DEFAULT") ≡ Ok (key_of (codes "DEFAULT") ∷ [])
-unfolding scopes_of key_of caseless chars lib.Utf8.encode
-default_scopes = refl
-
--- it has the bytes of `default` where it is written
-pub default_length : length (printed_scopes (key_of (codes "DEFAULT") ∷ [])) ≡ 7
-unfolding key_of caseless chars lib.Utf8.encode
-default_length = refl

@@ -16,8 +16,7 @@ use Rattle.std.proofs.lemmas.List.Sorted.{Contains-permutation, IsPermutation-sy
 use Rattle.std.proofs.lemmas.Map.Lookups.{exact_bytes}
 use Rattle.std.proofs.lemmas.Map.Made.{Contains-tail}
 use Rattle.std.proofs.lemmas.Map.Text.{is_eq-slice_cmp}
-use Rattle.slp_text.specs.Scopes.{common_scopes}
-use Rattle.slp_text.specs.Sets.{with_key, set_of}
+use Rattle.slp_text.specs.Sets.{common_keys, with_key, set_of}
 use Rattle.slp_text.specs.Words.{bytes_eq, bytes_cmp, IsAscending}
 
 -- ---- members
@@ -251,15 +250,15 @@ member_has k (o ∷ os) h =
       | inr later ↦ elim (bytes_eq o k) as (λ b. (b || list_any (λ j. bytes_eq j k) os) ≡ true) [ true ↦ refl | false ↦ member_has k os later ]
     ]
 
-within_common : (ks others : List (List ℕ)) (w : List ℕ) → Contains (common_scopes ks others) w → Contains (common_scopes others ks) w
+within_common : (ks others : List (List ℕ)) (w : List ℕ) → Contains (common_keys ks others) w → Contains (common_keys others ks) w
 within_common ks others w has =
     let m = kept_member (λ k. list_any (λ o. bytes_eq o k) others) ks w has in
     member_kept (λ k. list_any (λ o. bytes_eq o k) ks) others w (has_member w others m.1) (member_has w ks m.0)
 
 -- it does not matter which of two sets is asked for what stands in the other
-pub common_turned : (ks others : List (List ℕ)) → IsAscending ks → IsAscending others → common_scopes ks others ≡ common_scopes others ks
+pub common_turned : (ks others : List (List ℕ)) → IsAscending ks → IsAscending others → common_keys ks others ≡ common_keys others ks
 common_turned ks others a b =
-    same_ascending (common_scopes ks others) (common_scopes others ks)
+    same_ascending (common_keys ks others) (common_keys others ks)
     (filter_ascending (λ k. list_any (λ o. bytes_eq o k) others) ks a)
     (filter_ascending (λ k. list_any (λ o. bytes_eq o k) ks) others b)
     (within_common ks others) (within_common others ks)

@@ -12,7 +12,7 @@ use Rattle.ucd_case.specs.CaseFolding.{full_folding, full_fold, or_itself}
 use Rattle.ucd_case.proofs.CaseFoldingLemmas.{full_folding_stepped}
 use Rattle.caseless.specs.Caseless.{default_case_fold}
 use Rattle.slp_text.specs.Ascii.{space}
-use Rattle.slp_text.specs.Keys.{is_white, trim_start, squeezed_rest, squeezed_text, key_of}
+use Rattle.slp_text.specs.Keys.{is_white, trim_start, squeezed_rest, squeezed_text, key_of, folded_text}
 
 -- ---- folding
 
@@ -140,3 +140,7 @@ key-again text u =
     ∙ ap (λ cs. encode_utf8_all (key_chars cs)) (chars-encodes (key_chars (chars text)) (scalars-fixed (key_chars (chars text)) (fixed_key (chars text) s)))
     ∙ ap encode_utf8_all (key_chars-again (chars text) s)
     ∙ sym (key_of-chars text)
+
+pub key_of-folded_text : (k : List ℕ) → key_of k ≡ folded_text (chars k)
+unfolding key_of
+key_of-folded_text k = refl

@@ -1,9 +1,10 @@
 -- What a list of parts between commas still gives.
-use Rattle.std.proofs.Common.{◌≡◌, ℕ, true, false, List, [], ◌∷◌, cond, Result, Ok, Err, refl, sym, ap, ◌∙◌, eqb-true}
+use Rattle.std.proofs.Common.{◌≡◌, ℕ, true, false, List, [], ◌∷◌, cond, Result, Ok, Err, refl, sym, ap, ◌∙◌, eqb-true, ◌++◌}
+use Rattle.std.specs.Prelude.{filter}
 use Rattle.slp_text.specs.Ascii.{comma}
 use Rattle.slp_text.specs.Escapes.{is_escapable, is_refused}
 use Rattle.slp_text.specs.Reading.{read_map, read_then, IsFault}
-use Rattle.slp_text.specs.Scopes.{is_comma}
+use Rattle.slp_text.specs.Lists.{is_comma, is_some_text}
 use Rattle.slp_text.specs.Steps.{step_of}
 use Rattle.slp_text.specs.declared.escapes.Place.{Place}
 use Rattle.slp_text.specs.declared.escapes.Step.{Step}
@@ -100,3 +101,7 @@ module _ {A : Type 0} (part : PartReader A) where
 
     pub list-end : (all : C) → cs ≡ [] → s ≡ Plain → all ≡ f ([] ∷ []) → Follows list_parts f s cs whole → whole ≡ Ok all
     list-end all none plain is follows = end-is (Ok []) none (nothing_at s plain) follows ∙ ap Ok (sym is)
+
+pub kept : {A : Type 0} (k : List A) (ks : List (List A)) → filter is_some_text (k ∷ ks) ≡ filter is_some_text (k ∷ []) ++ filter is_some_text ks
+kept k ks =
+    elim (is_some_text k) as (λ b. cond b (k ∷ filter is_some_text ks) (filter is_some_text ks) ≡ cond b (k ∷ []) [] ++ filter is_some_text ks) [ true ↦ refl | false ↦ refl ]

@@ -187,3 +187,8 @@ Follows-fault reads event f s c cs whole e law is follows =
 pub Follows-end : {B C : Type 0} (reads : Reads B) (f : B → C) (s : Stage) (r : Result B TextFault) (cs : List ℕ) (whole : Result C TextFault)
     → cs ≡ [] → reads s [] ≡ r → Follows reads f s cs whole → whole ≡ read_map f r
 Follows-end reads f s r cs whole none is follows = sym (subst (λ ds. Follows reads f s ds whole) none follows) ∙ ap (read_map f) is
+
+-- what was read first, and what was read then
+pub then_ok : {A B E : Type 0} (f : A → Result B E) (r : Result A E) (y : B) → read_then f r ≡ Ok y → (x : A) × (r ≡ Ok x) × (f x ≡ Ok y)
+then_ok f (Ok x) y h = (x, refl, h)
+then_ok f (Err e) y h = cc

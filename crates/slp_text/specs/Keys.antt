@@ -50,3 +50,7 @@ squeezed_text = squeezed_by is_white space
 -- the key of a text: its characters folded by full default case folding, and squeezed
 unfoldable pub key_of : List ℕ → List ℕ
 key_of text = encode_utf8_all (squeezed_text (default_case_fold (chars text)))
+
+-- the key of characters
+abbrev pub folded_text : List ℕ → List ℕ
+folded_text cs = encode_utf8_all (squeezed_text (default_case_fold cs))

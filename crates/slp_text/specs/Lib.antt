@@ -2,15 +2,9 @@ pub mod Ascii
 pub mod Escapes
 pub mod KeyTexts
 pub mod Keys
-pub mod Parts
+pub mod Lists
 pub mod Reading
-pub mod ScopeNames
-pub mod Scopes
-pub mod Searches
 pub mod Sets
-pub mod SignCodes
 pub mod Squeezing
 pub mod Steps
-pub mod TagIndexes
-pub mod Tags
 pub mod Words

@@ -1,4 +1,4 @@
-//! Texts, rows, keys, scope lists and tag lists, which contracts see as lists.
+//! Texts, rows and keys, which contracts see as lists; escapes, and how a text is read to its first fault.
 #![tactic(auto)]
 
 mod ascii;
@@ -9,16 +9,13 @@ mod folding;
 mod keys;
 pub mod laws;
 mod rows;
-mod scopes;
-mod signs;
-mod tag_index;
-mod tags;
 mod texts;
 
+pub use ascii::word_key;
 pub use cutting::cut;
 pub use escapes::{
-    Place, capital_digit, escape_into, is_reserved, unescape, unescape_all, unescape_any,
-    unescape_at,
+    Place, Stage, Step, capital_digit, escape_into, is_refused, is_reserved, read_step, unescape,
+    unescape_all, unescape_any, unescape_at,
 };
 pub use faults::{NoMemory, TextFault};
 pub use folding::{
@@ -26,7 +23,4 @@ pub use folding::{
 };
 pub use keys::Key;
 pub use rows::Row;
-pub use scopes::{ScopeList, is_plain};
-pub use signs::{Search, Signs};
-pub use tags::TagList;
 pub use texts::Text;

@@ -8,7 +8,7 @@ use Rattle.std.proofs.lemmas.List.Folds.{list_any-append}
 use Rattle.slp_text.specs.Reading.{read_map, read_then}
 use Rattle.slp_text.specs.Words.{bytes_eq, is_blank}
 use Rattle.attr_list.proofs.InnerCharacters.{mapped_ok}
-use Rattle.search_filter.proofs.ReadItems.{then_ok}
+use Rattle.slp_text.proofs.Readers.{then_ok}
 use Rattle.srv_template.specs.Meaning.{AreBlank, AreFilled, AreOfOwnTags, BeginsBlank, IsLongPart, IsPart, Means, SpellsDefinitions}
 use Rattle.srv_template.specs.Reading.{after_blanks, at_line, blocks_from, blocks_of, definition_in, definitions_after, definitions_from, description_word, from_blank, is_defined, longest_text, part_at, part_in, syntax_word, template_in, template_of_lines, to_blank, type_in, value_after, version_word}
 use Rattle.srv_template.specs.Templates.{Template}

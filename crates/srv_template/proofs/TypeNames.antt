@@ -2,8 +2,8 @@
 use Rattle.std.proofs.Common.{◌≡◌, ℕ, List, chars, Some, sym, ap, ◌∙◌}
 use Rattle.std.specs.Option.{option_and_then}
 use Rattle.std.specs.Result.{result_ok}
-use Rattle.slp_text.specs.Scopes.{folded_text}
-use Rattle.slp_text.proofs.PrintedScopes.{key_of-folded_text}
+use Rattle.slp_text.specs.Keys.{folded_text}
+use Rattle.slp_text.proofs.KeysOfKeys.{key_of-folded_text}
 use Rattle.service_url.specs.Types.{named_service, service_by}
 use Rattle.srv_template.specs.Reading.{type_in, type_word, value_after}
 

@@ -2,8 +2,8 @@
 use Rattle.std.specs.Prelude.{◌≡◌, ℕ, Bool, ◌==◌, List, refl, if◌then◌else◌}
 use Rattle.std.specs.Coded.{Coded, code_by, coded×, coded_ℕ, coded_bool, coded_list}
 use Rattle.std.specs.FinMap as fin
-use Rattle.search_filter.specs.Codes.{OperandChoice, operand_back, operand_choice, operand_choice_code, operand_from}
-use Rattle.search_filter.specs.declared.operand.Operand.{Operand}
+use Rattle.attr_operands.specs.Codes.{OperandChoice, operand_back, operand_choice, operand_choice_code, operand_from}
+use Rattle.attr_operands.specs.declared.operand.Operand.{Operand}
 use Rattle.srv_template.specs.Conformity.{SiteTemplates}
 use Rattle.srv_template.specs.Templates.{Template}
 use Rattle.srv_template.specs.declared.definition.Definition.{Definition}

@@ -9,8 +9,8 @@ use Rattle.attr_list.specs.Lists.{Attributes}
 use Rattle.attr_list.specs.declared.held.Held.{Held}
 use Rattle.attr_list.specs.declared.held.Held.TheVariants.{Keyword, Values}
 use Rattle.service_url.specs.Types.{service_name_of}
-use Rattle.search_filter.specs.Conditions.{is_equal}
-use Rattle.search_filter.specs.declared.operand.Operand.{Operand}
+use Rattle.attr_operands.specs.Operands.{is_equal}
+use Rattle.attr_operands.specs.declared.operand.Operand.{Operand}
 use Rattle.slp_text.specs.Words.{bytes_cmp}
 use Rattle.srv_template.specs.declared.definition.Definition.{Definition}
 use Rattle.srv_template.specs.declared.definition.ValueKind.{ValueKind}

@@ -5,9 +5,9 @@ use Rattle.std.specs.Option.{option_and_then, option_map, option_map_or}
 use Rattle.std.specs.Result.{result_ok}
 use Rattle.std.specs.Str.Lines.{lines}
 use Rattle.slp_text.specs.Ascii.{equals_sign, space}
-use Rattle.slp_text.specs.Keys.{is_white, trim_start}
+use Rattle.slp_text.specs.Keys.{is_white, trim_start, folded_text}
 use Rattle.slp_text.specs.Reading.{read_all, read_map, read_then}
-use Rattle.slp_text.specs.Scopes.{folded_text, is_comma}
+use Rattle.slp_text.specs.Lists.{is_comma}
 use Rattle.slp_text.specs.Words.{bytes_eq, is_blank}
 use Rattle.service_url.specs.Types.{service_by}
 use Rattle.attr_values.specs.Rests.{rest_after}
@@ -17,7 +17,7 @@ use Rattle.attr_values.specs.declared.fault.AttrFault.TheVariants.{BadTag}
 use Rattle.attr_values.specs.declared.value.Value.{Value}
 use Rattle.attr_list.specs.Pieces.{part_after, part_before}
 use Rattle.attr_list.specs.Reading.{tag_or}
-use Rattle.search_filter.specs.Operands.{operand_of}
+use Rattle.attr_operands.specs.Operands.{operand_of}
 use Rattle.srv_template.specs.Conformity.{takes}
 use Rattle.srv_template.specs.Templates.{Template}
 use Rattle.srv_template.specs.declared.definition.Definition.{Definition}

@@ -1,13 +1,13 @@
 ghost use Rattle.std.specs.Prelude.{◌≡◌};
 ghost use Rattle.std.specs.List.{list_all, list_any};
 ghost use Rattle.std.specs.Option.{option_copied};
-ghost use Rattle.search_filter.specs.Conditions.{is_equal};
+ghost use Rattle.attr_operands.specs.Operands.{is_equal};
 ghost use Rattle.srv_template.specs.Conformity as spec;
 ghost use Rattle.srv_template.specs.Conformity.{fault_of_held, fault_of_values, fault_on};
 
 use crate::fault::FaultKind;
 use attr_list::{Attrs, Held, Value};
-use search_filter::Operand;
+use attr_operands::Operand;
 use slp_text::{Key, Row};
 
 /// The kinds of a definition (RFC 2609, section 4.2.2).

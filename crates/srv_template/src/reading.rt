@@ -6,7 +6,7 @@ ghost use Rattle.attr_values.specs.Rests.{rest_of};
 ghost use Rattle.attr_values.specs.declared.fault.AttrFault.TheVariants.{BadTag};
 ghost use Rattle.service_url.specs.Types.{named_service};
 ghost use Rattle.slp_text.specs.Reading.{read_map};
-ghost use Rattle.slp_text.specs.Scopes.{folded_text};
+ghost use Rattle.slp_text.specs.Keys.{folded_text};
 ghost use Rattle.slp_text.specs.Words.{bytes_eq};
 ghost use Rattle.srv_template.specs.Reading as spec;
 ghost use Rattle.srv_template.specs.Reading.{blocks_of, definition_at, definition_with, definitions_after, definitions_from, part_in, template_of_lines, value_after};

@@ -4,7 +4,7 @@ ghost use Rattle.std.specs.Option.{option_map};
 ghost use Rattle.std.specs.Result.{result_ok};
 ghost use Rattle.attr_values.specs.Rests.{rest_after, rest_of};
 ghost use Rattle.attr_values.specs.Values.{value_of};
-ghost use Rattle.search_filter.specs.Operands.{operand_of};
+ghost use Rattle.attr_operands.specs.Operands.{operand_of};
 ghost use Rattle.slp_text.specs.Keys as keys;
 ghost use Rattle.srv_template.specs.Conformity.{takes};
 ghost use Rattle.srv_template.specs.Joining.{joined_with};
@@ -14,7 +14,7 @@ ghost use Rattle.srv_template.specs.Stops.{texts_of};
 
 use crate::definition::ValueKind;
 use attr_list::{AttrFault, Value, cut_at, read_value};
-use search_filter::Operand;
+use attr_operands::Operand;
 use slp_text::{NoMemory, trim_start};
 use std::alloc::Global;
 

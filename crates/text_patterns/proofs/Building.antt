@@ -1,6 +1,6 @@
 -- Patterns while they are built of their pieces.
 use Rattle.std.specs.Prelude.{ℕ, Bool, true, false, List, [], ◌∷◌, None}
-use Rattle.slp_text.specs.Tags.{Sign, signs_of}
+use Rattle.slp_tags.specs.Tags.{Sign, signs_of}
 
 -- the signs of pieces that are still to come, where begun says that one came
 abbrev pub more_signs : Bool → List (List ℕ) → List Sign

@@ -2,7 +2,7 @@
 use Rattle.std.proofs.Common.{◌≡◌, ℕ, suc, ◌+◌, ◌<◌, Bool, true, false, List, [], ◌∷◌, ◌++◌, length, map, get_or, drop, Some, None, refl, sym, ap, ap₂, ◌∙◌, add-one, append-nil}
 use Rattle.std.proofs.Math.Seq.{drop-cons}
 use Rattle.caseless.specs.Caseless.{default_case_fold}
-use Rattle.slp_text.specs.Tags.{Sign}
+use Rattle.slp_tags.specs.Tags.{Sign}
 use Rattle.text_patterns.specs.Patterns.{pattern_with}
 use Rattle.text_patterns.proofs.Building.{more_signs}
 

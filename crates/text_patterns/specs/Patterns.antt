@@ -3,8 +3,8 @@ use Rattle.std.specs.Prelude.{ℕ, Bool, List, ◌++◌, map, Some}
 use Rattle.caseless.specs.Caseless.{default_case_fold}
 use Rattle.slp_text.specs.Ascii.{space}
 use Rattle.slp_text.specs.Keys.{squeezed_by}
-use Rattle.slp_text.specs.Parts.{signs_left}
-use Rattle.slp_text.specs.Tags.{Sign, is_match, is_white_sign, signs_of}
+use Rattle.slp_tags.specs.Parts.{signs_left}
+use Rattle.slp_tags.specs.Tags.{Sign, is_match, is_white_sign, signs_of}
 use Rattle.text_patterns.specs.Characters.{key_characters}
 
 -- The pattern of the pieces between its `*`s, folded and squeezed as a whole: white space goes at its two ends alone.

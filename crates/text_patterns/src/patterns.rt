@@ -1,12 +1,13 @@
 ghost use Rattle.std.specs.Prelude.{◌≡◌, ◌∷◌, ◌++◌, List, Some, IfOk, map, chars, string_bytes};
 ghost use Rattle.caseless.specs.Caseless.{default_case_fold};
-ghost use Rattle.slp_text.specs.Tags as tags;
-ghost use Rattle.slp_text.specs.Tags.{Sign};
+ghost use Rattle.slp_tags.specs.Tags as tags;
+ghost use Rattle.slp_tags.specs.Tags.{Sign};
 ghost use Rattle.text_patterns.specs.Patterns.{matches_key, pattern_of, pattern_with};
 
 use crate::characters::KeyCharacters;
 use caseless::Caseless;
-use slp_text::{NoMemory, Signs, is_white_space};
+use slp_tags::Signs;
+use slp_text::{NoMemory, is_white_space};
 use std::alloc::Global;
 use std::marker::Model;
 
@@ -19,7 +20,7 @@ pub struct Pattern {
 
 impl Model for Pattern {
     ghost use Rattle.std.specs.Prelude.{List};
-    ghost use Rattle.slp_text.specs.Tags.{Sign};
+    ghost use Rattle.slp_tags.specs.Tags.{Sign};
 
     ghost Value = { List Sign };
 

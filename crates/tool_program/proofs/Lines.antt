@@ -6,7 +6,7 @@ use Rattle.std.proofs.KnownBytes.{Appends-trans}
 use Rattle.std.specs.Prelude.{flat_map, OnOk}
 use Rattle.std.specs.List.{slice_split, onto_first}
 use Rattle.slp_text.specs.Ascii.{line_feed}
-use Rattle.slp_text.specs.Scopes.{is_comma}
+use Rattle.slp_text.specs.Lists.{is_comma}
 use Rattle.tool_program.specs.Printing.{list_lines, listed_byte, shown_byte, text_line}
 
 -- a byte more in front of a part is shown there

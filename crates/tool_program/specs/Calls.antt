@@ -9,7 +9,7 @@ use Rattle.std.specs.declared.net.socket_addr.SocketAddr.TheVariants.{V4, V6}
 use Rattle.std.specs.Net.Addr.{ipv4_bits}
 use Rattle.std.specs.Net.Socket.{v4_ip, v4_port}
 use Rattle.std.specs.Io.KnownBytes.{Appends}
-use Rattle.access_rules.specs.Addresses.{both_of, socket_of}
+use Rattle.addresses.specs.Addresses.{both_of, socket_of}
 use Rattle.agent_clients.specs.Requests.{IsSpelled, IsUnbuilt}
 use Rattle.agent_clients.specs.Wires.{Asks, Deed}
 use Rattle.agent_clients.specs.declared.fault.ClientFault.{ClientFault}

@@ -1,7 +1,7 @@
 -- What the words of a call ask for, and the message that asks for it.
 use Rattle.std.specs.Prelude.{◌≡◌, ℕ, Bool, false, true, List, [], ◌∷◌, codes, nat_le, Option, Some, None, IfSome, if◌then◌else◌}
 use Rattle.std.specs.Option.{option_copied, option_map, option_and_then}
-use Rattle.access_rules.specs.Addresses.{number_of}
+use Rattle.addresses.specs.Addresses.{number_of}
 use Rattle.agent_clients.specs.Requests.{IsSpelled, authority_of}
 use Rattle.slp_messages.specs.Views.{registration_in}
 use Rattle.slp_messages.specs.declared.header.Header.{Header}

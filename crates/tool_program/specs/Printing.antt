@@ -9,7 +9,7 @@ use Rattle.agent_clients.specs.declared.items.Items.TheVariants.{Urls, Attribute
 use Rattle.slp_messages.specs.declared.message.UrlEntry.{UrlEntry}
 use Rattle.slp_text.specs.Ascii.{backslash, line_feed, space}
 use Rattle.slp_text.specs.Escapes.{capital_digit}
-use Rattle.slp_text.specs.Scopes.{is_comma}
+use Rattle.slp_text.specs.Lists.{is_comma}
 
 -- a control character is shown as its escape, so that each line stays one
 abbrev pub shown_byte : ℕ → List ℕ

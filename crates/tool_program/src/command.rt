@@ -6,7 +6,7 @@ ghost use Rattle.slp_messages.specs.Views as view;
 ghost use Rattle.tool_program.specs.Commands.{asked, command_in, message_of, registered, registration_of, three_of, IsRequest};
 ghost use Rattle.tool_program.specs.Commands as spec;
 
-use access_rules::number;
+use addresses::number;
 use agent_clients::{
     ClientFault, RequestHeader, attribute_request, registration, service_request, type_request,
     withdrawal,

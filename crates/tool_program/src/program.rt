@@ -11,7 +11,7 @@ ghost use Rattle.tool_program.specs.Calls as spec;
 
 use crate::command::{Command, header_with};
 use crate::printing::{fault_status, print_fault, print_items};
-use access_rules::Addr;
+use addresses::Addr;
 use agent_clients::{ClientFault, Items, ServiceAgent, ask, keep_alive, registration};
 use std::alloc::Global;
 use std::io::{self, ErrorKind, Read, Write};

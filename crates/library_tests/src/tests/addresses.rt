@@ -1,5 +1,5 @@
 use crate::tests::assertion::{Asking, Question, assert_table};
-use access_rules::{Addr, number};
+use addresses::{Addr, number};
 use std::alloc::{AllocError, Global};
 
 #[derive(Clone, Copy)]

@@ -1,6 +1,6 @@
 use crate::tests::assertion::{Asking, Question, assert_table};
 use crate::tests::messages::{bytes_of, put_bytes};
-use access_rules::Addr;
+use addresses::Addr;
 use slp_answer::{is_change, refusal};
 use slp_text::NoMemory;
 use std::alloc::Global;

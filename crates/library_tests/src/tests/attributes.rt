@@ -1,6 +1,7 @@
 use crate::tests::assertion::{Asking, Question, assert_table, found};
 use attr_list::{AttrFault, Attrs, Value, read_value};
-use slp_text::{NoMemory, TagList};
+use slp_tags::TagList;
+use slp_text::NoMemory;
 use std::alloc::Global;
 
 #[derive(Clone, Copy)]

@@ -1,19 +1,23 @@
 ghost use Rattle.std.specs.Prelude.{◌≡◌, ◌≤◌, ◌<◌, length, IfOk};
-ghost use Rattle.slp_text.specs.Scopes.{printed_scopes};
+ghost use Rattle.slp_scopes.specs.Scopes.{printed_scopes};
 
 mod rows;
 
 use crate::tests::assertion::{Asking, Question, assert_table, found, part_of};
 use crate::tests::messages::bytes_of;
-use access_rules::{Addr, Rules};
+use access_rules::Rules;
+use addresses::Addr;
 use directory_judge::{Change, Judged, Site, judge_on};
 use directory_questions::{Authority, Target};
 use directory_state::{AttrQuery, Directory, QueryFault, ServiceQuery, TypeQuery};
 use registry_core::{ListRegistry, Registry};
 use rows::{MESSAGES, TABLE};
+use rule_files::rules_of_text;
 use service_url::ServiceType;
 use slp_answer::{Answer, Sent, acknowledge, is_change};
-use slp_text::{NoMemory, ScopeList, TagList, key};
+use slp_scopes::ScopeList;
+use slp_tags::TagList;
+use slp_text::{NoMemory, key};
 use slp_wire::{Message, decode};
 use srv_template::Templates;
 use std::alloc::{AllocError, Global};
@@ -33,7 +37,7 @@ rule = [
 
 // The rules of a text.
 fn rules_of(alloc: Global, text: &str) -> Result<Arc<Rules>, NoMemory> {
-    let rules = found(Rules::from_text(alloc, text))?;
+    let rules = found(rules_of_text(alloc, text))?;
     Ok(Arc::new(alloc, rules)?)
 }
 

@@ -2,11 +2,12 @@ ghost use Rattle.std.specs.Prelude.{◌≤◌, ◌<◌, length, IfOk};
 ghost use Rattle.std.specs.Arc.{arc_value};
 
 use crate::tests::assertion::found;
-use access_rules::Addr;
+use addresses::Addr;
 use attr_list::Attrs;
 use registry_core::Entry;
 use service_url::{ServiceType, Url};
-use slp_text::{Key, NoMemory, ScopeList};
+use slp_scopes::ScopeList;
+use slp_text::{Key, NoMemory};
 use std::alloc::Global;
 use std::sync::Arc;
 

@@ -6,7 +6,7 @@ mod walks;
 
 use crate::tests::assertion::found;
 use crate::tests::entries::{Parts, entry_of};
-use access_rules::Addr;
+use addresses::Addr;
 use numbers::Numbers;
 use registry_core::{Entry, ListRegistry, Registry, RegistryFault};
 use service_url::ServiceType;

@@ -1,8 +1,10 @@
 mod rows;
 
 use crate::tests::assertion::{Asking, Question, assert_table, found, lines, part_of, whole};
-use access_rules::{Action, Addr, RuleFault, Rules};
+use access_rules::{Action, Rules};
+use addresses::Addr;
 use rows::{FILES, LINES, TABLE};
+use rule_files::{RuleFault, rules_of_text};
 use service_url::ServiceType;
 use slp_text::{Key, NoMemory, key};
 use std::alloc::{AllocError, Global};
@@ -28,7 +30,7 @@ fn print_names(rules: &Rules, out: &mut String) -> Result<(), NoMemory> {
 }
 
 fn print_file(alloc: Global, text: &str, out: &mut String) -> Result<(), RuleFault> {
-    let rules = Rules::from_text(alloc, text)?;
+    let rules = rules_of_text(alloc, text)?;
     let told = print_names(&rules, out);
     drop(rules);
     Ok(told?)
@@ -134,7 +136,7 @@ fn print_decision(alloc: Global, row: Question<'_>, out: &mut String) -> Result<
         return Err(RuleFault::Toml);
     };
     let file = whole(alloc, part_of(name, &FILES))?;
-    let rules = Rules::from_text(alloc, file.as_str())?;
+    let rules = rules_of_text(alloc, file.as_str())?;
     let told = print_decided(alloc, row.word, &rules, text, row.beside, out);
     drop(rules);
     told

@@ -1,5 +1,7 @@
 use crate::tests::assertion::{Asking, Question, assert_table, lines};
-use slp_text::{Place, ScopeList, TagList, TextFault, escape_into, key, unescape, unescape_any};
+use slp_scopes::ScopeList;
+use slp_tags::TagList;
+use slp_text::{Place, TextFault, escape_into, key, unescape, unescape_any};
 use std::alloc::Global;
 
 #[derive(Clone, Copy)]

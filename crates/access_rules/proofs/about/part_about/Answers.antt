@@ -14,6 +14,3 @@ pub loop-last-preserved : goal.loop-last-preserved
 loop-last-preserved g c =
     without_last (λ x. g.T.Concerns.is_about x c.args.asker) c.loop-last.part.now c.args.all.now c.in-Some-split_last.rest.now c.in-Some-split_last.last.now c.in-Some-split_last.ensures.cases.0
     (sym c.concerns-in-Some-split_last.ensures ∙ c.if-concerns-2.false) c.loop-last.invariant
-
-pub returns-then-all-le-FEW : goal.returns-then-all-le-FEW
-returns-then-all-le-FEW g c = whole_part (λ x. g.T.Concerns.is_about x c.args.asker) c.args.all.now

@@ -1,7 +1,7 @@
 use Rattle.std.proofs.Common.{◌≡◌, ◌++◌, ◌∙◌, ap, sym, subst, map, take, filter, arith}
 use Rattle.std.proofs.lemmas.List.{take_all}
 use Rattle.std.specs.List.{AllByRecursion}
-use Rattle.slp_text.specs.Tags.{selects}
+use Rattle.slp_tags.specs.Tags.{selects}
 use Rattle.attr_list.specs.Pieces.{element_in, IsElement}
 use Rattle.attr_list.specs.Maps.{elements_in}
 use Rattle.attr_list.specs.Stored.{element_stored, selected_elements}

@@ -1,5 +1,5 @@
 use Rattle.std.proofs.Common.{◌≡◌, ◌++◌, filter, map, take}
-use Rattle.slp_text.specs.Tags.{selects}
+use Rattle.slp_tags.specs.Tags.{selects}
 use Rattle.attr_list.specs.Pieces.{element_in}
 use Rattle.attr_list.specs.Stored.{element_stored}
 use Rattle.attr_list.proofs.combining.append_selected.Given as goal

@@ -1,7 +1,7 @@
 use Rattle.std.proofs.Common.{chars}
 use Rattle.std.specs.List.{slice_split}
 use Rattle.slp_text.specs.Reading.{read_all}
-use Rattle.slp_text.specs.Scopes.{is_comma}
+use Rattle.slp_text.specs.Lists.{is_comma}
 use Rattle.attr_values.specs.Rests.{rest_of}
 use Rattle.attr_values.specs.Values.{value_of}
 use Rattle.attr_list.proofs.ReadLists.{left, AreValuesSoFar}

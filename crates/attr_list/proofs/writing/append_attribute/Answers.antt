@@ -3,7 +3,7 @@ use Rattle.std.specs.Prelude.{string_bytes}
 use Rattle.std.specs.Result.{IfOk, OnErr}
 use Rattle.std.proofs.lemmas.Result.{err_from_is_err_and}
 use Rattle.slp_text.specs.Ascii.{equals_sign, left_parenthesis, right_parenthesis}
-use Rattle.slp_text.specs.Scopes.{comma_list}
+use Rattle.slp_text.specs.Lists.{comma_list}
 use Rattle.slp_text.specs.Steps.{BeginsWith}
 use Rattle.attr_values.specs.Values.{value_text}
 use Rattle.attr_list.specs.Texts.{attribute_text, tag_text}

@@ -1,6 +1,6 @@
 use Rattle.std.proofs.Common.{◌≡◌, ◌++◌, drop, map}
 use Rattle.std.specs.Prelude.{string_bytes}
-use Rattle.slp_text.specs.Scopes.{comma_list}
+use Rattle.slp_text.specs.Lists.{comma_list}
 use Rattle.slp_text.specs.Steps.{BeginsWith}
 use Rattle.attr_values.specs.Values.{value_text}
 use Rattle.attr_list.proofs.ListedTexts.{listed_from}

@@ -1,7 +1,7 @@
 use Rattle.std.proofs.Common.{◌≡◌, ℕ, true, false, cond, List, Option, Some, sym, ap, ◌∙◌}
 use Rattle.std.specs.Result.{result_ok}
 use Rattle.std.proofs.lemmas.Result.{err_from_is_err_and, IfOk-weaker}
-use Rattle.slp_text.specs.Scopes.{scopes_of}
+use Rattle.slp_scopes.specs.Scopes.{scopes_of}
 use Rattle.search_filter.specs.Filters.{Filter}
 use Rattle.search_filter.specs.Reading.{predicate_in}
 use Rattle.slp_headers.specs.Headers.{heading_in}

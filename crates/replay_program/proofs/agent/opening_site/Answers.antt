@@ -3,10 +3,10 @@ use Rattle.std.specs.Arc.{arc_value}
 use Rattle.srv_template.specs.Conformity.{SiteTemplates}
 use Rattle.slp_text.specs.Keys.{key_of}
 use Rattle.slp_text.specs.Reading.{IsFault}
-use Rattle.slp_text.specs.Scopes.{printed_scopes, scopes_of}
+use Rattle.slp_scopes.specs.Scopes.{printed_scopes, scopes_of}
 use Rattle.slp_text.specs.declared.faults.TextFault.{TextFault}
 use Rattle.slp_text.specs.declared.faults.TextFault.TheVariants.{BadEscape, Reserved, NotUtf8, NoMemory}
-use Rattle.slp_text.proofs.KeyRows.{default_length, default_scopes}
+use Rattle.slp_scopes.proofs.ScopeRows.{default_length, default_scopes}
 use Rattle.replay_program.proofs.agent.opening_site.Goals as goal
 
 -- `DEFAULT` reads as one scope

@@ -2,8 +2,8 @@ use Rattle.std.proofs.Common.{◌∙◌, ap, refl, sym, rules, Ok}
 use Rattle.std.proofs.lemmas.Int.{to_z-of_z}
 use mir.Syntax.{w32}
 use Rattle.attr_values.proofs.Forms.{form_is}
-use Rattle.search_filter.specs.Operands.{operand_of}
-use Rattle.search_filter.specs.declared.operand.Operand.TheVariants as operand
+use Rattle.attr_operands.specs.Operands.{operand_of}
+use Rattle.attr_operands.specs.declared.operand.Operand.TheVariants as operand
 use Rattle.search_filter.proofs.reading.operand_of_form.Goals as goal
 
 pub returns-then-eq : goal.returns-then-eq

@@ -1,7 +1,7 @@
 use Rattle.std.proofs.Common.{chars}
 use Rattle.std.specs.List.{slice_split}
 use Rattle.slp_text.specs.Reading.{read_all}
-use Rattle.slp_text.specs.Tags.{is_star}
+use Rattle.slp_tags.specs.Tags.{is_star}
 use Rattle.attr_values.specs.Rests.{rest_of}
 use Rattle.search_filter.specs.Operands.{characters_in}
 use Rattle.search_filter.proofs.PatternPieces.{left, ArePiecesSoFar}

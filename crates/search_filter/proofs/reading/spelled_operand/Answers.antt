@@ -3,7 +3,7 @@ use Rattle.slp_text.specs.Keys.{squeezed_text}
 use Rattle.slp_text.specs.Reading.{read_map}
 use Rattle.attr_values.proofs.Forms.{squeezed_chars, stays_squeezed}
 use Rattle.attr_values.specs.Values.{value_of_form}
-use Rattle.search_filter.specs.Operands.{operand_of}
+use Rattle.attr_operands.specs.Operands.{operand_of}
 use Rattle.search_filter.proofs.ReadTexts.{reading-same}
 use Rattle.search_filter.proofs.reading.spelled_operand.Goals as goal
 

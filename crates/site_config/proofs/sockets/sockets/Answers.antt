@@ -2,9 +2,9 @@ use Rattle.std.proofs.Common.{ℕ, ◌+◌, Option, arith, ap, sym, ◌∙◌, d
 use Rattle.std.specs.Option.{option_and_then}
 use Rattle.toml.specs.Data.{Data, as_str}
 use Rattle.toml.specs.View.{view}
-use Rattle.access_rules.specs.Addresses.{socket_of}
-use Rattle.access_rules.specs.Tables.{each_in}
-use Rattle.access_rules.proofs.Arrays.{read_more, read_no_more, with_front}
+use Rattle.addresses.specs.Addresses.{socket_of}
+use Rattle.toml_tables.specs.Tables.{each_in}
+use Rattle.toml_tables.proofs.Arrays.{read_more, read_no_more, with_front}
 use Rattle.site_config.specs.Configurations.{in_range}
 use Rattle.site_config.proofs.sockets.sockets.Goals as goal
 

@@ -2,9 +2,9 @@ use Rattle.std.proofs.Common.{◌≡◌, drop, map}
 use Rattle.std.specs.Option.{option_and_then}
 use Rattle.toml.specs.Data.{as_str}
 use Rattle.toml.specs.View.{view}
-use Rattle.access_rules.specs.Addresses.{socket_of}
-use Rattle.access_rules.specs.Tables.{each_in}
-use Rattle.access_rules.proofs.Arrays.{with_front}
+use Rattle.addresses.specs.Addresses.{socket_of}
+use Rattle.toml_tables.specs.Tables.{each_in}
+use Rattle.toml_tables.proofs.Arrays.{with_front}
 use Rattle.site_config.proofs.sockets.sockets.Given as goal
 
 -- those so far stand before what is read of the rest

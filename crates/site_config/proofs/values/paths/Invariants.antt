@@ -1,8 +1,8 @@
 use Rattle.std.proofs.Common.{◌≡◌, drop, map}
 use Rattle.toml.specs.Data.{as_str}
 use Rattle.toml.specs.View.{view}
-use Rattle.access_rules.specs.Tables.{each_in}
-use Rattle.access_rules.proofs.Arrays.{with_front}
+use Rattle.toml_tables.specs.Tables.{each_in}
+use Rattle.toml_tables.proofs.Arrays.{with_front}
 use Rattle.site_config.proofs.values.paths.Given as goal
 
 -- those so far stand before what is read of the rest

@@ -1,7 +1,7 @@
 use Rattle.std.proofs.Common.{◌≡◌, ◌≤◌, ◌++◌, codes, length, ap, subst, ◌∙◌, arith}
 use Rattle.std.specs.Prelude.{OnOk}
 use Rattle.std.proofs.lemmas.Result.{on_err_weaker}
-use Rattle.access_rules.specs.Addresses.{address_text}
+use Rattle.addresses.specs.Addresses.{address_text}
 use Rattle.directory_state.proofs.SeenUrls.{on_err}
 use Rattle.slp_answer.specs.Audits.{audit_of, ending_text, tail_text}
 use Rattle.slp_answer.proofs.AuditLines.{tail_is_written, tail_length}

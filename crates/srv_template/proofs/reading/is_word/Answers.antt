@@ -1,6 +1,6 @@
 use Rattle.std.proofs.Common.{ap, ◌∙◌}
 use Rattle.slp_text.specs.Words.{bytes_eq}
-use Rattle.slp_text.proofs.PrintedScopes.{key_of-folded_text}
+use Rattle.slp_text.proofs.KeysOfKeys.{key_of-folded_text}
 use Rattle.srv_template.proofs.reading.is_word.Goals as goal
 
 pub returns : goal.returns

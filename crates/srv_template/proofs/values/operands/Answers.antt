@@ -1,7 +1,7 @@
 use Rattle.std.proofs.Common.{◌++◌, [], ◌∷◌, sym, ap, ◌∙◌, map}
 use Rattle.std.proofs.lemmas.List.{map_push}
 use Rattle.std.proofs.lemmas.Result.{err_from_is_err_and}
-use Rattle.search_filter.specs.Operands.{operand_of}
+use Rattle.attr_operands.specs.Operands.{operand_of}
 use Rattle.srv_template.proofs.values.operands.Goals as goal
 
 pub loop-value-init : goal.loop-value-init

@@ -1,5 +1,5 @@
 use Rattle.std.proofs.Common.{◌≡◌, map}
-use Rattle.search_filter.specs.Operands.{operand_of}
+use Rattle.attr_operands.specs.Operands.{operand_of}
 use Rattle.srv_template.proofs.values.operands.Given as goal
 
 abbrev pub invariant-loop-value : goal.invariant-loop-value

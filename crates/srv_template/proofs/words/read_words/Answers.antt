@@ -2,7 +2,7 @@ use Rattle.std.proofs.Common.{◌≡◌, ap, ◌∙◌, lit<}
 use Rattle.std.proofs.lemmas.Iterator.Consumers.{map_from_collect}
 use Rattle.std.proofs.lemmas.Iterator.Splits.{YieldsList-from_str_split}
 use Rattle.std.specs.List.{slice_split}
-use Rattle.slp_text.proofs.PrintedScopes.{key_of-folded_text}
+use Rattle.slp_text.proofs.KeysOfKeys.{key_of-folded_text}
 use Rattle.srv_template.specs.Reading.{is_space, kind_and_flags}
 use Rattle.srv_template.specs.Stops.{texts_of}
 use Rattle.srv_template.proofs.words.read_words.Goals as goal

@@ -2,7 +2,7 @@ use Rattle.std.proofs.Common.{◌≡◌, ℕ, List, ◌++◌, Some, map, chars}
 use Rattle.std.specs.Str.Iter.{chars_steps}
 use Rattle.caseless.specs.CaseFold.{FoldsCaseTo}
 use Rattle.caseless.specs.Caseless.{default_case_fold}
-use Rattle.slp_text.specs.Tags.{Sign}
+use Rattle.slp_tags.specs.Tags.{Sign}
 use Rattle.text_patterns.specs.Patterns.{pattern_with}
 use Rattle.text_patterns.proofs.patterns.add_text.Given as goal
 

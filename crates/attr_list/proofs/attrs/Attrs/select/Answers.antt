@@ -1,5 +1,5 @@
 use Rattle.std.proofs.Common.{◌≡◌, ◌∙◌, ap, rules}
-use Rattle.slp_text.specs.Tags.{selects}
+use Rattle.slp_tags.specs.Tags.{selects}
 use Rattle.attr_list.specs.Stored.{attributes_stored, kept_stored}
 use Rattle.attr_list.proofs.StoredAttributes.{kept-attributes}
 use Rattle.attr_list.proofs.attrs.Attrs.select.Goals as goal

@@ -1,6 +1,6 @@
 use Rattle.std.proofs.Common.{◌≡◌, ◌∙◌, ℕ, Bool, List, ap, rules}
 use Rattle.std.specs.Prelude.{not}
-use Rattle.slp_text.specs.Tags.{selects}
+use Rattle.slp_tags.specs.Tags.{selects}
 use Rattle.attr_list.specs.Stored.{attributes_stored, kept_stored}
 use Rattle.attr_list.proofs.StoredAttributes.{kept-attributes}
 use Rattle.attr_list.proofs.attrs.Attrs.without.Goals as goal

@@ -7,8 +7,8 @@ use Rattle.std.proofs.lemmas.Result.{err_from_is_err_and, IfOk-weaker}
 use Rattle.slp_messages.specs.Views.{withdrawal_in}
 use Rattle.service_url.specs.Urls.{url_of}
 use Rattle.slp_text.specs.Keys.{key_of}
-use Rattle.slp_text.specs.Scopes.{scopes_of}
-use Rattle.slp_text.specs.Tags.{Part}
+use Rattle.slp_scopes.specs.Scopes.{scopes_of}
+use Rattle.slp_tags.specs.Tags.{Part}
 use Rattle.directory_judge.specs.Judgements.{Grounds, denial_by, judgement_in, judgement_in_scopes, judgement_of_removal, judgement_of_texts, judgement_of_url, IsJudgement}
 use Rattle.directory_judge.proofs.Steps.{denied-as, judgement-tagged, judgement-whole}
 use Rattle.directory_judge.specs.Withdrawals.{withdrawal_of_texts}

@@ -1,6 +1,6 @@
 use Rattle.std.proofs.Common.{rules, ◌≡◌, ◌++◌, ℕ, Bool, List, sym, subst}
 use Rattle.std.specs.Prelude.{IfOk}
-use Rattle.slp_text.specs.Tags.{selects}
+use Rattle.slp_tags.specs.Tags.{selects}
 use Rattle.attr_list.specs.Maps.{elements_in, kept_attributes}
 use Rattle.directory_state.proofs.ShownEntries.{no-tables, open-whole}
 use Rattle.directory_state.proofs.asked.Viewer.add_shown.Goals as goal

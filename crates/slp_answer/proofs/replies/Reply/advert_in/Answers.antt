@@ -1,7 +1,7 @@
 use Rattle.std.proofs.Common.{◌≡◌, ◌≤◌, ◌++◌, [], codes, length, arith, rules}
 use Rattle.slp_headers.specs.Headers.{heading_in}
-use Rattle.slp_text.specs.Scopes.{printed_scopes}
-use Rattle.access_rules.specs.Addresses.{address_text}
+use Rattle.slp_scopes.specs.Scopes.{printed_scopes}
+use Rattle.addresses.specs.Addresses.{address_text}
 use Rattle.slp_wire.specs.Spelling.{plain_bytes}
 use Rattle.directory_questions.specs.Answers.{advert_of}
 use Rattle.slp_answer.proofs.AdvertSizes.{advert_size, parts_size}

@@ -1,5 +1,5 @@
 use Rattle.std.proofs.Common.{◌≡◌, length}
-use Rattle.slp_text.specs.Searches.{finds}
+use Rattle.slp_tags.specs.Searches.{finds}
 use Rattle.text_patterns.specs.Characters.{characters_left}
 use Rattle.text_patterns.specs.Patterns.{matches_key}
 use Rattle.text_patterns.proofs.patterns.Pattern.matches.Given as goal

@@ -3,7 +3,7 @@ use Rattle.std.specs.Prelude.{string_bytes}
 use Rattle.std.proofs.lemmas.List.{drop_all}
 use Rattle.std.proofs.lemmas.Result.{err_from_is_err_and}
 use Rattle.caseless.specs.Caseless.{default_case_fold}
-use Rattle.slp_text.specs.Tags.{Sign, signs_of}
+use Rattle.slp_tags.specs.Tags.{Sign, signs_of}
 use Rattle.text_patterns.specs.Patterns.{pattern_of, pattern_with}
 use Rattle.text_patterns.proofs.Building.{more_signs}
 use Rattle.text_patterns.proofs.Pieces.{folded_pieces, next_piece, pattern_with-start, piece-other, piece-one}

@@ -1,7 +1,0 @@
-use Rattle.std.proofs.Common.{◌≡◌, drop}
-use Rattle.access_rules.specs.RuleFiles.{are_hides_named_once}
-use Rattle.access_rules.proofs.files.are_hides_named_once.Given as goal
-
--- those to come decide
-abbrev pub invariant-loop-i : goal.invariant-loop-i
-invariant-loop-i l = are_hides_named_once (drop l.i l.hides) ≡ are_hides_named_once l.hides

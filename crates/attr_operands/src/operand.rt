@@ -1,0 +1,66 @@
+ghost use Rattle.std.specs.Prelude.{◌≡◌, IfOk};
+ghost use Rattle.attr_operands.specs.Operands as spec;
+ghost use Rattle.attr_operands.specs.Operands.{operand_of};
+
+use attr_values::Value;
+use slp_text::{Key, NoMemory, Row};
+use std::alloc::Global;
+use text_patterns::compare;
+
+/// What values are compared with, of a text its key.
+#[derive(Drop)]
+pub enum Operand {
+    Bool(bool),
+    Int(i32),
+    Opaque(Row<u8>),
+    Text(Key),
+}
+
+impl Operand {
+    /// What values are compared with to be the same as this one.
+    pub fn of(alloc: Global, value: Value) -> Result<Operand, NoMemory>
+        ensures { IfOk result (λ o. o ≡ operand_of value) }
+    {
+        match value {
+            Value::Bool(truth) => Ok(Operand::Bool(truth)),
+            Value::Int(number) => Ok(Operand::Int(number)),
+            Value::Opaque(bytes) => Ok(Operand::Opaque(bytes)),
+            Value::Text(text) => Ok(Operand::Text(Key::of(alloc, text.as_str())?)),
+        }
+    }
+
+    /// Whether a value is of the same kind, and the same: texts by their keys. Takes no memory.
+    pub fn is_equal(&self, value: &Value) -> bool
+        ensures { result ≡ spec.is_equal self.now value.now }
+    {
+        match (self, value) {
+            (Operand::Bool(a), Value::Bool(b)) => *a == *b,
+            (Operand::Int(a), Value::Int(b)) => *a == *b,
+            (Operand::Opaque(a), Value::Opaque(b)) => a.as_slice() == b.as_slice(),
+            (Operand::Text(key), Value::Text(text)) => compare(text.as_str(), key).is_eq(),
+            _ => false,
+        }
+    }
+
+    /// Whether a value is the operand or after it: of two numbers, or two texts. Takes no memory.
+    pub fn is_at_least(&self, value: &Value) -> bool
+        ensures { result ≡ spec.is_at_least self.now value.now }
+    {
+        match (self, value) {
+            (Operand::Int(a), Value::Int(b)) => *a <= *b,
+            (Operand::Text(key), Value::Text(text)) => compare(text.as_str(), key).is_ge(),
+            _ => false,
+        }
+    }
+
+    /// Whether a value is the operand or before it, in the same way.
+    pub fn is_at_most(&self, value: &Value) -> bool
+        ensures { result ≡ spec.is_at_most self.now value.now }
+    {
+        match (self, value) {
+            (Operand::Int(a), Value::Int(b)) => *b <= *a,
+            (Operand::Text(key), Value::Text(text)) => compare(text.as_str(), key).is_le(),
+            _ => false,
+        }
+    }
+}

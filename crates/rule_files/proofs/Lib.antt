@@ -1,0 +1,2 @@
+pub mod ReadRules
+pub mod Versions

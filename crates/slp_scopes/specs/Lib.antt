@@ -1,0 +1,2 @@
+pub mod ScopeNames
+pub mod Scopes

@@ -1,5 +1,0 @@
-use Rattle.slp_text.proofs.PrintedScopes.{printed_scopes-read}
-use Rattle.slp_text.proofs.laws.each_list_is_read_again.Goals as goal
-
-pub returns : goal.returns
-returns c = printed_scopes-read c.args.scopes.now c.len.ensures.scopes

@@ -1,6 +1,0 @@
-use Rattle.std.proofs.Common.{◌≡◌, take}
-use Rattle.slp_text.proofs.scopes.copies.Given as goal
-
--- the keys so far
-abbrev pub invariant-loop-k : goal.invariant-loop-k
-invariant-loop-k l = l.copied.items ≡ take l.k-index l.keys

@@ -1,7 +1,0 @@
-use Rattle.std.proofs.Common.{◌≡◌, take}
-use Rattle.slp_text.specs.Scopes.{common_scopes}
-use Rattle.slp_text.proofs.scopes.shared.Given as goal
-
--- what both have of the keys so far
-abbrev pub invariant-loop-k : goal.invariant-loop-k
-invariant-loop-k l = l.found.items ≡ common_scopes (take l.k-index l.keys) l.other

@@ -1,7 +1,0 @@
-use Rattle.std.proofs.Common.{map, take}
-use Rattle.slp_text.specs.TagIndexes.{IsIndex}
-use Rattle.slp_text.proofs.tag_index.TagIndex.of.Given as goal
-
--- the index of the parts so far
-abbrev pub invariant-loop-part : goal.invariant-loop-part
-invariant-loop-part l = IsIndex l.index (map (λ p. p.items) (take l.part-index l.parts))

@@ -1,6 +1,0 @@
-use Rattle.std.proofs.Common.{◌≡◌, take}
-use Rattle.slp_text.proofs.tag_index.signs_of.Given as goal
-
--- the signs so far
-abbrev pub invariant-loop-sign : goal.invariant-loop-sign
-invariant-loop-sign l = l.signs.items ≡ take l.sign-index l.part
