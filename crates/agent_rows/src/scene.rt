@@ -8,7 +8,6 @@ use crate::printing::{Times, print_bytes, print_runs};
 use crate::props::Props;
 use crate::sockets::{Sent, free_port, seconds, stream};
 use crate::words::{address_of, cut, expanded, message_of, number_of};
-use site_check::check_run;
 use std::alloc::Global;
 use std::fs::File;
 use std::io::{self, BufReader, Read, Write};
@@ -19,7 +18,6 @@ use std::sync::atomic::Ordering;
 use std::thread::Threads;
 use std::time::{Clock, Duration};
 use std::{fs, thread};
-use tool_program::tool_run;
 
 /// How long a reply or a line is waited for, in milliseconds; and how long once one did not come.
 pub(crate) const PATIENT: u64 = 5_000;
@@ -169,7 +167,7 @@ where
         }
     }
 
-    // The words of the tool, with an address before them.
+    // Takes a line of a file, or its end.
     fn take_line(&mut self, mut block: Block, line: &str) -> io::Result<()> {
         if line == "." {
             return fs::write(self.rt, block.name.as_str(), block.text.as_str());

@@ -4,7 +4,6 @@ use crate::sockets::{
     read_message, receive, replies_in_order, send_datagrams, send_messages, socket, stream,
 };
 use crate::words::{cut, number_of};
-use site_check::check_run;
 use std::fs;
 use std::fs::File;
 use std::io::{self, BufRead, ErrorKind, Read, Write};
@@ -13,7 +12,6 @@ use std::rt::Files;
 use std::sync::Wait;
 use std::thread::Threads;
 use std::time::{Clock, Duration};
-use tool_program::tool_run;
 
 impl<R> Scene<'_, R>
 where

@@ -25,6 +25,7 @@ where
         + Files<File = File>
         + Sync,
 {
+    // The words of the tool, with an address before them.
     fn words(&self, to: Ipv4Addr, port: u16, line: &str) -> io::Result<Vec<String>> {
         let line = format!(in self.alloc; "{to}:{port} {line}")?;
         Ok(words_of(self.alloc, line.as_str())?)
@@ -152,6 +153,4 @@ where
         out.write_all(moments.as_slice())?;
         self.print_call(status, printed.as_slice(), out)
     }
-
-    // Takes a line of a file, or its end.
 }
