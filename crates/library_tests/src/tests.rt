@@ -1,4 +1,3 @@
-mod addresses;
 mod answers;
 mod assertion;
 mod attributes;
@@ -7,6 +6,7 @@ mod directories;
 mod entries;
 mod filters;
 mod messages;
+mod networks;
 mod registries;
 mod rules;
 mod services;
