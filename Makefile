@@ -101,7 +101,7 @@ bench:
 
 refusals:
 	@make/build $(programs)
-	@cd crates/refusal_tests && rt test
+	@cd crates/unit_tests && rt test
 	@refusals/try
 
 # Another seed=TEXT than 1 brings other messages.

@@ -30,16 +30,16 @@ def attributes(what, scopes="DEFAULT", tags="", responders="", **more):
     return spelled(ATTRIBUTES, 0, [responders, what, scopes, tags, ""], **more)
 
 
-def types(scopes="DEFAULT", **more):
-    return spelled(TYPES, 0, ["", ALL_AUTHORITIES, scopes], **more)
+def types(scopes="DEFAULT", authority=ALL_AUTHORITIES, **more):
+    return spelled(TYPES, 0, ["", authority, scopes], **more)
 
 
 def entry(url, lifetime=65535):
     return struct.pack(">xH", lifetime) + string(url) + b"\0"
 
 
-def registration(url, kind, scopes="DEFAULT", attrs="", flags=FRESH, **more):
-    return spelled(REGISTER, flags, [entry(url), kind, scopes, attrs, b"\0"], **more)
+def registration(url, kind, scopes="DEFAULT", attrs="", flags=FRESH, lifetime=65535, **more):
+    return spelled(REGISTER, flags, [entry(url, lifetime), kind, scopes, attrs, b"\0"], **more)
 
 
 def withdrawal(url, scopes="DEFAULT", tags="", **more):

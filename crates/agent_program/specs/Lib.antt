@@ -2,5 +2,3 @@ pub mod Consoles
 pub mod Jobs
 pub mod Openings
 pub mod Statuses
-pub mod Watching
-pub mod Words

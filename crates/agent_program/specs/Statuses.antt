@@ -3,20 +3,33 @@ use Rattle.std.specs.Prelude.{ℕ, Result, Ok, Err, List, [], ◌∷◌, ◌++�
 use Rattle.rule_files.specs.declared.fault.RuleFault.TheVariants as rule_fault
 use Rattle.site_reports.specs.Reports.{rule_fault_text, ruled_text}
 use Rattle.published_view.specs.declared.fault.ViewFault.{ViewFault}
+use Rattle.published_view.specs.declared.fault.ViewFault.TheVariants as view_fault
 use Rattle.slp_loops.specs.declared.fault.LoopFault.{LoopFault}
 use Rattle.slp_loops.specs.declared.fault.LoopFault.TheVariants as loop_fault
 use Rattle.slp_text.specs.Ascii.{line_feed}
+use Rattle.site_opening.specs.declared.fault.ReadFault.{ReadFault}
+use Rattle.site_opening.specs.declared.fault.ReadFault.TheVariants as read
 use Rattle.site_opening.specs.declared.fault.StartFault.{StartFault}
-use Rattle.site_opening.specs.declared.fault.StartFault.TheVariants.{Failed, Config, Rules, Template, NoMemory}
+use Rattle.site_opening.specs.declared.fault.StartFault.TheVariants.{Failed, NoMemory}
+use Rattle.agent_program.specs.declared.fault.ReloadFault.{ReloadFault}
+use Rattle.agent_program.specs.declared.fault.ReloadFault.TheVariants.{File, Rules, Shut}
 
--- what the console prints of a reload: how many rules decide from now on, or why the old ones stay
-abbrev pub reload_text : Result ℕ StartFault → List ℕ
+-- why the rules stay where a file of rules is not read, and where the writer refuses others
+abbrev pub unread : ReadFault → ReloadFault
+unread read.Failed = File
+unread (read.Refused e) = Rules e
+
+abbrev pub reload_refused : ViewFault → ReloadFault
+reload_refused view_fault.NoPlace = Rules rule_fault.NoMemory
+reload_refused view_fault.NoMemory = Rules rule_fault.NoMemory
+reload_refused view_fault.Closed = Shut
+
+-- what the console prints of a reload: how many rules decide from now on, or why the old ones stay; a writer that is shut wants memory too
+abbrev pub reload_text : Result ℕ ReloadFault → List ℕ
 reload_text (Ok number) = ruled_text number
-reload_text (Err Failed) = codes "! file" ++ line_feed ∷ []
-reload_text (Err (Config e)) = codes "! file" ++ line_feed ∷ []
+reload_text (Err File) = codes "! file" ++ line_feed ∷ []
 reload_text (Err (Rules e)) = rule_fault_text e
-reload_text (Err (Template e)) = codes "! file" ++ line_feed ∷ []
-reload_text (Err NoMemory) = rule_fault_text rule_fault.NoMemory
+reload_text (Err Shut) = rule_fault_text rule_fault.NoMemory
 
 -- what the console prints of a sweep; a writer that is shut wants memory too
 abbrev pub sweep_text : Result (Unit {0}) ViewFault → List ℕ

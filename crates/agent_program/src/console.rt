@@ -8,13 +8,14 @@ ghost use Rattle.directory_runs.specs.Changes.{reload_at, sweep_at};
 ghost use Rattle.published_view.specs.Changes.{written_at};
 ghost use Rattle.published_view.specs.declared.fault.ViewFault.{ViewFault};
 
+use crate::fault::{ReloadFault, refused_rules, unread_rules};
 use crate::threads::Task;
-use crate::words::{Act, Input, Word, hear};
 use access_rules::Rules;
+use agent_watch::{Act, Input, Word, hear};
 use arrayvec::ArrayVec;
 use published_view::{DirectoryWriter, Naming, ViewFault};
 use rule_files::RuleFault;
-use site_opening::{StartFault, rules_at};
+use site_opening::rules_at;
 use site_reports::print_rules;
 use slp_loops::{Log, Moments, WallClock};
 use slp_text::Text;
@@ -40,16 +41,14 @@ pub(crate) struct Console<'r, 's, J: Naming, R: Wait + Clock, L: Log + Drop> {
 }
 
 // Prints what came of a reload: how many rules decide from now on, or why the old ones stay.
-fn print_reload<W: Write>(told: Result<usize, StartFault>, writer: &mut W) -> io::Result<()>
+fn print_reload<W: Write>(told: Result<usize, ReloadFault>, writer: &mut W) -> io::Result<()>
     ensures { OnOk result (Appends (W.contents writer.old) (W.contents writer.new) (reload_text told)) }
 {
     match told {
         Ok(number) => print_rules(Ok(number), writer),
-        Err(StartFault::Rules(fault)) => print_rules(Err(fault), writer),
-        Err(StartFault::NoMemory) => print_rules(Err(RuleFault::NoMemory), writer),
-        Err(StartFault::Failed | StartFault::Config(_) | StartFault::Template(_)) => {
-            writer.write_all(b"! file\n")
-        }
+        Err(ReloadFault::Rules(fault)) => print_rules(Err(fault), writer),
+        Err(ReloadFault::Shut) => print_rules(Err(RuleFault::NoMemory), writer),
+        Err(ReloadFault::File) => writer.write_all(b"! file\n"),
     }
 }
 
@@ -69,14 +68,14 @@ fn put_rules<J: Naming, Q: Wait + Drop>(
     alloc: Global,
     moment: u32,
     rules: Rules,
-) -> Result<usize, StartFault>
+) -> Result<usize, ReloadFault>
     ensures put { IfOk result (λ count. (count ≡ number rules) × (writer.new ≡ written_at writer.old (reload_at (now writer.old.history moment) rules ∷ writer.old.history) None)) }
     ensures kept { OnErr result (writer.new.history ≡ writer.old.history) }
 {
     let number = rules.len();
     match writer.reload(alloc, moment, rules) {
         Ok(()) => Ok(number),
-        Err(_) => Err(StartFault::NoMemory),
+        Err(fault) => Err(refused_rules(fault)),
     }
 }
 
@@ -98,7 +97,7 @@ where
     L: Log + Drop,
 {
     // Lets these rules decide from now on, and answers how many there are.
-    fn put(&mut self, rules: Rules) -> Result<usize, StartFault>
+    fn put(&mut self, rules: Rules) -> Result<usize, ReloadFault>
         ensures { self.new.output ≡ self.old.output }
     {
         let moment = self.clock.now();
@@ -107,17 +106,17 @@ where
     }
 
     // Reads the rule file again. Its rules decide from then on, unless they are refused.
-    fn read_rules(&mut self) -> Result<usize, StartFault>
+    fn read_rules(&mut self) -> Result<usize, ReloadFault>
         ensures { self.new.output ≡ self.old.output }
     {
         match rules_at(self.rt, self.alloc, self.rules) {
             Ok(rules) => self.put(rules),
-            Err(fault) => Err(fault),
+            Err(fault) => Err(unread_rules(fault)),
         }
     }
 
     // Prints what came of a reload.
-    fn tell(&mut self, told: Result<usize, StartFault>)
+    fn tell(&mut self, told: Result<usize, ReloadFault>)
         ensures { (self.new.output ≡ self.old.output) ⊎ L.writes self.old.output (reload_text told) self.new.output }
     {
         let mut text = ArrayVec::<u8, LONGEST_TEXT>::new();

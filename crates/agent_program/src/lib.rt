@@ -8,8 +8,6 @@ mod program;
 mod starting;
 mod sweeping;
 mod threads;
-mod watching;
-mod words;
 
 pub use program::{agent_run, unread_words};
 pub use starting::{Ends, start_loops};

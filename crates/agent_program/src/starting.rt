@@ -9,7 +9,7 @@ use crate::fault::loop_fault;
 use crate::opening::{Beginning, begun};
 use crate::sweeping::Sweeping;
 use crate::threads::{Job, serve};
-use crate::words::SharedInput;
+use agent_watch::SharedInput;
 use published_view::{Gate, LoopView, Naming, Opened, open};
 use site_config::Config;
 use site_opening::StartFault;

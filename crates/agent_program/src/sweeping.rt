@@ -3,7 +3,7 @@ ghost use Rattle.std.specs.Prelude.{◌≡◌, ℕ};
 ghost use Rattle.expiry_sweep.specs.Schedules.{timing_after};
 
 use crate::threads::Task;
-use crate::watching::{Watch, sweep_on};
+use agent_watch::{Watch, sweep_on};
 use expiry_sweep::{Schedule, Sweeper};
 use published_view::{DirectoryWriter, Naming};
 use slp_loops::{Moments, WallClock};

@@ -32,6 +32,7 @@ pub(crate) enum Way {
 #[derive(Clone, Copy)]
 pub(crate) enum PrepareRow {
     File,
+    Site,
     Remove,
     Taken,
     Answer(Way),
@@ -80,7 +81,7 @@ pub(crate) enum ToolRow {
 }
 
 /// The rows by their words.
-static ROWS: [(&str, Row); 42] = [
+static ROWS: [(&str, Row); 43] = [
     ("at", Row::Place(PlaceRow::At)),
     ("from", Row::Place(PlaceRow::From)),
     ("near", Row::Place(PlaceRow::Near)),
@@ -88,6 +89,7 @@ static ROWS: [(&str, Row); 42] = [
     ("clock", Row::Place(PlaceRow::Clock)),
     ("steady", Row::Place(PlaceRow::Steady)),
     ("file", Row::Prepare(PrepareRow::File)),
+    ("site", Row::Prepare(PrepareRow::Site)),
     ("remove", Row::Prepare(PrepareRow::Remove)),
     ("taken", Row::Prepare(PrepareRow::Taken)),
     ("stray", Row::Prepare(PrepareRow::Answer(Way::Stray))),

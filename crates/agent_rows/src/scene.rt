@@ -2,6 +2,7 @@
 mod asking;
 mod calling;
 
+use crate::CONFIG;
 use crate::fake::Answers;
 use crate::kinds::{AgentRow, PlaceRow, PrepareRow, Row, StreamRow, ToolRow, Way};
 use crate::printing::{Times, print_bytes, print_runs};
@@ -32,6 +33,9 @@ const LATE: u64 = 3_000;
 
 /// The status of the tool where no answer came.
 const NO_ANSWER: u8 = 2;
+
+/// The configuration of an agent without rules.
+const SITE: &str = "scopes = \"DEFAULT\"\nlisten = [\"127.0.0.1:PORT\"]\ncapacity = 16\n";
 
 /// How many characters of a row are printed.
 const SHOWN: usize = 90;
@@ -167,6 +171,16 @@ where
         }
     }
 
+    // Writes the configuration of an agent in one scope, at one address, with a file of rules where one is named.
+    fn write_site(&mut self, rules: &str) -> io::Result<()> {
+        let port = format!(in self.alloc; "{}", self.place.port)?;
+        let mut text = SITE.replace(self.alloc, "PORT", port.as_str())?;
+        if !rules.is_empty() {
+            writeln!(text, "rules = \"{rules}\"")?;
+        }
+        fs::write(self.rt, CONFIG, text.as_str())
+    }
+
     // Takes a line of a file, or its end.
     fn take_line(&mut self, mut block: Block, line: &str) -> io::Result<()> {
         if line == "." {
@@ -229,6 +243,7 @@ where
     fn prepare(&mut self, row: PrepareRow, rest: &str) -> io::Result<()> {
         match row {
             PrepareRow::File => self.begin_file(rest),
+            PrepareRow::Site => self.write_site(rest),
             PrepareRow::Remove => fs::remove_file(self.rt, rest),
             PrepareRow::Taken => self.take_port(),
             PrepareRow::Answer(place) => self.add_answer(place, rest),

@@ -8,7 +8,7 @@ use Rattle.directory_questions.specs.Answers.{is_change_of}
 use Rattle.directory_questions.specs.Bytes.{AreBytes}
 use Rattle.directory_questions.specs.Calls.{Opening, Call}
 use Rattle.slp_answer.specs.Answers.{Replies}
-use Rattle.slp_answer.specs.declared.answer.Sent.{Sent}
+use Rattle.slp_replies.specs.declared.answer.Sent.{Sent}
 use Rattle.history_log.specs.Pasts.{IsPast}
 use Rattle.directory_runs.specs.Runs.{Run}
 use Rattle.directory_runs.specs.Turns.{Telling, Turn, Deed, AreDone, AreTurns, IsTelling, IsRunOf, last_turn}

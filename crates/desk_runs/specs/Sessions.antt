@@ -5,8 +5,8 @@ use Rattle.directory_judge.specs.History.{History}
 use Rattle.directory_questions.specs.Answers.{is_change_of}
 use Rattle.directory_questions.specs.Bytes.{AreBytes}
 use Rattle.directory_questions.specs.Calls.{Opening, Call}
-use Rattle.slp_answer.specs.declared.answer.Answer.{Answer}
-use Rattle.slp_answer.specs.declared.answer.Sent.{Sent}
+use Rattle.slp_replies.specs.declared.answer.Answer.{Answer}
+use Rattle.slp_replies.specs.declared.answer.Sent.{Sent}
 use Rattle.history_log.specs.Pasts.{IsPast}
 use Rattle.directory_runs.specs.Turns.{Telling, Turn}
 use Rattle.published_view.specs.Traces.{Trace, last_at}

@@ -1,12 +1,10 @@
 -- What is accepted is what is allowed.
 use Rattle.std.proofs.Common.{◌≡◌, ℕ, ◌<◌, Bool, true, false, cond, not, List, [], ◌∷◌, length, Option, Some, None, Result, Ok, Err, refl, sym, ap, ap₂, subst, ◌∙◌, arith}
-use Rattle.std.specs.Prelude.{◌==◌, ◌&&◌, ◌||◌, Contains, IfSome, IsTrue, filter, find, is_none, is_some, nat_le, unwrap_or}
+use Rattle.std.specs.Prelude.{◌==◌, ◌&&◌, ◌||◌, Contains, IsTrue, filter, find, is_none, is_some, nat_le, unwrap_or}
 use Rattle.std.specs.FinMap as fin
 use Rattle.std.specs.List.{All, list_any}
 use Rattle.std.specs.Option.{option_map, option_or}
-use Rattle.std.specs.Ordering.{match_ordering}
 use Rattle.std.specs.Result.{result_ok}
-use Rattle.std.specs.declared.cmp.Ordering.TheVariants.{Less, Equal, Greater}
 use Rattle.std.proofs.lemmas.Bool.Decides.{nat_tests}
 use Rattle.std.proofs.lemmas.List.Elements.{All-nil, All-cons, All-head, All-tail, All-weaker, All-contains, All-contains_itself, filter_passes}
 use Rattle.std.proofs.lemmas.Option.{none-some, same_Some}
@@ -14,7 +12,7 @@ use Rattle.slp_text.specs.Keys.{key_of}
 use Rattle.slp_scopes.specs.Scopes.{scopes_of}
 use Rattle.slp_text.specs.Sets.{common_keys}
 use Rattle.slp_tags.specs.Tags.{Part, tags_of}
-use Rattle.slp_text.specs.Words.{bytes_cmp, bytes_eq, texts_eq}
+use Rattle.slp_text.specs.Words.{bytes_eq, texts_eq}
 use Rattle.slp_text.proofs.KeySets.{bytes_same}
 use Rattle.slp_messages.specs.declared.header.Header.{Header}
 use Rattle.slp_messages.specs.declared.message.Message.{Message}
@@ -33,9 +31,9 @@ use Rattle.srv_template.specs.Conformity.{ConformsTo, template_fault}
 use Rattle.srv_template.specs.declared.fault.TemplateFault.{TemplateFault}
 use Rattle.srv_template.proofs.Conformities.{no_template_fault}
 use Rattle.registry_core.specs.declared.entry.Entry.{Entry}
-use Rattle.registry_core.specs.Entries.{Pair, is_of_url, is_registered}
+use Rattle.registry_core.specs.Entries.{Pair, is_of_url}
 use Rattle.directory_judge.specs.History.{Event}
-use Rattle.directory_judge.specs.Judgements.{Grounds, Judgement, Accepts, Ignores, Waits, Denies, act_of, allowance, by_rule, by_step, concerned_entries, denial, denial_by, denial_in, denial_of, denial_of_kept, denial_of_live, denial_of_new, denial_of_old, denial_of_room, denial_of_scopes, denial_of_template, denial_of_update, earlier_entry, entries_in, first_from, first_of, is_denied, is_kept, judgement, judgement_in_scopes, judgement_of_entries, judgement_of_particulars, judgement_of_reading, judgement_of_registration, judgement_of_removal, judgement_of_tagged, judgement_of_tags, judgement_of_texts, judgement_of_url, judgement_of_withdrawal, pair_in, particulars, particulars_of_texts, release, removal_event, resulting_attributes, withdrawal_event}
+use Rattle.directory_judge.specs.Judgements.{Grounds, Judgement, Accepts, Ignores, Waits, Denies, act_of, allowance, by_rule, by_step, concerned_entries, denial, denial_by, denial_in, denial_of, denial_of_kept, denial_of_live, denial_of_new, denial_of_old, denial_of_room, denial_of_scopes, denial_of_template, denial_of_update, entries_in, first_of, is_denied, is_kept, judgement, judgement_in_scopes, judgement_of_entries, judgement_of_particulars, judgement_of_reading, judgement_of_registration, judgement_of_removal, judgement_of_tagged, judgement_of_tags, judgement_of_texts, judgement_of_url, judgement_of_withdrawal, pair_in, particulars, particulars_of_texts, release, removal_event, resulting_attributes, withdrawal_event}
 use Rattle.directory_judge.specs.declared.particulars.Particulars.{Particulars}
 use Rattle.directory_judge.specs.declared.reason.Because.{Because}
 use Rattle.directory_judge.specs.declared.reason.Decider.TheVariants as decider
@@ -44,6 +42,7 @@ use Rattle.directory_judge.proofs.Rulings.{is_kept-denial, not-kept}
 use Rattle.directory_judge.proofs.SameTexts.{texts_same, texts_itself, bytes_itself}
 use Rattle.directory_questions.specs.Verdicts.{change_in}
 use Rattle.directory_runs.specs.Allowing.{HasRoom, IsAllowedOn, IsReleased, IsRuledIn, MayFollow, MayReplace, MayUpdate, RegistrationIsAllowed, TagsAreReleased, UrlIsReleased, WithdrawalIsAllowed}
+use Rattle.directory_runs.proofs.FirstEntries.{false_true, first-has, first-none, filter-none, none-filter, unlisted, nothing-in}
 
 -- ---- scopes in which nothing is denied
 
@@ -102,9 +101,6 @@ denying-map (Some b) = tt
 denying-test : (b : Bool) (because : Because) → IsDenying (cond b (Some (denial because)) None)
 denying-test true because = tt
 denying-test false because = tt
-
-false_true : false ≡ true → ⊥
-false_true h = cc
 
 test-none : (b : Bool) (j : Judgement) → cond b (Some j) None ≡ None → b ≡ false
 test-none true j h = absurd (none-some j (sym h))
@@ -309,50 +305,6 @@ module _ (g : Grounds) (h : Header) (r : Registration) (event : Event) (because 
 
   registration-allowed : judgement_of_registration g h r ≡ Accepts event because → RegistrationIsAllowed g h r event
   registration-allowed is = read-allowed (particulars g.site h r) refl (particulars-read g.site h r) is
-
--- ---- the first of some entries
-
-earlier-has : (P : Entry → Type 0) (o : Option Entry) (x : Entry) → IfSome o P → P x → P (earlier_entry o x)
-earlier-has P None x h k = k
-earlier-has P (Some f) x h k = elim (bytes_cmp x.language f.language) as (λ c. P (match_ordering c x f f)) [ Less ↦ k | Equal ↦ h | Greater ↦ h ]
-
-first-has : (P : Entry → Type 0) (o : Option Entry) (xs : List Entry) (f : Entry) → IfSome o P → All P xs → first_from o xs ≡ Some f → P f
-first-has P None [] f held all is = absurd (none-some f is)
-first-has P (Some x) [] f held all is = subst P (same_Some x f is) held
-first-has P o (x ∷ xs) f held all is = first-has P (Some (earlier_entry o x)) xs f (earlier-has P o x held (All-head P x xs all)) (All-tail P x xs all) is
-
-first-some : (f : Entry) (xs : List Entry) → first_from (Some f) xs ≡ None → ⊥
-first-some f [] h = none-some f (sym h)
-first-some f (x ∷ xs) h = first-some (earlier_entry (Some f) x) xs h
-
-first-none : (xs : List Entry) → first_of xs ≡ None → xs ≡ []
-first-none [] none = refl
-first-none (x ∷ xs) none = absurd (first-some x xs none)
-
-module _ (p : Entry → Bool) where
-  filter-none : (xs : List Entry) → filter p xs ≡ [] → All (λ x. p x ≡ false) xs
-  filter-none [] = λ h. All-nil (λ x. p x ≡ false)
-  filter-none (x ∷ xs) =
-      elim (p x) as (λ b. p x ≡ b → cond b (x ∷ filter p xs) (filter p xs) ≡ [] → All (λ x. p x ≡ false) (x ∷ xs)) [
-        | true ↦ λ t h. cc
-        | false ↦ λ f h. All-cons (λ x. p x ≡ false) x xs f (filter-none xs h)
-      ] refl
-
-  none-filter : (xs : List Entry) → All (λ x. p x ≡ false) xs → filter p xs ≡ []
-  none-filter [] all = refl
-  none-filter (x ∷ xs) all = ap (λ b. cond b (x ∷ filter p xs) (filter p xs)) (All-head (λ x. p x ≡ false) x xs all) ∙ none-filter xs (All-tail (λ x. p x ≡ false) x xs all)
-
--- where none is of the URL, none is registered with it
-unlisted : (url : List ℕ) (scopes : List (List ℕ)) (xs : List Entry) → list_any (is_of_url url) xs ≡ false → filter (is_registered url scopes) xs ≡ []
-unlisted url scopes [] = λ none. refl
-unlisted url scopes (x ∷ xs) =
-    elim (bytes_eq x.url url) as (λ b. (b || list_any (is_of_url url) xs) ≡ false → cond (b && texts_eq x.scopes scopes) (x ∷ filter (is_registered url scopes) xs) (filter (is_registered url scopes) xs) ≡ []) [
-      | true ↦ λ none. absurd (false_true (sym none))
-      | false ↦ λ none. unlisted url scopes xs none
-    ]
-
-nothing-in : (e : Entry) (xs : List Entry) → xs ≡ [] → Contains xs e → ⊥
-nothing-in e xs none has = let k = (subst (λ ys. Contains ys e) none has).1 in omega (arith, k)
 
 -- ---- the withdrawal of a URL
 

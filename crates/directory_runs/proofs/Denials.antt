@@ -54,9 +54,9 @@ use Rattle.directory_questions.specs.Requests.{action_of}
 use Rattle.directory_questions.specs.Verdicts.{grounds}
 use Rattle.directory_questions.specs.declared.question.Question.{Question}
 use Rattle.directory_questions.specs.declared.question.Question.TheVariants as question
-use Rattle.slp_answer.specs.Answers.{audit_in}
-use Rattle.slp_answer.specs.Audits.{action_text, audit_text, decider_text, line_text, rule_named, tail_text}
-use Rattle.slp_answer.specs.declared.copies.Audit.{Audit}
+use Rattle.slp_replies.specs.Tellings.{audit_in}
+use Rattle.slp_replies.specs.Audits.{action_text, audit_text, decider_text, line_text, rule_named, tail_text}
+use Rattle.slp_replies.specs.declared.copies.Audit.{Audit}
 use Rattle.directory_runs.specs.Promises.{DenialsAreKept, IsDenial, IsRuledOut, answering_function, asks_for_agents, is_for_agents}
 
 -- ---- who denies

@@ -1,5 +1,6 @@
 pub mod Allowing
 pub mod Denials
+pub mod FirstEntries
 pub mod Fitting
 pub mod Hiding
 pub mod Kept

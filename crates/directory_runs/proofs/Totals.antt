@@ -60,7 +60,7 @@ use Rattle.directory_state.proofs.Outcomes.{elsewhere-carried}
 use Rattle.directory_state.proofs.SearchAnswers.{foreign-is, is-foreign, services-are}
 use Rattle.directory_state.proofs.SeenUrls.{here, there}
 use Rattle.slp_answer.proofs.Sizes.{reply_size}
-use Rattle.slp_answer.proofs.TextFronts.{attributes_size, types_size}
+use Rattle.slp_replies.proofs.TextFronts.{attributes_size, types_size}
 use Rattle.directory_runs.proofs.Fitting.{short_language}
 
 -- ---- what a state holds is a list

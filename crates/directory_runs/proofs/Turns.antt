@@ -11,8 +11,9 @@ use Rattle.directory_questions.specs.Bytes.{AreBytes}
 use Rattle.directory_questions.specs.Calls.{Opening, Call}
 use Rattle.directory_questions.specs.Outcomes.{Outcome}
 use Rattle.directory_questions.specs.Verdicts.{history_with}
-use Rattle.slp_answer.specs.Answers.{Replies, Tells}
-use Rattle.slp_answer.specs.declared.answer.Sent.{Sent}
+use Rattle.slp_answer.specs.Answers.{Replies}
+use Rattle.slp_replies.specs.Tellings.{Tells}
+use Rattle.slp_replies.specs.declared.answer.Sent.{Sent}
 use Rattle.history_log.specs.Pasts.{IsPast}
 use Rattle.directory_runs.specs.Changes.{IsChanged, reload_at, sweep_at}
 use Rattle.directory_runs.specs.Runs.{Publish, Sweep, Reload, Entry, World, Run, IsRun, May, happened, world}

@@ -27,8 +27,8 @@ use Rattle.directory_questions.specs.Verdicts.{IsLegal}
 use Rattle.directory_questions.specs.declared.question.Question.{Question}
 use Rattle.directory_questions.specs.declared.question.Question.TheVariants.{Silent, Unreadable, Agents}
 use Rattle.directory_questions.specs.declared.question.Question.TheVariants as question
-use Rattle.slp_answer.specs.Answers.{line_of}
-use Rattle.slp_answer.specs.Audits.{decider_text, rule_named}
+use Rattle.slp_replies.specs.Tellings.{line_of}
+use Rattle.slp_replies.specs.Audits.{decider_text, rule_named}
 use Rattle.history_log.specs.Pasts.{IsPast}
 use Rattle.directory_runs.specs.Allowing.{IsAllowed}
 use Rattle.directory_runs.specs.Runs.{Happening, Publish, Sweep, Reload, Entry, Look, Tell, Learn, Refusal, Run, World, happened, world}

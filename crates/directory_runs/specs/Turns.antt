@@ -8,8 +8,9 @@ use Rattle.directory_questions.specs.Answers.{is_change_of}
 use Rattle.directory_questions.specs.Bytes.{AreBytes}
 use Rattle.directory_questions.specs.Calls.{Opening, Call}
 use Rattle.directory_questions.specs.Outcomes.{Outcome}
-use Rattle.slp_answer.specs.Answers.{Replies, Tells}
-use Rattle.slp_answer.specs.declared.answer.Sent.{Sent}
+use Rattle.slp_answer.specs.Answers.{Replies}
+use Rattle.slp_replies.specs.Tellings.{Tells}
+use Rattle.slp_replies.specs.declared.answer.Sent.{Sent}
 use Rattle.history_log.specs.Pasts.{IsPast}
 use Rattle.directory_runs.specs.Changes.{IsChanged, reload_at, sweep_at}
 use Rattle.directory_runs.specs.Promises.{IsKeptThroughout}

@@ -26,8 +26,9 @@ ghost use Rattle.directory_runs.specs.Promises.{IsKeptThroughout};
 ghost use Rattle.directory_runs.specs.Changes.{IsChanged};
 ghost use Rattle.directory_runs.specs.Runs.{Entry, Learn, May, Publish, Reply, Run, IsRun, World, happened, world};
 ghost use Rattle.directory_runs.specs.Turns.{AreDone, AreTurns, Deed, IsRunOf, Turn, last_turn};
-ghost use Rattle.slp_answer.specs.Answers.{Replies, Tells};
-ghost use Rattle.slp_answer.specs.declared.answer.Sent.{Sent};
+ghost use Rattle.slp_answer.specs.Answers.{Replies};
+ghost use Rattle.slp_replies.specs.Tellings.{Tells};
+ghost use Rattle.slp_replies.specs.declared.answer.Sent.{Sent};
 ghost use Rattle.slp_headers.specs.Headers.{heading_of};
 
 /// What users are promised, over every interleaving of changes, sweeps, reloads and questions. A loop answers at one

@@ -5,7 +5,7 @@ ghost use Rattle.directory_questions.specs.Calls.{Opening, call_in};
 ghost use Rattle.directory_questions.specs.Verdicts.{IsLegal};
 ghost use Rattle.directory_state.specs.Folds.{Fold};
 ghost use Rattle.slp_answer.specs.Answers.{Replies};
-ghost use Rattle.slp_answer.specs.Audits.{audit_text};
+ghost use Rattle.slp_replies.specs.Audits.{audit_text};
 
 use access_rules::Rules;
 use directory_state::Directory;

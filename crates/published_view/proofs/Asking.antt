@@ -14,7 +14,7 @@ use Rattle.directory_state.specs.State.{state_after}
 use Rattle.directory_state.proofs.AskedEvents.{event_is_asked}
 use Rattle.directory_state.proofs.LegalHistories.{Fold-events}
 use Rattle.slp_answer.specs.Answers.{Acknowledges}
-use Rattle.slp_answer.specs.declared.answer.Sent.{Sent}
+use Rattle.slp_replies.specs.declared.answer.Sent.{Sent}
 use Rattle.directory_runs.specs.Changes.{IsChanged, sweep_at}
 use Rattle.directory_runs.specs.Runs.{Publish}
 use Rattle.published_view.specs.Changes.{event_or_sweep}

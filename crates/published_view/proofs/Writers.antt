@@ -8,7 +8,7 @@ use Rattle.directory_questions.specs.Calls.{Opening}
 use Rattle.directory_questions.specs.Verdicts.{IsLegal}
 use Rattle.directory_state.specs.Folds.{Fold}
 use Rattle.slp_answer.specs.Answers.{Acknowledges}
-use Rattle.slp_answer.specs.declared.answer.Sent.{Sent}
+use Rattle.slp_replies.specs.declared.answer.Sent.{Sent}
 use Rattle.published_view.specs.declared.copies.PublishedCopy.{PublishedCopy}
 use Rattle.directory_runs.specs.Changes.{reload_at, sweep_at}
 use Rattle.directory_runs.specs.Runs.{Sweep, Reload}

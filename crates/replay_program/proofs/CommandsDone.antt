@@ -2,7 +2,7 @@
 use Rattle.std.proofs.Common.{◌≡◌, ◌⊎◌, ℕ, ◌+◌, ◌-◌, Bool, true, false, List, [], ◌∷◌, ◌++◌, codes, Option, Some, None, Result, Ok, Err, refl, sym, ap, ap₂, subst, ◌∙◌, inl, inr}
 use Rattle.std.specs.Prelude.{MatchResult}
 use Rattle.directory_questions.specs.Verdicts.{history_with}
-use Rattle.slp_answer.specs.declared.answer.Sent.{Sent}
+use Rattle.slp_replies.specs.declared.answer.Sent.{Sent}
 use Rattle.slp_script.specs.Commands.{Single}
 use Rattle.slp_script.specs.declared.command.Order.TheVariants.{At, From, Loop, Udp, Open, Tcp, Sweep}
 use Rattle.slp_script.specs.declared.command.Block.{Block}

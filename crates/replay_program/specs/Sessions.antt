@@ -11,8 +11,8 @@ use Rattle.directory_judge.specs.Meaning.{rules}
 use Rattle.directory_questions.specs.Answers.{IsAnswer}
 use Rattle.directory_questions.specs.Outcomes.{Outcome}
 use Rattle.directory_questions.specs.Verdicts.{IsLegal, history_with}
-use Rattle.slp_answer.specs.Answers.{Tells}
-use Rattle.slp_answer.specs.declared.answer.Sent.{Sent}
+use Rattle.slp_replies.specs.Tellings.{Tells}
+use Rattle.slp_replies.specs.declared.answer.Sent.{Sent}
 use Rattle.slp_stream.specs.Cutting.{front_of, IsCut}
 use Rattle.slp_stream.specs.Framing.{Frames}
 use Rattle.slp_script.specs.Commands.{Command}

@@ -14,7 +14,7 @@ use Rattle.directory_questions.specs.Calls.{Opening, Call}
 use Rattle.directory_questions.specs.Outcomes.{Outcome, refusal_outcome}
 use Rattle.directory_questions.specs.Verdicts.{history_with}
 use Rattle.site_reports.specs.Reports.{configured_text, config_fault_text, added_text, template_fault_text, ruled_text, rule_fault_text}
-use Rattle.slp_answer.specs.Answers.{line_of}
+use Rattle.slp_replies.specs.Tellings.{line_of}
 use Rattle.slp_stream.specs.Cutting.{Front, Wanting, Whole, Bad, front_of, IsCut}
 use Rattle.slp_stream.specs.Framing.{Frames}
 use Rattle.slp_stream.specs.declared.fault.FrameFault.{FrameFault}

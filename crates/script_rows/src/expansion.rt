@@ -1,6 +1,7 @@
 //! What braces in a script of the data stand for.
 
-use std::alloc::AllocError;
+use crate::words::request_in;
+use std::alloc::{AllocError, Global};
 
 /// The most bytes that a pair of braces stands for.
 const LONGEST: usize = 4_000_000;
@@ -39,6 +40,34 @@ impl<'a> Form<'a> {
     }
 }
 
+// The message that a number and the words of a command of `slptool` ask for.
+fn message_in(alloc: Global, inner: &str) -> Result<Option<Vec<u8>>, AllocError> {
+    let Some((number, words)) = inner.split_once(' ') else {
+        return Ok(None);
+    };
+    match number.parse::<u16>() {
+        Ok(number) => request_in(alloc, number, words),
+        Err(_) => Ok(None),
+    }
+}
+
+// Adds the hexadecimal digits of the message that stands before a closing brace, and gives the text behind it, if there is one.
+fn push_message<'a>(
+    alloc: Global,
+    bytes: &mut Vec<u8>,
+    part: &'a str,
+) -> Result<Option<&'a str>, AllocError> {
+    let Some((inner, rest)) = part.split_once('}') else {
+        return Ok(None);
+    };
+    let Some(message) = message_in(alloc, inner)? else {
+        return Ok(None);
+    };
+    let digits = hex::encode(alloc, message.as_slice())?;
+    bytes.extend_from_slice(digits.as_bytes())?;
+    Ok(Some(rest))
+}
+
 // Reads a form and the text behind its closing brace.
 fn form_and_rest(part: &str) -> Option<(Form<'_>, &str)> {
     let (inner, rest) = part.split_once('}')?;
@@ -46,7 +75,10 @@ fn form_and_rest(part: &str) -> Option<(Form<'_>, &str)> {
 }
 
 // Adds what a brace and the text behind it stand for.
-fn push_braced(bytes: &mut Vec<u8>, part: &str) -> Result<(), AllocError> {
+fn push_braced(alloc: Global, bytes: &mut Vec<u8>, part: &str) -> Result<(), AllocError> {
+    if let Some(rest) = push_message(alloc, bytes, part)? {
+        return bytes.extend_from_slice(rest.as_bytes());
+    }
     match form_and_rest(part) {
         Some((form, rest)) => {
             form.push_to(bytes)?;
@@ -60,11 +92,11 @@ fn push_braced(bytes: &mut Vec<u8>, part: &str) -> Result<(), AllocError> {
 }
 
 /// Adds what a text stands for.
-pub fn push_expanded(bytes: &mut Vec<u8>, text: &str) -> Result<(), AllocError> {
+pub fn push_expanded(alloc: Global, bytes: &mut Vec<u8>, text: &str) -> Result<(), AllocError> {
     let mut parts = text.split('{');
     bytes.extend_from_slice(parts.next().unwrap_or("").as_bytes())?;
     for part in parts {
-        push_braced(bytes, part)?;
+        push_braced(alloc, bytes, part)?;
     }
     Ok(())
 }

@@ -5,8 +5,9 @@
 //! A line `=== NAME` begins one and says what it shows. The lines up to the next such line are what is run; what stands before the first is
 //! a comment. A name that begins with `published:` is that of a scene, whose first line is `open` or `desk`: `CONTRIBUTING.md` has its rows.
 //! All others are scripts. A backslash at the end of a script takes its last LF away. `{N*TEXT}` in it stands for N times TEXT, which may have
-//! line ends and has no brace; together they are at most 4,000,000 bytes. `{xHH}` stands for the byte of this hexadecimal number. Every
-//! other brace stands for itself.
+//! line ends and has no brace; together they are at most 4,000,000 bytes. `{xHH}` stands for the byte of this hexadecimal number.
+//! `{7 find service:printer DEFAULT}` stands for the hexadecimal digits of the message that this command of `slptool` sends, with this
+//! number. Every other brace stands for itself.
 #![tactic(auto)]
 
 ghost use Rattle.std.specs.Prelude.{◌≡◌, ◌<◌, ◌≤◌};

@@ -8,9 +8,9 @@ use std::io::{self, Write};
 fn script_of(alloc: Global, lines: &str) -> Result<Vec<u8>, AllocError> {
     let mut script = Vec::new(alloc);
     match lines.strip_suffix('\\') {
-        Some(unended) => push_expanded(&mut script, unended)?,
+        Some(unended) => push_expanded(alloc, &mut script, unended)?,
         None => {
-            push_expanded(&mut script, lines)?;
+            push_expanded(alloc, &mut script, lines)?;
             script.push(b'\n')?;
         }
     }

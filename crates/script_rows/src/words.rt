@@ -30,14 +30,23 @@ pub(crate) fn cut(line: &str) -> (&str, &str) {
     line.split_once(' ').unwrap_or((line, ""))
 }
 
+/// The message with this number that the words of a command of `slptool` ask for, if they are one.
+pub(crate) fn request_in(
+    alloc: Global,
+    xid: u16,
+    text: &str,
+) -> Result<Option<Vec<u8>>, AllocError> {
+    let mut words = Vec::new(alloc);
+    for word in text.split_whitespace() {
+        words.push(String::from_str(alloc, word)?)?;
+    }
+    Ok(request_of(alloc, xid, words.as_slice()))
+}
+
 /// The message that a text says: the words of a command of `slptool`, or hexadecimal digits, which are one word.
 pub(crate) fn message_of(alloc: Global, text: &str) -> Result<Vec<u8>, AllocError> {
     let told = if text.contains(' ') {
-        let mut words = Vec::new(alloc);
-        for word in text.split_whitespace() {
-            words.push(String::from_str(alloc, word)?)?;
-        }
-        request_of(alloc, 1, words.as_slice())
+        request_in(alloc, 1, text)?
     } else {
         decode(alloc, text).ok()
     };

@@ -9,6 +9,8 @@ use Rattle.srv_template.specs.declared.fault.ParseFault.TheVariants as template_
 use Rattle.site_reports.specs.Reports.{config_fault_text, rule_fault_text, template_fault_text}
 use Rattle.site_opening.specs.declared.fault.StartFault.{StartFault}
 use Rattle.site_opening.specs.declared.fault.StartFault.TheVariants.{Failed, Config, Rules, Template, NoMemory}
+use Rattle.site_opening.specs.declared.fault.ReadFault.{ReadFault}
+use Rattle.site_opening.specs.declared.fault.ReadFault.TheVariants as read
 use Rattle.site_opening.specs.declared.files.FileFault.{FileFault}
 use Rattle.site_opening.specs.declared.files.FileFault.TheVariants as file_fault
 
@@ -45,6 +47,18 @@ rules_start (rule_fault.Shape n) = Rules (rule_fault.Shape n)
 rules_start rule_fault.TwiceName = Rules rule_fault.TwiceName
 rules_start rule_fault.NoMemory = NoMemory
 rules_start rule_fault.Toml = Rules rule_fault.Toml
+
+-- why it does not start where the rules of a file are not read
+abbrev pub read_start : ReadFault → StartFault
+read_start read.Failed = Failed
+read_start (read.Refused e) = rules_start e
+
+-- why the rules of a file are not read where the file fails
+abbrev pub file_read : FileFault → ReadFault
+file_read file_fault.Missing = read.Failed
+file_read file_fault.Unread = read.Failed
+file_read file_fault.NotText = read.Failed
+file_read file_fault.NoMemory = read.Refused rule_fault.NoMemory
 
 abbrev pub template_start : ParseFault → StartFault
 template_start (template_fault.Line n) = Template (template_fault.Line n)

@@ -85,6 +85,41 @@ impl From<FileFault> for StartFault {
     }
 }
 
+/// Why the rules in a file are not read.
+#[derive(Clone, Copy, Debug, PartialEq, Eq)]
+pub enum ReadFault {
+    /// The file failed, or is no text.
+    Failed,
+    /// They are refused, or memory ran out.
+    Refused(RuleFault),
+}
+
+impl From<FileFault> for ReadFault {
+    ghost use Rattle.site_opening.specs.Statuses.{file_read};
+
+    ghost from_gives = { λ fault e. e ≡ file_read fault };
+
+    fn from(e: FileFault) -> ReadFault {
+        match e {
+            FileFault::NoMemory => ReadFault::Refused(RuleFault::NoMemory),
+            FileFault::Missing | FileFault::Unread | FileFault::NotText => ReadFault::Failed,
+        }
+    }
+}
+
+impl From<ReadFault> for StartFault {
+    ghost use Rattle.site_opening.specs.Statuses.{read_start};
+
+    ghost from_gives = { λ fault e. e ≡ read_start fault };
+
+    fn from(e: ReadFault) -> StartFault {
+        match e {
+            ReadFault::Failed => StartFault::Failed,
+            ReadFault::Refused(fault) => StartFault::from(fault),
+        }
+    }
+}
+
 impl From<ConfigFault> for StartFault {
     ghost use Rattle.site_opening.specs.Statuses.{config_start};
 

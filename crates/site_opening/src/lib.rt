@@ -7,7 +7,7 @@ pub mod laws;
 mod opening;
 mod words;
 
-pub use fault::StartFault;
+pub use fault::{ReadFault, StartFault};
 pub use files::{FileFault, read};
 pub use opening::{SiteFiles, open_site, rules_at};
 pub use words::{call_words, config_path};

@@ -2,9 +2,10 @@
 ghost use Rattle.std.specs.Prelude.{◌≡◌, length, is_some, Some, IfOk};
 ghost use Rattle.site_config.specs.Configurations.{IsWithin};
 ghost use Rattle.slp_text.specs.Reading.{read_map};
-ghost use Rattle.site_opening.specs.Openings.{config_start_of, named_start_of, rules_start_of, start_of, templates_and, templates_start_of, AreNamed, AreOf, IsReadAs};
+ghost use Rattle.site_opening.specs.Openings.{config_start_of, named_start_of, rules_start_of, start_of, started, templates_and, templates_start_of, AreNamed, AreOf, IsReadAs};
+ghost use Rattle.site_opening.specs.Statuses.{read_start};
 
-use crate::fault::StartFault;
+use crate::fault::{ReadFault, StartFault};
 use crate::files;
 use access_rules::Rules;
 use rule_files::rules_of_text;
@@ -35,18 +36,18 @@ fn config_at<R: Files>(rt: &R, alloc: Global, path: &str) -> Result<Config, Star
 }
 
 // The rules that a text reads as.
-fn rules_in(alloc: Global, text: &str) -> Result<Rules, StartFault>
-    ensures { IsReadAs (λ t rules. t ≡ Some text.now) rules_start_of result }
+fn rules_in(alloc: Global, text: &str) -> Result<Rules, ReadFault>
+    ensures { IsReadAs (λ t rules. t ≡ Some text.now) rules_start_of (started read_start result) }
 {
     match rules_of_text(alloc, text) {
         Ok(rules) => Ok(rules),
-        Err(fault) => Err(StartFault::from(fault)),
+        Err(fault) => Err(ReadFault::Refused(fault)),
     }
 }
 
 /// The rules in a file; none where no file is named.
-pub fn rules_at<R: Files>(rt: &R, alloc: Global, path: Option<&Text>) -> Result<Rules, StartFault>
-    ensures { IsReadAs (λ text rules. is_some text ≡ is_some path.entry) rules_start_of result }
+pub fn rules_at<R: Files>(rt: &R, alloc: Global, path: Option<&Text>) -> Result<Rules, ReadFault>
+    ensures { IsReadAs (λ text rules. is_some text ≡ is_some path.entry) rules_start_of (started read_start result) }
 {
     let Some(path) = path else {
         return Ok(Rules::new(Vec::new(alloc), Vec::new(alloc)));

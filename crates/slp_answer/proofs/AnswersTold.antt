@@ -50,12 +50,13 @@ use Rattle.directory_state.specs.State.{State}
 use Rattle.directory_state.specs.declared.search.Room.{Room}
 use Rattle.directory_state.proofs.Histories.{legal_next}
 use Rattle.slp_answer.specs.ServiceReplies.{service_reply}
-use Rattle.slp_answer.specs.Answers.{Tells, TellsOf, Replies, Acknowledges, IsQuestionAnswered, Steps, outcome_of_finding, query_fault_outcome}
+use Rattle.slp_answer.specs.Answers.{Replies, Acknowledges, IsQuestionAnswered, Steps}
+use Rattle.slp_replies.specs.Tellings.{Tells, TellsOf, outcome_of_finding, query_fault_outcome}
 use Rattle.slp_answer.proofs.Sizes.{front-cut, front-empty}
-use Rattle.slp_answer.specs.declared.answer.Answer.{Answer}
-use Rattle.slp_answer.specs.declared.answer.Sent.{Sent}
-use Rattle.slp_answer.specs.declared.replies.Reply.{Reply}
-use Rattle.slp_answer.specs.declared.answer.Sent.TheVariants as sent
+use Rattle.slp_replies.specs.declared.answer.Answer.{Answer}
+use Rattle.slp_replies.specs.declared.answer.Sent.{Sent}
+use Rattle.slp_replies.specs.declared.replies.Reply.{Reply}
+use Rattle.slp_replies.specs.declared.answer.Sent.TheVariants as sent
 
 pub silence-tells : (rs : SiteRules) (asker : ℕ) (heading : Option Heading) (reply line : List ℕ) → reply ≡ [] → line ≡ [] → Tells rs asker heading silence sent.Silence reply line
 silence-tells rs asker None reply line r l = record { replied = r; lined = l; sent = refl }

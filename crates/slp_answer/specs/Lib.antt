@@ -1,4 +1,2 @@
 pub mod Answers
-pub mod Audits
 pub mod ServiceReplies
-pub mod TextLists

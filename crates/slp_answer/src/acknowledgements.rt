@@ -10,14 +10,14 @@ ghost use Rattle.directory_questions.specs.Outcomes.{acknowledgement_of};
 ghost use Rattle.directory_questions.specs.Requests.{function_in, is_change_function};
 ghost use Rattle.directory_questions.specs.Verdicts.{IsLegal, IsVerdict, change_in};
 ghost use Rattle.directory_state.specs.Folds.{Fold, HandsOut};
-ghost use Rattle.slp_answer.specs.Answers.{Acknowledges, TellsOf};
+ghost use Rattle.slp_answer.specs.Answers.{Acknowledges};
+ghost use Rattle.slp_replies.specs.Tellings.{TellsOf};
 
-use crate::answer::{Answer, Sent};
-use crate::replies::Reply;
 use directory_judge::Change;
 use directory_questions::{Heard, asked_change};
 use directory_state::Directory;
 use registry_core::Registry;
+use slp_replies::{Answer, Reply, Sent};
 use slp_text::NoMemory;
 use slp_wire::ChangeView;
 use std::alloc::Global;

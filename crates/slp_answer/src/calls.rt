@@ -8,13 +8,13 @@ ghost use Rattle.directory_state.specs.Folds.{Fold};
 ghost use Rattle.slp_answer.specs.Answers.{Acknowledges, Replies, Steps};
 
 use crate::acknowledgements::acknowledge_heard;
-use crate::answer::{Answer, Sent, told_whole};
 use crate::questions::answer_heard;
 use addresses::Addr;
 use directory_judge::Change;
 use directory_questions::{Call, Heard};
 use directory_state::Directory;
 use registry_core::Registry;
+use slp_replies::{Answer, Sent, told_whole};
 use slp_text::NoMemory;
 use std::alloc::Global;
 

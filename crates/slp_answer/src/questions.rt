@@ -13,12 +13,11 @@ ghost use Rattle.directory_questions.specs.declared.question.Question.TheVariant
 ghost use Rattle.directory_state.specs.Fronts.{items_in};
 ghost use Rattle.directory_state.specs.Folds.{Fold};
 ghost use Rattle.slp_answer.specs.ServiceReplies.{service_reply};
-ghost use Rattle.slp_answer.specs.Answers.{IsQuestionAnswered, Replies, TellsOf};
-ghost use Rattle.slp_answer.specs.declared.answer.Sent.TheVariants as sent;
+ghost use Rattle.slp_answer.specs.Answers.{IsQuestionAnswered, Replies};
+ghost use Rattle.slp_replies.specs.Tellings.{TellsOf};
+ghost use Rattle.slp_replies.specs.declared.answer.Sent.TheVariants as sent;
 
 use crate::adverts::answer_agents;
-use crate::answer::{Answer, Sent};
-use crate::replies::{Reply, is_unsent};
 use crate::service_replies::{put_found, room_in};
 use crate::text_replies::{answer_attributes, answer_types};
 use directory_judge::{Decider, Finding};
@@ -26,6 +25,7 @@ use directory_questions::{Heard, Question, ServiceQuery, asked};
 use directory_state::{Directory, FoundItems};
 use registry_core::Registry;
 use service_url::ServiceType;
+use slp_replies::{Answer, Reply, Sent, is_unsent};
 use slp_text::NoMemory;
 use slp_wire::code;
 use std::alloc::Global;
@@ -37,42 +37,44 @@ fn is_nothing(found: &FoundItems<'_>) -> bool
     found.latest.is_empty() && !found.is_cut
 }
 
-impl Reply<'_> {
-    // Writes the services that were found, where a reply is sent.
-    fn put_services(&self, found: &FoundItems<'_>, bytes: &mut Vec<u8>) -> Result<Sent, NoMemory>
-        requires short { length (plain_bytes (service_reply (heading_in self.now.heard.now.header) found.now.is_cut (items_in found.now))) ≤ 65535 }
-        requires no_reply { bytes.old.items ≡ [] }
-        ensures bytes { let is_empty = length (items_in found.now) == 0 && not found.now.is_cut in
-            IfOk result (λ _. bytes.new.items ≡ sent_of (heading_in self.now.heard.now.header) 0 is_empty (plain_bytes (service_reply (heading_in self.now.heard.now.header) found.now.is_cut (items_in found.now)))) }
-        ensures sent { let is_empty = length (items_in found.now) == 0 && not found.now.is_cut in
-            IfOk result (λ what. what ≡ (if is_to_many (heading_in self.now.heard.now.header) && (not (0 == 0) || is_empty) then sent.Silence else sent.Bytes 0)) }
-    {
-        if is_unsent(self.heard, code::OK, is_nothing(found)) {
-            return Ok(Sent::Silence);
-        }
-        put_found(&self.heard.header, found, bytes)?;
-        Ok(Sent::Bytes(code::OK))
+// Writes the services that were found, where a reply is sent.
+fn put_services(
+    reply: &Reply<'_>,
+    found: &FoundItems<'_>,
+    bytes: &mut Vec<u8>,
+) -> Result<Sent, NoMemory>
+    requires short { length (plain_bytes (service_reply (heading_in reply.now.heard.now.header) found.now.is_cut (items_in found.now))) ≤ 65535 }
+    requires no_reply { bytes.old.items ≡ [] }
+    ensures bytes { let is_empty = length (items_in found.now) == 0 && not found.now.is_cut in
+        IfOk result (λ _. bytes.new.items ≡ sent_of (heading_in reply.now.heard.now.header) 0 is_empty (plain_bytes (service_reply (heading_in reply.now.heard.now.header) found.now.is_cut (items_in found.now)))) }
+    ensures sent { let is_empty = length (items_in found.now) == 0 && not found.now.is_cut in
+        IfOk result (λ what. what ≡ (if is_to_many (heading_in reply.now.heard.now.header) && (not (0 == 0) || is_empty) then sent.Silence else sent.Bytes 0)) }
+{
+    if is_unsent(reply.heard, code::OK, is_nothing(found)) {
+        return Ok(Sent::Silence);
     }
+    put_found(&reply.heard.header, found, bytes)?;
+    Ok(Sent::Bytes(code::OK))
+}
 
-    // Sends the services that were found.
-    fn services(
-        &self,
-        kind: &ServiceType,
-        found: &FoundItems<'_>,
-        answer: &mut Answer,
-    ) -> Result<Sent, NoMemory>
-        requires short { length (plain_bytes (service_reply (heading_in self.now.heard.now.header) found.now.is_cut (items_in found.now))) ≤ 65535 }
-        requires no_reply { answer.old.bytes.items ≡ [] }
-        requires no_line { answer.old.audit.items ≡ [] }
-        ensures { let head = heading_in self.now.heard.now.header in
-            let whole = plain_bytes (service_reply head found.now.is_cut (items_in found.now)) in
-            let is_empty = length (items_in found.now) == 0 && not found.now.is_cut in
-            IfOk result (λ what. TellsOf self.now (outcome (sent_of head 0 is_empty whole) 0 (by_step decider.Nobody (Some kind.now))) what answer.new.bytes.items answer.new.audit.items) }
-    {
-        let sent = self.put_services(found, &mut answer.bytes)?;
-        self.tell(&Finding::by_nobody(Some(kind)), &mut answer.audit)?;
-        Ok(sent)
-    }
+// Sends the services that were found.
+fn services(
+    reply: &Reply<'_>,
+    kind: &ServiceType,
+    found: &FoundItems<'_>,
+    answer: &mut Answer,
+) -> Result<Sent, NoMemory>
+    requires short { length (plain_bytes (service_reply (heading_in reply.now.heard.now.header) found.now.is_cut (items_in found.now))) ≤ 65535 }
+    requires no_reply { answer.old.bytes.items ≡ [] }
+    requires no_line { answer.old.audit.items ≡ [] }
+    ensures { let head = heading_in reply.now.heard.now.header in
+        let whole = plain_bytes (service_reply head found.now.is_cut (items_in found.now)) in
+        let is_empty = length (items_in found.now) == 0 && not found.now.is_cut in
+        IfOk result (λ what. TellsOf reply.now (outcome (sent_of head 0 is_empty whole) 0 (by_step decider.Nobody (Some kind.now))) what answer.new.bytes.items answer.new.audit.items) }
+{
+    let sent = put_services(reply, found, &mut answer.bytes)?;
+    reply.tell(&Finding::by_nobody(Some(kind)), &mut answer.audit)?;
+    Ok(sent)
 }
 
 // Answers a question about services: with as many of those that are found as fit, or with the code that
@@ -93,7 +95,7 @@ fn answer_services<R: Registry>(
     let room = room_in(&reply.heard.header, call.limit);
     let kind = &query.kind;
     match directory.find(alloc, call.moment, call.asker, query, room) {
-        Ok(found) => reply.services(kind, &found, answer),
+        Ok(found) => services(reply, kind, &found, answer),
         Err(fault) => reply.query_fault(fault, Some(kind), answer),
     }
 }

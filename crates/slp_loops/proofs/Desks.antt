@@ -8,9 +8,9 @@ use Rattle.directory_questions.specs.Calls.{Opening, Call}
 use Rattle.directory_questions.specs.Requests.{IsUnheard}
 use Rattle.directory_questions.specs.declared.heard.Heard.{Heard}
 use Rattle.slp_answer.specs.Answers.{Replies}
-use Rattle.slp_answer.specs.declared.answer.Answer.{Answer}
-use Rattle.slp_answer.specs.declared.answer.Sent.{Sent}
-use Rattle.slp_answer.proofs.RefusalLines.{unheard_is}
+use Rattle.slp_replies.specs.declared.answer.Answer.{Answer}
+use Rattle.slp_replies.specs.declared.answer.Sent.{Sent}
+use Rattle.slp_replies.proofs.RefusalLines.{unheard_is}
 use Rattle.history_log.specs.Pasts.{IsPast}
 use Rattle.published_view.specs.Traces.{last_at, IsAsked}
 use Rattle.published_view.specs.declared.fault.ViewFault.{ViewFault}

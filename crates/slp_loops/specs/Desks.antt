@@ -11,9 +11,10 @@ use Rattle.directory_questions.specs.Calls.{Opening, Call}
 use Rattle.directory_questions.specs.Outcomes.{refusal_outcome}
 use Rattle.directory_questions.specs.Verdicts.{IsLegal}
 use Rattle.directory_questions.specs.declared.heard.Heard.{Heard}
-use Rattle.slp_answer.specs.Answers.{Replies, line_of}
-use Rattle.slp_answer.specs.declared.answer.Answer.{Answer}
-use Rattle.slp_answer.specs.declared.answer.Sent.{Sent}
+use Rattle.slp_answer.specs.Answers.{Replies}
+use Rattle.slp_replies.specs.Tellings.{line_of}
+use Rattle.slp_replies.specs.declared.answer.Answer.{Answer}
+use Rattle.slp_replies.specs.declared.answer.Sent.{Sent}
 use Rattle.history_log.specs.Pasts.{IsPast}
 use Rattle.directory_runs.specs.Changes.{IsChanged}
 use Rattle.published_view.specs.declared.fault.ViewFault.{ViewFault}

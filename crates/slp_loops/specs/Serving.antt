@@ -3,8 +3,8 @@ use Rattle.std.specs.Prelude.{◌≡◌, ℕ, List, [], ◌∷◌, ◌++◌, Res
 use Rattle.slp_headers.specs.Headers.{heading_of}
 use Rattle.slp_text.specs.declared.faults.NoMemory.{NoMemory}
 use Rattle.directory_questions.specs.Outcomes.{refusal_outcome}
-use Rattle.slp_answer.specs.declared.answer.Answer.{Answer}
-use Rattle.slp_answer.specs.declared.answer.Sent.{Sent}
+use Rattle.slp_replies.specs.declared.answer.Answer.{Answer}
+use Rattle.slp_replies.specs.declared.answer.Sent.{Sent}
 
 -- the reply to a message that found no memory
 abbrev pub refused_reply : List ℕ → List ℕ

@@ -8,9 +8,9 @@ use Rattle.directory_questions.specs.Calls.{Call, call_in}
 use Rattle.directory_questions.specs.declared.call.Call as code
 use Rattle.directory_questions.specs.declared.heard.Heard.{Heard}
 use Rattle.slp_answer.specs.Answers.{Replies}
-use Rattle.slp_answer.specs.declared.answer.Answer.{Answer}
-use Rattle.slp_answer.specs.declared.answer.Sent.{Sent}
-use Rattle.slp_answer.specs.declared.answer.Sent.TheVariants.{Silence}
+use Rattle.slp_replies.specs.declared.answer.Answer.{Answer}
+use Rattle.slp_replies.specs.declared.answer.Sent.{Sent}
+use Rattle.slp_replies.specs.declared.answer.Sent.TheVariants.{Silence}
 use Rattle.slp_answer.proofs.AnswersTold.{unheard-replies}
 use Rattle.published_view.specs.declared.copies.PublishedCopy.{PublishedCopy}
 use Rattle.published_view.specs.Rules.{call_heard, IsAfter, IsQuestion, SeesAll, history_of}

@@ -3,12 +3,13 @@ use Rattle.access_rules.specs.Deciding.{SiteRules}
 use Rattle.slp_text.specs.Reading.{read_map, read_then}
 use Rattle.srv_template.specs.Conformity.{SiteTemplates}
 use Rattle.site_opening.specs.Openings.{named_start_of, rules_start_of, templates_start_of, AreOf}
+use Rattle.site_opening.specs.Statuses.{read_start}
 use Rattle.site_opening.proofs.Readings.{refused_as}
 use Rattle.site_opening.proofs.opening.named.Goals as goal
 
 pub returns-in_err-rules : goal.returns-in_err-rules
 returns-in_err-rules g c =
-    refused_as (λ text rules. is_some text ≡ is_some c.as_ref.result) rules_start_of (λ texts named. AreOf c.args.config.now texts) named_start_of c.in_err-rules.field-0.0 c.from_residual.result c.from_residual.ensures
+    refused_as (λ text rules. is_some text ≡ is_some c.as_ref.result) rules_start_of (λ texts named. AreOf c.args.config.now texts) named_start_of (read_start c.in_err-rules.field-0.0) c.from_residual.result c.from_residual.ensures
     (λ text h. ((text, []), ap (read_then (λ (rules : SiteRules). read_map (λ (templates : SiteTemplates). (rules, templates)) (templates_start_of []))) h)) c.in_err-rules.ensures
 
 pub returns-in_err-templates : goal.returns-in_err-templates

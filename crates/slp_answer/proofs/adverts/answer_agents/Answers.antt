@@ -9,7 +9,7 @@ use Rattle.directory_judge.specs.Sites.{Site}
 use Rattle.directory_judge.specs.declared.reason.Decider.TheVariants as decider
 use Rattle.directory_questions.specs.Answers.{advert_code, advert_outcome, agents_outcome, is_agent_for}
 use Rattle.directory_questions.specs.Calls.{call_in}
-use Rattle.slp_answer.specs.Answers.{Tells}
+use Rattle.slp_replies.specs.Tellings.{Tells}
 use Rattle.slp_answer.proofs.AnswersTold.{agent-for, agents-answer}
 use Rattle.slp_answer.proofs.adverts.answer_agents.Goals as goal
 use Rattle.slp_answer.proofs.adverts.answer_agents.Goals.{else-not-is_empty-via-then-not-is_empty+else-not-supports, else-not-is_empty-via-else-not-is_empty}

@@ -3,9 +3,9 @@ use Rattle.directory_judge.specs.declared.change.Change.{Change}
 use Rattle.directory_questions.specs.Calls.{call_in}
 use Rattle.directory_questions.specs.declared.call.Call.{Call}
 use Rattle.slp_answer.specs.Answers.{Acknowledges}
-use Rattle.slp_answer.specs.declared.answer.Answer.{Answer}
-use Rattle.slp_answer.specs.declared.answer.Sent.{Sent}
-use Rattle.slp_answer.specs.declared.answer.Sent.TheVariants.{Silence}
+use Rattle.slp_replies.specs.declared.answer.Answer.{Answer}
+use Rattle.slp_replies.specs.declared.answer.Sent.{Sent}
+use Rattle.slp_replies.specs.declared.answer.Sent.TheVariants.{Silence}
 use Rattle.slp_answer.proofs.AnswersTold.{changed-steps, replied-steps, unheard-replies, whole-told}
 use Rattle.slp_answer.proofs.calls.step.Goals as goal
 

@@ -4,7 +4,7 @@ use Rattle.std.proofs.lemmas.Result.{IfOk-weaker}
 use Rattle.directory_questions.specs.Calls.{Call}
 use Rattle.directory_state.specs.State.{State}
 use Rattle.slp_answer.specs.Answers.{Steps}
-use Rattle.slp_answer.specs.declared.answer.Sent.{Sent}
+use Rattle.slp_replies.specs.declared.answer.Sent.{Sent}
 use Rattle.replay_program.specs.Sessions.{IsAgent, Takes}
 use Rattle.replay_program.specs.Worlds.{World, call_of, opening_of, own_at}
 use Rattle.replay_program.specs.declared.agent.Agent.{Agent}

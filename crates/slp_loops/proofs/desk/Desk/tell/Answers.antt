@@ -2,7 +2,7 @@ use Rattle.std.proofs.Common.{None, Result, Err, Option, refl, sym, ap, subst, â
 use Rattle.std.specs.Borrow.{Bor}
 use Rattle.std.proofs.lemmas.List.{append-nil}
 use Rattle.directory_questions.specs.declared.heard.Heard.{Heard}
-use Rattle.slp_answer.specs.declared.answer.Sent.{Sent}
+use Rattle.slp_replies.specs.declared.answer.Sent.{Sent}
 use Rattle.published_view.specs.declared.fault.ViewFault.{ViewFault}
 use Rattle.slp_loops.specs.Desks.{heard_lent, line_told}
 use Rattle.slp_loops.specs.Logging.{Lined}

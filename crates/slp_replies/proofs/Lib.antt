@@ -1,0 +1,6 @@
+pub mod AdvertSizes
+pub mod AuditLines
+pub mod MappedTexts
+pub mod RefusalLines
+pub mod TextFronts
+pub mod TextHeads

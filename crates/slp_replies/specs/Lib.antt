@@ -1,0 +1,3 @@
+pub mod Audits
+pub mod Tellings
+pub mod TextLists
