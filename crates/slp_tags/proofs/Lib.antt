@@ -1,3 +1,4 @@
+pub mod Falls
 pub mod Matches
 pub mod Searches
 pub mod SignCodes

@@ -3,7 +3,7 @@ use Rattle.std.proofs.lemmas.Result.{err_from_is_err_and}
 use Rattle.slp_tags.specs.Searches.{has_at, has_front, IsLongestEnd, front, AreFalls}
 use Rattle.slp_tags.specs.SignCodes.{signs_in}
 use Rattle.slp_tags.proofs.Matches.{rest_all}
-use Rattle.slp_tags.proofs.Searches.{piece-at, so_far-star, so_far-character}
+use Rattle.slp_tags.proofs.Falls.{piece-at, so_far-star, so_far-character}
 use Rattle.slp_tags.proofs.SignCodes.{length-codes, cut-codes, own-code, small-code, star-there}
 use Rattle.slp_tags.proofs.signs.falls_of.Goals as goal
 use Rattle.slp_tags.proofs.signs.falls_of.Goals.{then-c+in_ok-push-2, else-c+in_ok-push-3}

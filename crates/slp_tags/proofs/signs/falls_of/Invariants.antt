@@ -1,5 +1,5 @@
 use Rattle.slp_tags.specs.SignCodes.{signs_in}
-use Rattle.slp_tags.proofs.Searches.{AreSoFar}
+use Rattle.slp_tags.proofs.Falls.{AreSoFar}
 use Rattle.slp_tags.proofs.signs.falls_of.Given as goal
 
 -- the falls so far, and the piece that begins last

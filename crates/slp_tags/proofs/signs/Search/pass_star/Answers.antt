@@ -3,7 +3,8 @@ use Rattle.std.specs.List.{list_any}
 use Rattle.slp_tags.specs.Tags.{ends_of, is_match}
 use Rattle.slp_tags.specs.Searches.{finds, star_at, ArePieceFalls}
 use Rattle.slp_tags.specs.SignCodes.{signs_in, AreCodes}
-use Rattle.slp_tags.proofs.Searches.{later-falls, passed-star}
+use Rattle.slp_tags.proofs.Falls.{later-falls}
+use Rattle.slp_tags.proofs.Searches.{passed-star}
 use Rattle.slp_tags.proofs.SignCodes.{drop-codes, fewer-signs, star-inside}
 use Rattle.slp_tags.proofs.signs.Search.pass_star.Goals as goal
 

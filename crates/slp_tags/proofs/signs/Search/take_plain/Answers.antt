@@ -1,5 +1,5 @@
 use Rattle.slp_tags.specs.SignCodes.{signs_in}
-use Rattle.slp_tags.proofs.Searches.{first-falls}
+use Rattle.slp_tags.proofs.Falls.{first-falls}
 use Rattle.slp_tags.proofs.signs.Search.take_plain.Goals as goal
 
 pub sweep-count-requires-clause-falls : goal.sweep-count-requires-clause-falls

@@ -1,7 +1,8 @@
 use Rattle.std.proofs.Common.{◌≡◌, ◌∷◌, false, sym, subst, ap, ◌∙◌, arith}
 use Rattle.slp_tags.specs.Searches.{finds, star_at}
 use Rattle.slp_tags.specs.SignCodes.{signs_in}
-use Rattle.slp_tags.proofs.Searches.{first-falls, front-next, came-longest, turned-nothing, turned-floats, turned-fits, turned-fails}
+use Rattle.slp_tags.proofs.Falls.{first-falls}
+use Rattle.slp_tags.proofs.Searches.{front-next, came-longest, turned-nothing, turned-floats, turned-fits, turned-fails}
 use Rattle.slp_tags.proofs.SignCodes.{came-within, no-signs}
 use Rattle.slp_tags.proofs.signs.Search.turn.Goals as goal
 
