@@ -4,8 +4,8 @@ use Rattle.rule_files.specs.declared.fault.RuleFault.TheVariants as rule_fault
 use Rattle.site_reports.specs.Reports.{rule_fault_text, ruled_text}
 use Rattle.published_view.specs.declared.fault.ViewFault.{ViewFault}
 use Rattle.published_view.specs.declared.fault.ViewFault.TheVariants as view_fault
-use Rattle.slp_loops.specs.declared.fault.LoopFault.{LoopFault}
-use Rattle.slp_loops.specs.declared.fault.LoopFault.TheVariants as loop_fault
+use Rattle.slp_sockets.specs.declared.fault.LoopFault.{LoopFault}
+use Rattle.slp_sockets.specs.declared.fault.LoopFault.TheVariants as loop_fault
 use Rattle.slp_text.specs.Ascii.{line_feed}
 use Rattle.site_opening.specs.declared.fault.ReadFault.{ReadFault}
 use Rattle.site_opening.specs.declared.fault.ReadFault.TheVariants as read

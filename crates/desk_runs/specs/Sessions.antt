@@ -12,7 +12,7 @@ use Rattle.directory_runs.specs.Turns.{Telling, Turn}
 use Rattle.published_view.specs.Traces.{Trace, last_at}
 use Rattle.slp_loops.specs.Desks.{DeskSteps, Standing}
 use Rattle.slp_loops.specs.Logging.{Logs}
-use Rattle.slp_loops.specs.Serving.{Ticks}
+use Rattle.slp_sockets.specs.Serving.{Ticks}
 
 -- a call of `serve`
 pub record DeskStep (M L : Type 0) : Type 0 where

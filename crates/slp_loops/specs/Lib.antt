@@ -1,14 +1,2 @@
 pub mod Desks
-pub mod Exchanging
-pub mod Holding
-pub mod Linking
 pub mod Logging
-pub mod Ports
-pub mod Readiness
-pub mod Reading
-pub mod Serving
-pub mod Sitting
-pub mod Sockets
-pub mod Streaming
-pub mod Turning
-pub mod Writing

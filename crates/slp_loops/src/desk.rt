@@ -9,12 +9,11 @@ ghost use Rattle.published_view.specs.Traces.{last_at, IsAsked};
 ghost use Rattle.slp_loops.specs.Desks.{heard_lent, line_told, IsOutcomeOf, IsServedChange};
 ghost use Rattle.slp_loops.specs.Logging.{Lined};
 
-use crate::clock::Moments;
 use crate::log::{Lines, Log, SharedOutput};
-use crate::serve::Serve;
 use addresses::Addr;
 use published_view::{DirectoryWriter, Gate, LoopView, Naming, Note, ViewFault};
 use slp_answer::{Answer, Call, Heard, Sent, refused_line_of};
+use slp_sockets::{Moments, Serve};
 use slp_text::NoMemory;
 use std::alloc::Global;
 use std::io::Write;

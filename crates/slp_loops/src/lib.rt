@@ -1,26 +1,12 @@
-//! The sockets of an agent: what a stream and a datagram bring is served, and what is answered goes back.
+//! What serves the messages of a loop: the desk of an address, and the lines that it owes. `slp_sockets` has the loop.
 #![tactic(auto)]
 
-mod agent_loop;
-mod clock;
-mod connection;
-mod datagrams;
 mod desk;
-mod exchange;
-mod fault;
 mod log;
-mod peer;
-mod port;
-mod serve;
-mod streams;
 
-pub use agent_loop::AgentLoop;
-pub use clock::{Moments, SteadyClock, WallClock};
-pub use connection::{Connection, Next};
-pub use datagrams::Datagrams;
 pub use desk::{Desk, Shared};
-pub use exchange::Rest;
-pub use fault::LoopFault;
 pub use log::{Lines, Log, SharedOutput};
-pub use port::Port;
-pub use serve::{Serve, Settled, settle};
+pub use slp_sockets::{
+    AgentLoop, Connection, Datagrams, LoopFault, Moments, Next, Port, Rest, Serve, Settled,
+    SteadyClock, WallClock, settle,
+};

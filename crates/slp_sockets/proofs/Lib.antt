@@ -1,0 +1,8 @@
+pub mod Advancing
+pub mod Cutting
+pub mod Exchanges
+pub mod Ports
+pub mod Reaching
+pub mod Served
+pub mod Sitting
+pub mod Streaming

@@ -1,0 +1,133 @@
+-- What happens at a port, one part after the other.
+use Rattle.std.proofs.Common.{◌≡◌, ◌≤◌, ℕ, ◌+◌, List, [], ◌∷◌, ◌++◌, map, length, Option, Some, None, Result, Ok, Err, refl, sym, ap, ◌∙◌, subst, arith, inl, inr}
+use Rattle.std.proofs.lemmas.List.{append-nil, append_assoc}
+use Rattle.std.proofs.lemmas.Option.{none-some}
+use Rattle.std.specs.declared.io.Error.{Error}
+use Rattle.slp_sockets.specs.Exchanging.{Stopped}
+use Rattle.slp_sockets.specs.Ports.{Datagram, Happening, Came, Paused, Left, Ports, Runs, ServedFor, AreAnswered, IsRound, Serves, Says, GoOnTo, NoPause, IsEnough, IsThrough, IsPausedBy, asker_of, owed, pausing, in_all, pause_after, effort}
+use Rattle.slp_sockets.specs.Serving.{Steps, Settles}
+use Rattle.slp_sockets.specs.declared.exchange.Rest.{Rest}
+use Rattle.slp_sockets.specs.declared.exchange.Rest.TheVariants.{Nothing, More, Later}
+use Rattle.slp_sockets.specs.declared.fault.LoopFault.{LoopFault}
+
+-- one part and then the next
+pub runs_on : {P : Type 0} (may : Ports P) (a : P) (hs gs : List Happening) (b c : P) → Runs may a hs b → Runs may b gs c → Runs may a (hs ++ gs) c
+runs_on may a [] gs b c first next = subst (λ p. Runs may p gs c) first next
+runs_on may a (h ∷ hs) gs b c (between, one, rest) next = (between, one, runs_on may between hs gs b c rest next)
+
+-- one alone
+pub runs_one : {P : Type 0} (may : Ports P) (a : P) (h : Happening) (b : P) → may a h b → Runs may a (h ∷ []) b
+runs_one may a h b one = (b, one, refl)
+
+module _ {S : Type 0} (steps : Steps S) where
+  pub answered_on : (a : S) (ds es : List Datagram) (first more : List Datagram) (b c : S) → AreAnswered steps a ds first b → AreAnswered steps b es more c → AreAnswered steps a (ds ++ es) (first ++ more) c
+  answered_on a [] es first more b c (none, same) next = subst (λ xs. AreAnswered steps a es (xs ++ more) c) (sym none) (subst (λ s. AreAnswered steps s es more c) same next)
+  answered_on a (d ∷ ds) es first more b c (back, between, later, one, rest, is) next = (
+    back,
+    between,
+    later ++ more,
+    one,
+    answered_on between ds es later more b c rest next,
+    ap (λ xs. xs ++ more) is ∙ append_assoc (owed d.peer back) later more,
+  )
+
+  -- one alone
+  pub answered_one : (a : S) (d : Datagram) (back : List ℕ) (b : S) → ServedFor steps (asker_of d.peer) a d.bytes back b → AreAnswered steps a (d ∷ []) (owed d.peer back) b
+  answered_one a d back b one = (back, b, [], one, (refl, refl), sym (append-nil (owed d.peer back)))
+
+module _ {S : Type 0} (steps : Steps S) (settles : Settles S) where
+  -- one round more
+  pub serves_more : (a : S) (rounds : List (List Happening)) (hs : List Happening) (b c : S) → Serves steps settles a rounds b → IsRound steps settles b hs c → Serves steps settles a (rounds ++ hs ∷ []) c
+  serves_more a [] hs b c same one = (c, subst (λ s. IsRound steps settles s hs c) same one, refl)
+  serves_more a (gs ∷ rounds) hs b c (between, first, rest) one = (between, first, serves_more between rounds hs b c rest one)
+
+pub in_more : (rounds : List (List Happening)) (hs : List Happening) → in_all (rounds ++ hs ∷ []) ≡ in_all rounds ++ hs
+in_more [] hs = append-nil hs
+in_more (gs ∷ rounds) hs = ap (λ xs. gs ++ xs) (in_more rounds hs) ∙ sym (append_assoc gs (in_all rounds) hs)
+
+-- how many came in both
+pub effort_on : (hs gs : List Happening) → effort (hs ++ gs) ≡ effort hs + effort gs
+effort_on [] gs = omega arith
+effort_on (Came d ∷ hs) gs = omega (arith, effort_on hs gs)
+effort_on (Paused e ∷ hs) gs = omega (arith, effort_on hs gs)
+effort_on (Left d ∷ hs) gs = effort_on hs gs
+
+effort_came : (ds : List Datagram) → effort (map Came ds) ≡ length ds
+effort_came [] = refl
+effort_came (d ∷ ds) = omega (arith, effort_came ds)
+
+effort_left : (ds : List Datagram) → effort (map Left ds) ≡ 0
+effort_left [] = refl
+effort_left (d ∷ ds) = effort_left ds
+
+pause_on : (before : Option Error) (hs gs : List Happening) → pause_after before (hs ++ gs) ≡ pause_after (pause_after before hs) gs
+pause_on before [] gs = refl
+pause_on before (Came d ∷ hs) gs = pause_on None hs gs
+pause_on before (Paused e ∷ hs) gs = pause_on (Some e) hs gs
+pause_on before (Left d ∷ hs) gs = pause_on before hs gs
+
+pause_left : (before : Option Error) (ds : List Datagram) → pause_after before (map Left ds) ≡ before
+pause_left before [] = refl
+pause_left before (d ∷ ds) = pause_left before ds
+
+-- the last pause is that of the later part, where there is one
+pause_later : (before : Option Error) (hs : List Happening) (e : Error) → pause_after None hs ≡ Some e → pause_after before hs ≡ Some e
+pause_later before [] e is = absurd (none-some e is)
+pause_later before (Came d ∷ hs) e is = is
+pause_later before (Paused p ∷ hs) e is = is
+pause_later before (Left d ∷ hs) e is = pause_later before hs e is
+
+-- what was through in the later part is through in both
+pub paused_later : (told : Result Rest LoopFault) (hs gs : List Happening) → IsPausedBy told gs → IsPausedBy told (hs ++ gs)
+paused_later told hs gs p = record {
+  error = p.error;
+  last = pause_on None hs gs ∙ pause_later (pause_after None hs) gs p.error p.last;
+  says = p.says;
+}
+
+-- a round, and what it answers
+last_is : (hs : List Happening) (e : Error) (ds : List Datagram) → pause_after None ((hs ++ Paused e ∷ []) ++ map Left ds) ≡ Some e
+last_is hs e ds = pause_on None (hs ++ Paused e ∷ []) (map Left ds) ∙ (pause_left (pause_after None (hs ++ Paused e ∷ [])) ds ∙ pause_on None hs (Paused e ∷ []))
+
+effort_is : (cs : List Datagram) (pause : Option Error) (ds : List Datagram) → effort ((map Came cs ++ pausing pause) ++ map Left ds) ≡ length cs + effort (pausing pause)
+effort_is cs pause ds = omega (arith, effort_on (map Came cs ++ pausing pause) (map Left ds), effort_on (map Came cs) (pausing pause), effort_came cs, effort_left ds)
+
+-- parts of which the first went on
+pub go_on : (told : Result Rest LoopFault) (hs gs : List Happening) → GoOnTo (Ok More) hs → GoOnTo told gs → GoOnTo told (hs ++ gs)
+go_on told [] gs first next = next
+go_on told (Came d ∷ hs) gs first next = go_on told hs gs first next
+go_on told (Paused e ∷ hs) gs first next = (inl (elim first.0 [ inl more ↦ more | inr more ↦ more.0 ]), go_on told hs gs first.1 next)
+go_on told (Left d ∷ hs) gs first next = go_on told hs gs first next
+
+came_go_on : (told : Result Rest LoopFault) (cs : List Datagram) → GoOnTo told (map Came cs)
+came_go_on told [] = tt
+came_go_on told (c ∷ cs) = came_go_on told cs
+
+left_go_on : (told : Result Rest LoopFault) (ds : List Datagram) → GoOnTo told (map Left ds)
+left_go_on told [] = tt
+left_go_on told (d ∷ ds) = left_go_on told ds
+
+left_no_pause : (ds : List Datagram) → NoPause (map Left ds)
+left_no_pause [] = tt
+left_no_pause (d ∷ ds) = left_no_pause ds
+
+-- the one pause of a round says what is answered
+paused_goes_on : (cs : List Datagram) (told : Result Rest LoopFault) (e : Error) (ds : List Datagram) → Says e told → GoOnTo told ((map Came cs ++ Paused e ∷ []) ++ map Left ds)
+paused_goes_on cs told e ds is =
+    subst (GoOnTo told) (sym (append_assoc (map Came cs) (Paused e ∷ []) (map Left ds)))
+    (go_on told (map Came cs) (Paused e ∷ map Left ds) (came_go_on (Ok More) cs) (inr (is, left_no_pause ds), left_go_on told ds))
+
+paused_is : (cs : List Datagram) (told : Result Rest LoopFault) (e : Error) (ds : List Datagram) → Says e told → IsEnough 16 told ((map Came cs ++ Paused e ∷ []) ++ map Left ds)
+paused_is cs (Ok More) e ds is = omega (arith, effort_is cs (Some e) ds)
+paused_is cs (Ok Nothing) e ds is = record { error = e; last = last_is (map Came cs) e ds; says = is }
+paused_is cs (Ok Later) e ds is = record { error = e; last = last_is (map Came cs) e ds; says = is }
+paused_is cs (Err fault) e ds is = record { error = e; last = last_is (map Came cs) e ds; says = is }
+
+pub through : (cs : List Datagram) (count all : ℕ) (told : Result Rest LoopFault) (pause : Option Error) (ds : List Datagram) → length cs ≡ count → all ≡ 16 → Stopped count all told pause
+    → IsThrough 16 told ((map Came cs ++ pausing pause) ++ map Left ds)
+through cs count all told None ds len sixteen (whole, is) =
+    let most : 16 ≤ effort ((map Came cs ++ []) ++ map Left ds) = omega (arith, effort_is cs None ds, len, sixteen, whole) in
+    let on : GoOnTo (Ok More) ((map Came cs ++ []) ++ map Left ds) =
+    go_on (Ok More) (map Came cs ++ []) (map Left ds) (subst (GoOnTo (Ok More)) (sym (append-nil (map Came cs))) (came_go_on (Ok More) cs)) (left_go_on (Ok More) ds) in
+    subst (λ t. IsThrough 16 t ((map Came cs ++ []) ++ map Left ds)) (sym is) (most, on)
+through cs count all told (Some e) ds len sixteen is = (paused_is cs told e ds is, paused_goes_on cs told e ds is)

@@ -1,0 +1,84 @@
+-- A stream's steps, one after the other.
+use Rattle.std.proofs.Common.{◌≡◌, ◌≤◌, ◌<◌, ℕ, ◌+◌, ◌-◌, suc, List, Option, Some, None, Result, Ok, Err, refl, ap, ◌∙◌, subst, inl, inr, arith}
+use Rattle.std.specs.Prelude.{IfSome, IfNone}
+use Rattle.slp_sockets.specs.Linking.{Link, unread, unwritten}
+use Rattle.slp_sockets.specs.Reading.{Reads}
+use Rattle.slp_sockets.specs.Serving.{Steps, Settles}
+use Rattle.slp_sockets.specs.Streaming.{Talk, end_of, IsRead, IsStep, Goes}
+use Rattle.slp_sockets.specs.Writing.{Wrote, Writes}
+use Rattle.slp_sockets.specs.declared.connection.Next.{Next}
+use Rattle.slp_sockets.specs.declared.connection.Next.TheVariants.{More}
+use Rattle.slp_sockets.specs.declared.fault.LoopFault.{LoopFault}
+
+-- one of the steps that are left
+one_left : (i : ℕ) → i < 16 → suc (16 - (i + 1)) ≡ 16 - i
+one_left i lt = omega (arith, lt)
+
+ends_so : (Y : Type 0) (o : Option Next) (next : Next) → o ≡ Some next → (P : Next → Type 0) → P next → IfSome o P × IfNone o Y
+ends_so Y None next is P p = absurd cc
+ends_so Y (Some n) next is P p = let same : next ≡ n = cc in (subst P same p, tt)
+
+goes_so : (Y : Type 0) (o : Option Next) → o ≡ None → (P : Next → Type 0) → Y → IfSome o P × IfNone o Y
+goes_so Y None is P y = (tt, y)
+goes_so Y (Some n) is P y = absurd cc
+
+module _ {S : Type 0} (steps : Steps S) (settles : Settles S) (i : ℕ) where
+  -- no step is left
+  pub over : 16 ≤ i → (a : Talk S) → Goes steps settles (16 - i) a (Ok More) a
+  over past a = let none : 0 ≡ 16 - i = omega (arith, past) in subst (λ n. Goes steps settles n a (Ok More) a) none (refl, refl)
+
+module _ {S : Type 0} (steps : Steps S) (settles : Settles S) (i : ℕ) (lt : i < 16) (a : Talk S) where
+  -- the read failed
+  pub read_failed : (e : LoopFault) (b : Talk S) → IsRead steps settles a (Err e) b → Goes steps settles (16 - i) a (Err e) b
+  read_failed e b read = subst (λ n. Goes steps settles n a (Err e) b) (one_left i lt) (inl (e, refl, read))
+
+  -- the write failed
+  pub write_failed : (read : Next) (e : LoopFault) (b : Talk S) → IsStep steps settles a read (Err e) b → Goes steps settles (16 - i) a (Err e) b
+  write_failed read e b step = subst (λ n. Goes steps settles n a (Err e) b) (one_left i lt) (inr (inl (read, e, refl, step)))
+
+  -- it ends there
+  pub ended : (read written next : Next) (b : Talk S) → IsStep steps settles a read (Ok written) b → end_of read written ≡ Some next → Goes steps settles (16 - i) a (Ok next) b
+  ended read written next b step is =
+      let over = ends_so _ (end_of read written) next is (λ n. (Ok next ≡ Ok n) × (b ≡ b)) (refl, refl) in
+      subst (λ n. Goes steps settles n a (Ok next) b) (one_left i lt) (inr (inr (read, written, b, step, over.0, over.1)))
+
+  -- it goes on
+  pub went_on : (read written : Next) (c : Talk S) → IsStep steps settles a read (Ok written) c → end_of read written ≡ None
+      → (told : Result Next LoopFault) (b : Talk S) → Goes steps settles (16 - (i + 1)) c told b → Goes steps settles (16 - i) a told b
+  went_on read written c step is told b rest =
+      let more = goes_so _ (end_of read written) is (λ n. (told ≡ Ok n) × (b ≡ c)) rest in
+      subst (λ n. Goes steps settles n a told b) (one_left i lt) (inr (inr (read, written, c, step, more.0, more.1)))
+
+-- a stream of a type, its connection and its server
+module _ {T S : Type 0} (brings taken : T → Option (List ℕ)) where
+  abbrev pub talk : T → Link → S → Talk S
+  talk r l a = record { brings = brings r; taken = taken r; link = l; server = a }
+
+  same_talk : (r q : T) (l m : Link) (a b : S) → m ≡ l → q ≡ r → b ≡ a → talk q m b ≡ talk r l a
+  same_talk r q l m a b link stream server = ap (λ x. talk q x b) link ∙ (ap (λ x. talk x l b) stream ∙ ap (λ x. talk r l x) server)
+
+  unread_same : (r q : T) (l m : Link) (a b : S) (told : Result Next LoopFault) (o : Option Next) → IfSome o (λ next. (told ≡ Ok next) × (m ≡ l) × (q ≡ r) × (b ≡ a))
+      → IfSome o (λ next. (told ≡ Ok next) × (talk q m b ≡ talk r l a))
+  unread_same r q l m a b told None same = tt
+  unread_same r q l m a b told (Some next) (is, link, stream, server) = (is, same_talk r q l m a b link stream server)
+
+  unwritten_same : (r q : T) (l m : Link) (a : S) (told : Result Next LoopFault) (o : Option Next) → IfSome o (λ next. (told ≡ Ok next) × (m ≡ l) × (q ≡ r))
+      → IfSome o (λ next. (told ≡ Ok next) × (talk q m a ≡ talk r l a))
+  unwritten_same r q l m a told None same = tt
+  unwritten_same r q l m a told (Some next) (is, link, stream) = (is, same_talk r q l m a a link stream refl)
+
+  module _ (steps : Steps S) (settles : Settles S) where
+    pub is_read : (r q : T) (l m : Link) (a b : S) (told : Result Next LoopFault) → IfSome (unread l) (λ next. (told ≡ Ok next) × (m ≡ l) × (q ≡ r) × (b ≡ a))
+        → IfNone (unread l) (Reads steps (brings r) (brings q) l a told m b) → IsRead steps settles (talk r l a) told (talk q m b)
+    is_read r q l m a b told same reads = (unread_same r q l m a b told (unread l) same, reads)
+
+    pub is_step : (r q w : T) (l m n : Link) (a b s : S) (read : Next) (told : Result Next LoopFault) → IsRead steps settles (talk r l a) (Ok read) (talk q m b) → settles b s
+        → IfSome (unwritten m) (λ next. (told ≡ Ok next) × (n ≡ m) × (w ≡ q)) → Wrote (taken q) (taken w) m.waiting n.waiting → IfNone (unwritten m) (Writes m told n)
+        → IsStep steps settles (talk r l a) read told (talk w n s)
+    is_step r q w l m n a b s read told reads settled same wrote writes = record {
+      between = talk q m b;
+      server = s;
+      read_is = reads;
+      settled = settled;
+      written_is = (unwritten_same q w m n s told (unwritten m) same, wrote, writes, refl);
+    }

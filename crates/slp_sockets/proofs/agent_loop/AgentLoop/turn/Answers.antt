@@ -1,0 +1,37 @@
+use Rattle.std.proofs.Common.{[], refl, sym, ap, ◌∙◌, subst}
+use Rattle.std.proofs.lemmas.List.{append-nil}
+use Rattle.slp_sockets.specs.Turning.{Tended, AreServedAt, SettlesFirst, tended}
+use Rattle.slp_sockets.proofs.Reaching.{first_on, reach_on, reach_peers, reach_tokens}
+use Rattle.slp_sockets.proofs.Sitting.{only_gone}
+use Rattle.slp_sockets.proofs.agent_loop.AgentLoop.turn.Goals as goal
+use Rattle.slp_sockets.proofs.agent_loop.AgentLoop.turn.Goals.{in-Ok, in-Err}
+
+pub returns-clause-served : goal.returns-clause-served
+returns-clause-served g c =
+    let begun : Tended g.row.S.Denot = record { seats = c.self.inside.streams.seats; server = c.self.inside.server } in
+    let served : Tended g.row.S.Denot = record { seats = c.match-begin.self-inside.streams.seats; server = c.match-begin.self-inside.server } in
+    let closed : Tended g.row.S.Denot = record { seats = c.close_still.new.self.seats; server = c.match-begin.self-inside.server } in
+    first_on g.S.Serve.steps g.S.Serve.settles (tended c.args.self.now) begun closed
+    (subst (SettlesFirst g.S.Serve.steps g.S.Serve.settles (tended c.args.self.now)) (ap tended (sym c.self.view_is)) c.begin.ensures.served)
+    (reach_on g.S.Serve.steps g.S.Serve.settles begun served closed
+    (elim c.match-begin.branch [
+      | in-Ok w ↦ rw w.self-inside-is (reach_tokens g.S.Serve.steps g.S.Serve.settles begun w.serve_events-told.ensures.served.0 (record { seats = w.serve_events-told.new.streams.seats; server = w.serve_events-told.new.server }) w.serve_events-told.ensures.served.4)
+      | in-Err w ↦ rw w.self-inside-is ([], refl)
+    ])
+    (reach_peers g.S.Serve.steps g.S.Serve.settles served closed (only_gone c.match-begin.self-inside.streams.seats c.close_still.new.self.seats c.close_still.ensures.only, refl)))
+
+pub returns-clause-whole : goal.returns-clause-whole
+returns-clause-whole g c = λ not. (
+  record { seats = c.match-begin.self-inside.streams.seats; server = c.match-begin.self-inside.server },
+  elim c.match-begin.branch [
+    | in-Ok w ↦
+        let all = w.serve_events-told.ensures.served in
+        rw (w.self-inside-is, all.2, all.3 (λ is. not (w.told-is ∙ is)), append-nil) (
+          tended c.begin.new.self,
+          w.in-Ok.ensures.begun,
+          subst (λ s. AreServedAt g.S.Serve.steps g.S.Serve.settles s all.0 (record { seats = w.serve_events-told.new.streams.seats; server = w.serve_events-told.new.server })) (ap tended c.self.view_is) all.4,
+        )
+    | in-Err w ↦ absurd (not (rw (← w.in-Err.ensures.fault) w.told-is))
+  ],
+  (only_gone c.match-begin.self-inside.streams.seats c.close_still.new.self.seats c.close_still.ensures.only, refl),
+)

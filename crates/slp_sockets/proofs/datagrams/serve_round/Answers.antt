@@ -1,0 +1,10 @@
+use Rattle.std.proofs.Common.{refl, arith}
+use Rattle.slp_sockets.specs.Exchanging.{all_dues}
+use Rattle.slp_sockets.proofs.Exchanges.{round}
+use Rattle.slp_sockets.proofs.datagrams.serve_round.Goals as goal
+
+pub returns : goal.returns
+returns g c =
+    let r = c.receive_all-count in
+    round g.P.Port.may g.S.Serve.steps g.S.Serve.settles r.new.exchanges _ r.result.0 r.result.1 c.args.port.now r.new.port c.send_all.new.port c.args.server.now c.serve_all.new.server c.settle-settled.new.server (all_dues c.serve_all.new.exchanges)
+    r.ensures.within (omega (arith, c.requires)) refl r.ensures.received c.serve_all.ensures c.settle-settled.ensures c.send_all.ensures

@@ -1,0 +1,164 @@
+-- What happens at a socket of datagrams, and what it is to serve those that come.
+use Rattle.std.specs.Prelude.{◌≡◌, ◌⊎◌, ◌≤◌, ℕ, ◌+◌, Bool, true, false, List, [], ◌∷◌, ◌++◌, map, take, Option, Some, None, Result, Ok, Err}
+use Rattle.std.specs.IoError.{error_kind}
+use Rattle.std.specs.declared.io.Error.{Error}
+use Rattle.std.specs.declared.io.ErrorKind.{ErrorKind}
+use Rattle.std.specs.declared.io.ErrorKind.TheVariants.{WouldBlock, Interrupted}
+use Rattle.std.specs.declared.net.socket_addr.SocketAddr.{SocketAddr}
+use Rattle.std.specs.declared.net.socket_addr.SocketAddr.TheVariants.{V4, V6}
+use Rattle.std.specs.Net.Addr.{ipv4_bits}
+use Rattle.std.specs.Net.Socket.{v4_ip}
+use Rattle.std_io.specs.IoError.{raw_os_error}
+use Rattle.slp_sockets.specs.Serving.{Steps, Settles, IsServed}
+use Rattle.slp_sockets.specs.Sockets.{IsLost}
+use Rattle.slp_sockets.specs.declared.exchange.Rest.{Rest}
+use Rattle.slp_sockets.specs.declared.exchange.Rest.TheVariants.{Nothing, More, Later}
+use Rattle.slp_sockets.specs.declared.fault.LoopFault.{LoopFault}
+use Rattle.slp_sockets.specs.declared.fault.LoopFault.TheVariants.{Io}
+
+-- who sent it, or to whom it is sent, and its bytes
+pub record Datagram : Type 0 where
+  pub peer : SocketAddr
+  pub bytes : List ℕ
+
+pub data Happening : Type 0 where
+  -- it was taken from the port
+  Came : Datagram → Happening
+  -- none was taken, for this reason
+  Paused : Error → Happening
+  -- it was handed to the port
+  Left : Datagram → Happening
+
+-- what may happen at a port: the port before, what happens, and the port after
+abbrev pub Ports : Type 0 → Type 1
+Ports P = P → Happening → P → Type 0
+
+-- what a call that receives comes to
+abbrev pub received : Result (ℕ × SocketAddr) Error → List ℕ → Happening
+received (Ok r) buffer = Came (record { peer = r.1; bytes = take r.0 buffer })
+received (Err e) buffer = Paused e
+
+-- these happen at a port, one after the other, and nothing else
+abbrev pub Runs : {P : Type 0} → Ports P → P → List Happening → P → Type 0
+Runs may before [] after = after ≡ before
+Runs {P = P} may before (h ∷ hs) after = (between : P) × may before h between × Runs may between hs after
+
+-- who asks by a datagram from there: none but where the address is of the fourth version
+abbrev pub asker_of : SocketAddr → Option ℕ
+asker_of (V4 a) = Some (ipv4_bits (v4_ip a))
+asker_of (V6 a) = None
+
+-- a datagram takes no more back
+abbrev pub most_back : ℕ
+most_back = 1400
+
+-- what is sent to a peer to whom these bytes go back
+abbrev pub owed : SocketAddr → List ℕ → List Datagram
+owed peer [] = []
+owed peer (b ∷ bs) = record { peer = peer; bytes = b ∷ bs } ∷ []
+
+-- the pause, where there was one
+abbrev pub pausing : Option Error → List Happening
+pausing None = []
+pausing (Some e) = Paused e ∷ []
+
+module _ {S : Type 0} (steps : Steps S) where
+  -- a message is served once, for its asker; where there is none, nothing is done
+  abbrev pub ServedFor : Option ℕ → S → List ℕ → List ℕ → S → Type 0
+  ServedFor (Some asker) before message back after = IsServed steps asker most_back before message back after
+  ServedFor None before message back after = (back ≡ []) × (after ≡ before)
+
+  -- datagrams are served once each, one after the other, and this is owed to their senders then
+  abbrev pub AreAnswered : S → List Datagram → List Datagram → S → Type 0
+  AreAnswered before [] dues after = (dues ≡ []) × (after ≡ before)
+  AreAnswered before (d ∷ ds) dues after =
+      (back : List ℕ) × (between : S) × (later : List Datagram) × ServedFor (asker_of d.peer) before d.bytes back between × AreAnswered between ds later after × (dues ≡ owed d.peer back ++ later)
+
+module _ {S : Type 0} (steps : Steps S) (settles : Settles S) where
+  -- A round: datagrams come, until none is left or there are enough. Each is served once, in their order. The server settles, and what is owed leaves, in order.
+  pub record IsRound (before : S) (hs : List Happening) (after : S) : Type 0 where
+    pub came : List Datagram
+    pub pause : Option Error
+    pub dues : List Datagram
+    pub between : S
+    pub answered : AreAnswered steps before came dues between
+    pub settled : settles between after
+    pub order : hs ≡ (map Came came ++ pausing pause) ++ map Left dues
+
+  -- Rounds, one after the other: nothing leaves that is not owed, and nothing twice.
+  abbrev pub Serves : S → List (List Happening) → S → Type 0
+  Serves before [] after = after ≡ before
+  Serves before (hs ∷ rounds) after = (between : S) × IsRound before hs between × Serves between rounds after
+
+-- what happens in them
+abbrev pub in_all : List (List Happening) → List Happening
+in_all [] = []
+in_all (hs ∷ rounds) = hs ++ in_all rounds
+
+-- what there may be after a failed receive of a socket that is still of use
+abbrev pub rest_by : ErrorKind → Rest
+rest_by WouldBlock = Nothing
+rest_by Interrupted = More
+rest_by _ = Later
+
+-- what a failed receive says: the socket is of no use any more, or there may be more
+abbrev pub Says : Error → Result Rest LoopFault → Type 0
+Says e (Ok rest) = (¬ (IsLost (raw_os_error e))) × (rest ≡ rest_by (error_kind e))
+Says e (Err fault) = IsLost (raw_os_error e) × (fault ≡ Io)
+
+-- no more are to be received now
+abbrev pub is_over : Result Rest LoopFault → Bool
+is_over (Ok More) = false
+is_over (Ok Nothing) = true
+is_over (Ok Later) = true
+is_over (Err e) = true
+
+-- the pause after which none came
+abbrev pub pause_after : Option Error → List Happening → Option Error
+pause_after before [] = before
+pause_after before (Came d ∷ hs) = pause_after None hs
+pause_after before (Paused e ∷ hs) = pause_after (Some e) hs
+pause_after before (Left d ∷ hs) = pause_after before hs
+
+-- how many of them came, where a pause counts for as many as are received together
+abbrev pub effort : List Happening → ℕ
+effort [] = 0
+effort (Came d ∷ hs) = 1 + effort hs
+effort (Paused e ∷ hs) = 16 + effort hs
+effort (Left d ∷ hs) = effort hs
+
+-- there was no pause
+abbrev pub NoPause : List Happening → Type 0
+NoPause [] = Unit {0}
+NoPause (Came d ∷ hs) = NoPause hs
+NoPause (Paused e ∷ hs) = ⊥
+NoPause (Left d ∷ hs) = NoPause hs
+
+-- each pause says that there may be more, but for the last, which says what is answered
+abbrev pub GoOnTo : Result Rest LoopFault → List Happening → Type 0
+GoOnTo told [] = Unit {0}
+GoOnTo told (Came d ∷ hs) = GoOnTo told hs
+GoOnTo told (Paused e ∷ hs) = (Says e (Ok More) ⊎ (Says e told × NoPause hs)) × GoOnTo told hs
+GoOnTo told (Left d ∷ hs) = GoOnTo told hs
+
+-- the last pause says what is answered
+pub record IsPausedBy (told : Result Rest LoopFault) (hs : List Happening) : Type 0 where
+  pub error : Error
+  pub last : pause_after None hs ≡ Some error
+  pub says : Says error told
+
+-- much was served where there may be more; else the last pause says why no more were received
+abbrev pub IsEnough : ℕ → Result Rest LoopFault → List Happening → Type 0
+IsEnough least (Ok More) hs = least ≤ effort hs
+IsEnough least (Ok Nothing) hs = IsPausedBy (Ok Nothing) hs
+IsEnough least (Ok Later) hs = IsPausedBy (Ok Later) hs
+IsEnough least (Err e) hs = IsPausedBy (Err e) hs
+
+-- the same, and no other pause said so
+abbrev pub IsThrough : ℕ → Result Rest LoopFault → List Happening → Type 0
+IsThrough least told hs = IsEnough least told hs × GoOnTo told hs
+
+module _ {S : Type 0} (steps : Steps S) (settles : Settles S) where
+  -- Rounds, until 128 or more have come, where a pause counts for 16, or a pause says that no more are to be received now.
+  abbrev pub ServesAll : S → S → Type 0
+  ServesAll before after = (rounds : List (List Happening)) × (told : Result Rest LoopFault) × Serves steps settles before rounds after × IsThrough 128 told (in_all rounds)

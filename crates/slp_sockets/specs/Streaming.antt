@@ -1,0 +1,57 @@
+-- What a stream, its connection and its server go through, where it is ready.
+use Rattle.std.specs.Prelude.{◌≡◌, ◌⊎◌, ℕ, zero, suc, false, List, Option, Some, None, IfSome, IfNone, Result, Ok, Err, if◌then◌else◌}
+use Rattle.slp_sockets.specs.Linking.{Link, unread, unwritten}
+use Rattle.slp_sockets.specs.Reading.{Reads}
+use Rattle.slp_sockets.specs.Serving.{Steps, Settles}
+use Rattle.slp_sockets.specs.Writing.{Wrote, Writes}
+use Rattle.slp_sockets.specs.declared.connection.Next.{Next}
+use Rattle.slp_sockets.specs.declared.connection.Next.TheVariants.{More, Blocked, Closed}
+use Rattle.slp_sockets.specs.declared.fault.LoopFault.{LoopFault}
+
+-- what a stream is known to bring still, what it is known to have taken, its connection, and what serves it
+pub record Talk (S : Type 0) : Type 0 where
+  pub brings : Option (List ℕ)
+  pub taken : Option (List ℕ)
+  pub link : Link
+  pub server : S
+
+-- what is answered where it ends after a read and a write; `None` where it does not
+abbrev pub end_of : Next → Next → Option Next
+end_of read Closed = Some Closed
+end_of Blocked Blocked = Some Blocked
+end_of read written = None
+
+module _ {S : Type 0} (steps : Steps S) (settles : Settles S) where
+  -- it is read once, at most, and what is whole then is served
+  abbrev pub IsRead : Talk S → Result Next LoopFault → Talk S → Type 0
+  IsRead a told b = IfSome (unread a.link) (λ next. (told ≡ Ok next) × (b ≡ a)) × IfNone (unread a.link) (Reads steps a.brings b.brings a.link a.server told b.link b.server)
+
+  -- what waits is written once, at most
+  abbrev pub IsWritten : Talk S → Result Next LoopFault → Talk S → Type 0
+  IsWritten a told b =
+      IfSome (unwritten a.link) (λ next. (told ≡ Ok next) × (b ≡ a))
+      × Wrote a.taken b.taken a.link.waiting b.link.waiting × IfNone (unwritten a.link) (Writes a.link told b.link) × (b.server ≡ a.server)
+
+  -- a step: the stream is read, the server settles, and what waits is written
+  pub record IsStep (a : Talk S) (read : Next) (written : Result Next LoopFault) (b : Talk S) : Type 0 where
+    pub between : Talk S
+    pub server : S
+    pub read_is : IsRead a (Ok read) between
+    pub settled : settles between.server server
+    pub written_is : IsWritten (record between { server = server }) written b
+
+  -- at most so many steps, one after the other, until one of them fails or ends it
+  abbrev pub Goes : ℕ → Talk S → Result Next LoopFault → Talk S → Type 0
+  Goes zero a told b = (told ≡ Ok More) × (b ≡ a)
+  Goes (suc n) a told b =
+      ((e : LoopFault) × (told ≡ Err e) × IsRead a (Err e) b)
+      ⊎ (((read : Next) × (e : LoopFault) × (told ≡ Err e) × IsStep a read (Err e) b)
+      ⊎ ((read : Next) × (written : Next) × (c : Talk S) × IsStep a read (Ok written) c
+      × IfSome (end_of read written) (λ next. (told ≡ Ok next) × (b ≡ c)) × IfNone (end_of read written) (Goes n c told b)))
+
+  -- A stream goes on at a moment, by at most 16 steps. Then it is noted whether it moved, where it was known when it did.
+  pub record Advances (now : ℕ) (a : Talk S) (known : ℕ) (told : Result Next LoopFault) (b : Talk S) (knows : ℕ) : Type 0 where
+    pub end : Link
+    pub goes : Goes 16 a told (record b { link = end })
+    pub link : b.link ≡ record end { moved = false }
+    pub moved : knows ≡ (if end.moved then now else known)

@@ -1,0 +1,323 @@
+ghost use Rattle.std.specs.Prelude.{◌≡◌, ◌≢◌, ◌≤◌, ◌<◌, ◌↔◌, ◌++◌, ℕ, List, [], length, slice_get, Some, Err, IfOk, IfErr, IsTrue};
+ghost use Rattle.slp_sockets.specs.Holding.{NoneSits, longest_stay};
+ghost use Rattle.slp_sockets.specs.Readiness.{tokens_of};
+ghost use Rattle.slp_sockets.specs.Turning.{AreServedAt, IsBegun, IsServedAt, IsTurn, SettlesFirst, SettlesLast, tended};
+ghost use Rattle.slp_sockets.specs.declared.fault.LoopFault.TheVariants.{Io as Failing};
+
+use crate::clock::{Moments, SteadyClock};
+use crate::datagrams::{DATAGRAMS, Datagrams};
+use crate::fault::LoopFault;
+use crate::serve::Serve;
+use crate::streams::{LISTENER, Streams};
+use addresses::Addr;
+use mio::net::{TcpListener, UdpSocket};
+use mio::{Events, Interest, Poll, Registry, Token};
+use site_config::Config;
+use std::alloc::Global;
+use std::io;
+use std::marker::Model;
+use std::net::{Ipv4Addr, Net, SocketAddr};
+use std::sync::Wait;
+use std::sync::atomic::{AtomicBool, Ordering};
+use std::time::{Clock, Duration};
+
+/// The longest wait of a turn, in milliseconds.
+const LONGEST_WAIT: u64 = 500;
+
+/// How many events one wait gives.
+const EVENTS: usize = 256;
+
+// Serves the socket of an event.
+fn serve_event<S: Serve>(
+    registry: &Registry,
+    token: Token,
+    datagrams: &mut Datagrams<UdpSocket>,
+    streams: &mut Streams,
+    server: &mut S,
+) -> Result<(), LoopFault>
+    ensures limit { streams.new.limit ≡ streams.old.limit }
+    ensures served { IsServedAt S.steps S.settles token.0 (record { seats = streams.old.seats; server = server.old }) (record { seats = streams.new.seats; server = server.new }) }
+{
+    if token.0 == DATAGRAMS.0 {
+        let told = datagrams.serve(server);
+        datagrams.note(told, registry)
+    } else if token.0 == LISTENER.0 {
+        streams.accept(registry)
+    } else {
+        streams.advance(registry, token.0, server)
+    }
+}
+
+// Serves each socket that is ready. Want of memory is answered once all are served: an event that is
+// left out is not reported again.
+fn serve_events<S: Serve>(
+    registry: &Registry,
+    events: &Events,
+    datagrams: &mut Datagrams<UdpSocket>,
+    streams: &mut Streams,
+    server: &mut S,
+) -> Result<(), LoopFault>
+    ensures limit { streams.new.limit ≡ streams.old.limit }
+    ensures served { (front : List ℕ) × (rest : List ℕ) × (tokens_of events.now ≡ front ++ rest) × (result ≢ Err Failing → rest ≡ [])
+        × AreServedAt S.steps S.settles (record { seats = streams.old.seats; server = server.old }) front (record { seats = streams.new.seats; server = server.new }) }
+{
+    let mut outcome = Ok(());
+    for event in events.iter() {
+        match serve_event(registry, event.token(), datagrams, streams, server) {
+            Ok(()) => {}
+            Err(LoopFault::Io) => return Err(LoopFault::Io),
+            Err(fault) => outcome = Err(fault),
+        }
+    }
+    outcome
+}
+
+// Whether a turn tells that its sockets are of no use any more. Want of memory may pass.
+fn is_lost(told: Result<(), LoopFault>) -> bool
+    ensures { IsTrue result ↔ (told ≡ Err Failing) }
+{
+    told == Err(LoopFault::Io)
+}
+
+/// Serves the datagrams and the streams of one address.
+#[derive(Drop)]
+pub struct AgentLoop<S: Serve + Drop> {
+    poll: Poll,
+    events: Events,
+    datagrams: Datagrams<UdpSocket>,
+    streams: Streams,
+    server: S,
+}
+
+impl<S: Serve + Drop> Model for AgentLoop<S> {
+    ghost use Rattle.slp_sockets.specs.Holding.{Looping};
+    ghost use Rattle.slp_sockets.specs.Readiness.{tokens_of};
+
+    ghost Value = { Looping S };
+
+    ghost view = { λ l. record { limit = l.streams.limit; held = l.streams.held; moment = l.streams.moment; seats = l.streams.seats; ready = tokens_of l.events; server = l.server } };
+}
+
+// What a loop has beside its server.
+#[derive(Drop)]
+struct Parts {
+    poll: Poll,
+    events: Events,
+    datagrams: Datagrams<UdpSocket>,
+    streams: Streams,
+}
+
+// A listener at an address, which is waited for.
+fn listen<N: Net>(net: &N, registry: &Registry, address: SocketAddr) -> io::Result<TcpListener> {
+    let mut listener = TcpListener::bind(net, address)?;
+    registry.register(&mut listener, LISTENER, Interest::READABLE)?;
+    Ok(listener)
+}
+
+// A socket for datagrams at an address, which is waited for.
+fn receive<N: Net>(net: &N, registry: &Registry, address: SocketAddr) -> io::Result<UdpSocket> {
+    let mut socket = UdpSocket::bind(net, address)?;
+    registry.register(&mut socket, DATAGRAMS, Interest::READABLE)?;
+    Ok(socket)
+}
+
+// The streams of an address, with places for this many.
+fn streams_at<N: Net>(
+    net: &N,
+    alloc: Global,
+    registry: &Registry,
+    address: SocketAddr,
+    connections: usize,
+) -> Result<Streams, LoopFault>
+    ensures limit { IfOk result (λ s. s.limit ≡ connections) }
+    ensures held { IfOk result (λ s. s.held ≡ 0) }
+{
+    let listener = listen(net, registry, address)?;
+    Ok(Streams::new(alloc, listener, connections)?)
+}
+
+// The datagrams of an address.
+fn datagrams_at<N: Net>(
+    net: &N,
+    alloc: Global,
+    registry: &Registry,
+    address: SocketAddr,
+) -> Result<Datagrams<UdpSocket>, LoopFault> {
+    let socket = receive(net, registry, address)?;
+    Ok(Datagrams::new(alloc, socket)?)
+}
+
+// The datagrams and the streams of an address, with places for this many streams.
+fn sockets_at<N: Net>(
+    net: &N,
+    alloc: Global,
+    registry: &Registry,
+    address: SocketAddr,
+    connections: usize,
+) -> Result<(Datagrams<UdpSocket>, Streams), LoopFault>
+    ensures limit { IfOk result (λ p. p.1.limit ≡ connections) }
+    ensures held { IfOk result (λ p. p.1.held ≡ 0) }
+{
+    let streams = streams_at(net, alloc, registry, address, connections)?;
+    let address = streams.address()?;
+    match datagrams_at(net, alloc, registry, address) {
+        Ok(datagrams) => Ok((datagrams, streams)),
+        Err(fault) => {
+            drop(streams);
+            Err(fault)
+        }
+    }
+}
+
+// What waits for sockets, and what tells of those that are ready.
+fn poll_with<N: Net>(net: &N, alloc: Global) -> Result<(Poll, Events), LoopFault> {
+    let events = Events::with_capacity(alloc, EVENTS)?;
+    Ok((Poll::new(net)?, events))
+}
+
+// The parts of a loop at an address, with places for this many streams.
+fn parts_at<N: Net>(
+    net: &N,
+    alloc: Global,
+    address: SocketAddr,
+    connections: usize,
+) -> Result<Parts, LoopFault>
+    ensures limit { IfOk result (λ p. p.streams.limit ≡ connections) }
+    ensures held { IfOk result (λ p. p.streams.held ≡ 0) }
+{
+    let (poll, events) = poll_with(net, alloc)?;
+    match sockets_at(net, alloc, poll.registry(), address, connections) {
+        Ok((datagrams, streams)) => Ok(Parts {
+            poll,
+            events,
+            datagrams,
+            streams,
+        }),
+        Err(fault) => {
+            drop(poll);
+            drop(events);
+            Err(fault)
+        }
+    }
+}
+
+// The address and the port at a place of a configuration.
+fn listened_at(config: &Config, place: usize) -> (Addr, u16)
+    requires { place < length config.now.listen }
+    ensures { slice_get config.now.listen place ≡ Some result }
+{
+    config.listen.as_slice()[place]
+}
+
+impl<S: Serve + Drop> AgentLoop<S> {
+    /// A loop that listens at one of the addresses of a configuration, for datagrams and for streams. All its
+    /// memory is taken here, but that of the streams and the answers.
+    pub fn new<N: Net>(
+        net: &N,
+        alloc: Global,
+        config: &Config,
+        place: usize,
+        server: S,
+    ) -> Result<AgentLoop<S>, LoopFault>
+        requires { place < length config.now.listen }
+        ensures limit { IfOk result (λ l. l.limit ≡ config.now.connections) }
+        ensures held { IfOk result (λ l. l.held ≡ 0) }
+        ensures server { IfOk result (λ l. l.server ≡ server) }
+    {
+        let (own, port) = listened_at(config, place);
+        let address = SocketAddr::from((Ipv4Addr::from_bits(own.0), port));
+        match parts_at(net, alloc, address, config.connections) {
+            Ok(
+                Parts {
+                    poll,
+                    events,
+                    datagrams,
+                    streams,
+                },
+            ) => Ok(AgentLoop {
+                poll,
+                events,
+                datagrams,
+                streams,
+                server,
+            }),
+            Err(fault) => {
+                drop(server);
+                Err(fault)
+            }
+        }
+    }
+
+    /// The address that it listens at.
+    pub fn address(&self) -> io::Result<SocketAddr> {
+        self.streams.address()
+    }
+
+    /// The number of connections.
+    pub fn connections(&self) -> usize
+        ensures held { result ≡ self.now.held }
+        ensures within { result ≤ self.now.limit }
+    {
+        self.streams.len()
+    }
+
+    /// Waits until a socket is ready, for 500 ms at most, and serves what is. Then each stream is closed that has sat there for 300 seconds
+    /// of a steady clock. `Io` is answered only where the wait failed, or a socket of the loop's own is of no use any more. `NoMemory` is answered once all is served that
+    /// was ready: a connection that found none is closed.
+    pub fn turn<M: Moments>(&mut self, steady: &mut M) -> Result<(), LoopFault>
+        ensures limit { self.new.limit ≡ self.old.limit }
+        ensures none { NoneSits longest_stay self.new.moment self.new.seats }
+        ensures served { SettlesFirst S.steps S.settles (tended self.old) (tended self.new) }
+        ensures whole { result ≢ Err Failing → IsTurn S.steps S.settles (tended self.old) self.new.ready (tended self.new) }
+    {
+        let told = match self.begin(steady) {
+            Ok(()) => serve_events(
+                self.poll.registry(),
+                &self.events,
+                &mut self.datagrams,
+                &mut self.streams,
+                &mut self.server,
+            ),
+            Err(fault) => Err(fault),
+        };
+        self.streams.close_still();
+        told
+    }
+
+    // Has the lines of the last turn out, waits, and serves what could not be served then.
+    fn begin<M: Moments>(&mut self, steady: &mut M) -> Result<(), LoopFault>
+        ensures limit { self.new.limit ≡ self.old.limit }
+        ensures fault { IfErr result (λ e. e ≡ Failing) }
+        ensures served { SettlesFirst S.steps S.settles (tended self.old) (tended self.new) }
+        ensures begun { IfOk result (λ _. IsBegun S.steps S.settles (tended self.old) (tended self.new)) }
+    {
+        self.server.settle();
+        let wait = Duration::from_millis(LONGEST_WAIT);
+        self.poll.poll(&mut self.events, Some(wait))?;
+        self.streams.go_on_to(steady.now());
+        self.streams.accept_again(self.poll.registry())?;
+        self.datagrams
+            .serve_again(self.poll.registry(), &mut self.server)
+    }
+
+    /// Takes turns until the flag is set, or a turn answers `Io`, which is its only fault. What was told of the last
+    /// messages is out then.
+    pub fn run<R: Wait + Clock>(&mut self, rt: &R, stop: &AtomicBool) -> Result<(), LoopFault>
+        ensures limit { self.new.limit ≡ self.old.limit }
+        ensures fault { IfErr result (λ e. e ≡ Failing) }
+        ensures served { SettlesLast S.steps S.settles (tended self.old) (tended self.new) }
+    {
+        let mut steady = SteadyClock::new(rt);
+        for _ in rt.forever() {
+            if stop.load(Ordering::SeqCst) {
+                self.server.settle();
+                return Ok(());
+            }
+            if is_lost(self.turn(&mut steady)) {
+                self.server.settle();
+                return Err(LoopFault::Io);
+            }
+        }
+        unreachable!()
+    }
+}

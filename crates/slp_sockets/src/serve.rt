@@ -1,0 +1,45 @@
+ghost use Rattle.std.specs.Prelude.{◌≤◌};
+
+use addresses::Addr;
+use slp_replies::{Answer, Sent};
+use slp_text::NoMemory;
+
+/// What answers messages. Each implementation says by `steps` what one call may do.
+pub trait Serve {
+    ghost use Rattle.slp_sockets.specs.Serving.{Steps, Settles};
+
+    // Holds of the server before, the asker, the message, the limit, the outcome, the answer and the
+    // server after.
+    ghost steps: { Steps Self };
+
+    // Holds of the server before and after it settled.
+    ghost settles: { Settles Self };
+
+    /// Answers one message, by no more than `limit` bytes.
+    fn serve(
+        &mut self,
+        asker: Addr,
+        message: &[u8],
+        limit: usize,
+        answer: &mut Answer,
+    ) -> Result<Sent, NoMemory>
+        requires least { 1400 ≤ limit }
+        requires most { limit ≤ 65535 }
+        ensures { steps self.old asker message.now limit result answer.new self.new };
+
+    /// What was told of the messages so far is to be out when it returns: their answers leave next, or its loop waits.
+    fn settle(&mut self)
+        ensures { settles self.old self.new };
+}
+
+/// That what was told of the messages so far is out. `settle` alone gives it.
+#[derive(Drop)]
+pub struct Settled(());
+
+/// Has a server settle, before answers leave.
+pub fn settle<S: Serve>(server: &mut S) -> Settled
+    ensures { S.settles server.old server.new }
+{
+    server.settle();
+    Settled(())
+}
