@@ -1,5 +1,5 @@
 -- What an agent prints of a reload and a sweep, and what it answers where a loop fails.
-use Rattle.std.specs.Prelude.{ℕ, Result, Ok, Err, List, [], ◌∷◌, ◌++◌, codes}
+use Rattle.std.specs.Prelude.{◌≡◌, ℕ, Result, Ok, Err, List, [], ◌∷◌, ◌++◌, codes}
 use Rattle.rule_files.specs.declared.fault.RuleFault.TheVariants as rule_fault
 use Rattle.site_reports.specs.Reports.{rule_fault_text, ruled_text}
 use Rattle.published_view.specs.declared.fault.ViewFault.{ViewFault}
@@ -23,6 +23,13 @@ abbrev pub reload_refused : ViewFault → ReloadFault
 reload_refused view_fault.NoPlace = Rules rule_fault.NoMemory
 reload_refused view_fault.NoMemory = Rules rule_fault.NoMemory
 reload_refused view_fault.Closed = Shut
+
+-- the fault of a reload tells that the file is not read; that the writer refuses its rules
+abbrev pub IsUnread : ReloadFault → Type 0
+IsUnread fault = (told : ReadFault) × (fault ≡ unread told)
+
+abbrev pub IsRefused : ReloadFault → Type 0
+IsRefused fault = (told : ViewFault) × (fault ≡ reload_refused told)
 
 -- what the console prints of a reload: how many rules decide from now on, or why the old ones stay; a writer that is shut wants memory too
 abbrev pub reload_text : Result ℕ ReloadFault → List ℕ

@@ -1,8 +1,8 @@
 //! The words on standard input.
-ghost use Rattle.std.specs.Prelude.{◌≡◌, ◌⊎◌, ◌∷◌, ⊤, Result, IfOk, OnOk, OnErr};
+ghost use Rattle.std.specs.Prelude.{◌≡◌, ◌⊎◌, ◌∷◌, ⊤, Result, IfOk, IfErr, OnOk, OnErr};
 ghost use Rattle.std.specs.Io.KnownBytes.{Appends};
 ghost use Rattle.access_rules.specs.Deciding.{number};
-ghost use Rattle.agent_program.specs.Statuses.{reload_text, sweep_text};
+ghost use Rattle.agent_program.specs.Statuses.{IsRefused, IsUnread, reload_text, sweep_text};
 ghost use Rattle.directory_judge.specs.History.{now};
 ghost use Rattle.directory_runs.specs.Changes.{reload_at, sweep_at};
 ghost use Rattle.published_view.specs.Changes.{written_at};
@@ -71,6 +71,7 @@ fn put_rules<J: Naming, Q: Wait + Drop>(
 ) -> Result<usize, ReloadFault>
     ensures put { IfOk result (λ count. (count ≡ number rules) × (writer.new ≡ written_at writer.old (reload_at (now writer.old.history moment) rules ∷ writer.old.history) None)) }
     ensures kept { OnErr result (writer.new.history ≡ writer.old.history) }
+    ensures refused { IfErr result IsRefused }
 {
     let number = rules.len();
     match writer.reload(alloc, moment, rules) {
@@ -98,7 +99,8 @@ where
 {
     // Lets these rules decide from now on, and answers how many there are.
     fn put(&mut self, rules: Rules) -> Result<usize, ReloadFault>
-        ensures { self.new.output ≡ self.old.output }
+        ensures output { self.new.output ≡ self.old.output }
+        ensures refused { IfErr result IsRefused }
     {
         let moment = self.clock.now();
         let mut writer = self.writer.lock(self.rt);
@@ -107,7 +109,8 @@ where
 
     // Reads the rule file again. Its rules decide from then on, unless they are refused.
     fn read_rules(&mut self) -> Result<usize, ReloadFault>
-        ensures { self.new.output ≡ self.old.output }
+        ensures output { self.new.output ≡ self.old.output }
+        ensures refused { IfErr result (λ fault. IsUnread fault ⊎ IsRefused fault) }
     {
         match rules_at(self.rt, self.alloc, self.rules) {
             Ok(rules) => self.put(rules),

@@ -3,29 +3,11 @@
 //! `CONTRIBUTING.md` has the rows.
 #![tactic(auto)]
 
-mod fake;
-mod handed;
-mod kinds;
-mod loops;
-mod meeting;
-mod printing;
-mod props;
-mod scene;
-mod sockets;
-mod terminal;
-mod words;
-
-use crate::handed::Handed;
-use crate::meeting::MeetingGate;
-use crate::props::Props;
-use crate::scene::{PATIENT, Scene};
-use crate::sockets::pair;
-use crate::terminal::{Terminal, Valve};
-use crate::words::words_of;
 use agent_program::{Ends, agent_run, start_loops};
+use agent_scenes::{CONFIG, MeetingGate, PATIENT, Props, Scene, open_terminal, words_of};
 use std::alloc::Global;
 use std::io::{self, Read, Write};
-use std::net::{Net, TcpStream};
+use std::net::Net;
 use std::rt::Files;
 use std::sync::{Mutex, Wait};
 use std::thread::{Threads, join};
@@ -35,25 +17,11 @@ const END: &str = "---\n";
 
 const START: &str = "\nstart";
 
-/// The file with the configuration of an agent.
-const CONFIG: &str = "agent.toml";
-
 // The scenes on standard input.
 fn scenes(rt: &HostRuntime) -> io::Result<String> {
     let mut text = String::new(rt.alloc());
     rt.reader().read_to_string(&mut text)?;
     Ok(text)
-}
-
-// The two ends of a terminal: what an agent reads and writes, and what rows have of it.
-fn open_terminal<'g>(
-    rt: &'g HostRuntime,
-    valve: &'g Valve,
-) -> io::Result<(TcpStream, Terminal<'g, HostRuntime>, (TcpStream, TcpStream))> {
-    let (console, input) = pair(rt)?;
-    let (log, output) = pair(rt)?;
-    let lines = Terminal::new(rt, rt.alloc(), valve, output);
-    Ok((input, lines, (console, log)))
 }
 
 // What stands before the row that starts an agent, what follows its word `start`, and the rows after it.
@@ -107,14 +75,8 @@ fn main(rt: HostRuntime) -> io::Result<()> {
     for text in text.split(END) {
         let start = cut_at_start(text);
         let props = Props::new(matches!(start, Some((_, "_loops", _))));
-        let handed = Handed {
-            rt: &rt,
-            moment: &props.steady,
-            is_running: false,
-            seconds: &props.seconds,
-            asked: &props.asked,
-        };
-        let (mut input, mut lines, ends) = open_terminal(&rt, &props.valve)?;
+        let handed = props.handed(&rt);
+        let (mut input, mut lines, ends) = open_terminal(&rt, alloc, &props.valve)?;
         let mut scene = Scene::new(&rt, alloc, &props, patience, ends)?;
         let status = match start {
             Some((before, rest, rows)) => {

@@ -14,7 +14,7 @@ const NAP: u64 = 5;
 
 /// Keeps the first loop inside an entry until the second has answered. It does so once, and only where it was called.
 #[derive(Drop)]
-pub(crate) struct Meeting {
+pub struct Meeting {
     is_called: AtomicBool,
     is_first_inside: AtomicBool,
     has_second_answered: AtomicBool,
@@ -73,7 +73,7 @@ impl Meeting {
 
 /// The gate of an agent with a meeting.
 #[derive(Drop)]
-pub(crate) struct MeetingGate<'x> {
+pub struct MeetingGate<'x> {
     pub meeting: &'x Meeting,
 }
 

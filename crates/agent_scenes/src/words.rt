@@ -33,7 +33,7 @@ pub(crate) fn cut(line: &str) -> (&str, &str) {
 }
 
 /// The words of a line, where `''` is an empty one.
-pub(crate) fn words_of(alloc: Global, line: &str) -> Result<Vec<String>, AllocError> {
+pub fn words_of(alloc: Global, line: &str) -> Result<Vec<String>, AllocError> {
     let mut words = Vec::new(alloc);
     for word in line.split_whitespace() {
         let word = if word == "''" { "" } else { word };

@@ -1,7 +1,8 @@
 //! The terminal of an agent: two streams, of which rows have the other ends.
+use crate::sockets::pair;
 use std::alloc::Global;
 use std::io::{self, Write};
-use std::net::TcpStream;
+use std::net::{Net, TcpListener, TcpStream};
 use std::sync::atomic::{AtomicBool, Ordering};
 use std::thread;
 use std::time::{Clock, Duration};
@@ -16,7 +17,7 @@ const NAP: u64 = 5;
 
 /// Holds who writes lines out, and tells that one waits, and whether lines are written that are not out.
 #[derive(Drop)]
-pub(crate) struct Valve {
+pub struct Valve {
     is_closed: AtomicBool,
     is_waited_at: AtomicBool,
     is_unsettled: AtomicBool,
@@ -72,7 +73,7 @@ impl Valve {
 
 /// What an agent writes to. Only what it has flushed comes out, through the valve; and a write takes some bytes alone.
 #[derive(Drop)]
-pub(crate) struct Terminal<'g, R> {
+pub struct Terminal<'g, R> {
     rt: &'g R,
     valve: &'g Valve,
     stream: TcpStream,
@@ -80,7 +81,7 @@ pub(crate) struct Terminal<'g, R> {
 }
 
 impl<'g, R: Clock> Terminal<'g, R> {
-    pub(crate) fn new(
+    fn new(
         rt: &'g R,
         alloc: Global,
         valve: &'g Valve,
@@ -110,4 +111,18 @@ impl<'g, R: Clock> Write for Terminal<'g, R> {
         self.valve.is_unsettled.store(false, Ordering::SeqCst);
         told
     }
+}
+
+/// The two ends of a terminal: what an agent reads and writes, and what rows have of it.
+pub fn open_terminal<'g, R>(
+    rt: &'g R,
+    alloc: Global,
+    valve: &'g Valve,
+) -> io::Result<(TcpStream, Terminal<'g, R>, (TcpStream, TcpStream))>
+where
+    R: Net<Listener = TcpListener, Stream = TcpStream> + Clock,
+{
+    let (console, input) = pair(rt)?;
+    let (log, output) = pair(rt)?;
+    Ok((input, Terminal::new(rt, alloc, valve, output), (console, log)))
 }

@@ -2,7 +2,6 @@
 mod asking;
 mod calling;
 
-use crate::CONFIG;
 use crate::fake::Answers;
 use crate::kinds::{AgentRow, PlaceRow, PrepareRow, Row, StreamRow, ToolRow, Way};
 use crate::printing::{Times, print_bytes, print_runs};
@@ -21,7 +20,10 @@ use std::time::{Clock, Duration};
 use std::{fs, thread};
 
 /// How long a reply or a line is waited for, in milliseconds; and how long once one did not come.
-pub(crate) const PATIENT: u64 = 5_000;
+pub const PATIENT: u64 = 5_000;
+
+/// The file with the configuration of an agent.
+pub const CONFIG: &str = "agent.toml";
 
 const HASTY: u64 = 300;
 
@@ -63,7 +65,7 @@ struct Place {
 /// What the rows of a scene act on: the two ends of the agent's terminal, what is held of it, the streams that are open,
 /// what was sent and is not yet answered, what a directory that is none answers, and what is held.
 #[derive(Drop)]
-pub(crate) struct Scene<'r, R> {
+pub struct Scene<'r, R> {
     pub rt: &'r R,
     pub alloc: Global,
     pub props: &'r Props,
@@ -93,7 +95,7 @@ where
         + Files<File = File>
         + Sync,
 {
-    pub(crate) fn new(
+    pub fn new(
         rt: &'r R,
         alloc: Global,
         props: &'r Props,
@@ -379,13 +381,13 @@ where
     }
 
     /// Runs the rows that prepare a scene, and prints what comes of them.
-    pub(crate) fn begin(&mut self, text: &str, out: &mut Vec<u8>) {
+    pub fn begin(&mut self, text: &str, out: &mut Vec<u8>) {
         let told = self.run(text, out);
         self.keep_fault(told);
     }
 
     /// Runs the rows that meet an agent, prints what comes of them, and then ends the agent's input.
-    pub(crate) fn meet(&mut self, start: &str, text: &str, out: &mut Vec<u8>) {
+    pub fn meet(&mut self, start: &str, text: &str, out: &mut Vec<u8>) {
         let told = match writeln!(out, ": start{start}") {
             Ok(()) => self.run(text, out),
             Err(fault) => Err(fault),
@@ -418,7 +420,7 @@ where
     }
 
     /// Prints how an agent ended, if there was one, and answers how long the next scene waits.
-    pub(crate) fn end(mut self, status: Option<u8>, out: &mut Vec<u8>) -> io::Result<u64> {
+    pub fn end(mut self, status: Option<u8>, out: &mut Vec<u8>) -> io::Result<u64> {
         if let Some(fault) = self.fault.take() {
             writeln!(out, "(a row failed: {fault})")?;
         }

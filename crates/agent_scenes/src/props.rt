@@ -1,5 +1,5 @@
 //! What rows hold of an agent.
-use crate::handed::Asked;
+use crate::handed::{Asked, Handed};
 use crate::meeting::Meeting;
 use crate::terminal::Valve;
 use std::sync::atomic::AtomicU64;
@@ -8,7 +8,7 @@ use std::sync::atomic::AtomicU64;
 /// inside an entry, the seconds since 1970 that its clock tells, or 0 where that is the system's, those of its clock that never goes back, and what
 /// it asked for.
 #[derive(Drop)]
-pub(crate) struct Props {
+pub struct Props {
     pub is_by_loops: bool,
     pub valve: Valve,
     pub meeting: Meeting,
@@ -18,7 +18,7 @@ pub(crate) struct Props {
 }
 
 impl Props {
-    pub(crate) fn new(is_by_loops: bool) -> Props {
+    pub fn new(is_by_loops: bool) -> Props {
         Props {
             is_by_loops,
             valve: Valve::new(),
@@ -26,6 +26,17 @@ impl Props {
             seconds: AtomicU64::new(0),
             steady: AtomicU64::new(0),
             asked: Asked::new(),
+        }
+    }
+
+    /// A runtime over another one, whose clock is that of these props.
+    pub fn handed<'r, R>(&'r self, rt: &'r R) -> Handed<'r, R> {
+        Handed {
+            rt,
+            moment: &self.steady,
+            is_running: false,
+            seconds: &self.seconds,
+            asked: &self.asked,
         }
     }
 }
