@@ -69,17 +69,23 @@ fn still_ordered(before: bool, order: Ordering) -> bool
     before && matches!(order, Ordering::Less)
 }
 
-// From which number on a walk goes that has met an entry of a type: past the others of the type, where types repeat.
+// From which number on a walk goes that has met an entry of a type: past the others of the type, where types repeat; and whether there
+// were others.
 #[inline(always)]
-fn past_if<R: Registry>(repeats: bool, registry: &R, kind: &ServiceType, next: usize) -> usize
-    ensures passes { Passes kind.now (R.rest_of_kind registry.now None next) (R.rest_of_kind registry.now None result) }
-    ensures onward { next ≤ result }
+fn past_if<R: Registry>(
+    repeats: bool,
+    registry: &R,
+    kind: &ServiceType,
+    next: usize,
+) -> (usize, bool)
+    ensures passes { Passes kind.now (R.rest_of_kind registry.now None next) (R.rest_of_kind registry.now None result.0) }
+    ensures onward { next ≤ result.0 }
 {
-    if repeats {
-        registry.past_kind(kind, next)
-    } else {
-        next
+    if !repeats {
+        return (next, false);
     }
+    let past = registry.past_kind(kind, next);
+    (past, past > next)
 }
 
 // The next entry of what a question is about, with the number to go on from.
@@ -189,8 +195,7 @@ impl Viewer<'_> {
             }
             are_ordered = still_ordered(are_ordered, order);
             entries.push(entry)?;
-            from = past_if(repeats, registry, &entry.kind, next);
-            repeats = from > next;
+            (from, repeats) = past_if(repeats, registry, &entry.kind, next);
         }
         Ok(KindEntries {
             entries,

@@ -44,9 +44,9 @@ loop-entry-preserved g c =
     let next : filter seen (rest c.loop-entry.from) ≡ e ∷ filter seen (rest c.in-Some.next) = ap (filter seen) c.in-Some.ensures.next ∙ ap (λ b. cond b (e ∷ filter seen (rest c.in-Some.next)) (filter seen (rest c.in-Some.next))) is in
     let there : HasEachKind (filter seen (rest 0)) ((found ++ e ∷ []) ++ filter seen (rest c.in-Some.next)) =
     subst (HasEachKind (filter seen (rest 0))) (ap (λ xs. found ++ xs) next ∙ sym (append_assoc found (e ∷ []) (filter seen (rest c.in-Some.next)))) c.loop-entry.invariant.each in
-    let passed = c.past_if-from.ensures.passes in record {
-      each = subst (λ xs. HasEachKind (filter seen (rest 0)) (xs ++ filter seen (rest c.past_if-from.result))) (sym pushed)
-          (each-past seen (filter seen (rest 0)) (found ++ e ∷ []) passed.0 (rest c.past_if-from.result) e
+    let passed = c.past_if.ensures.passes in record {
+      each = subst (λ xs. HasEachKind (filter seen (rest 0)) (xs ++ filter seen (rest c.past_if.result.0))) (sym pushed)
+          (each-past seen (filter seen (rest 0)) (found ++ e ∷ []) passed.0 (rest c.past_if.result.0) e
           (subst (λ es. HasEachKind (filter seen (rest 0)) ((found ++ e ∷ []) ++ filter seen es)) passed.1 there)
           passed.2 (Contains-append_right found (e ∷ []) e (here e [])));
       ordered = λ t.
