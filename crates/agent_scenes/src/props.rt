@@ -18,6 +18,8 @@ pub struct Props {
 }
 
 impl Props {
+    /// Of an agent that is run by its loops, or by its words. Nothing is held; the seconds since 1970 are the system's, and the clock that
+    /// never goes back stands at 0.
     pub fn new(is_by_loops: bool) -> Props {
         Props {
             is_by_loops,

@@ -95,6 +95,7 @@ where
         + Files<File = File>
         + Sync,
 {
+    /// A scene in which nothing was done yet, at a free port. It has the other ends of the agent's terminal.
     pub fn new(
         rt: &'r R,
         alloc: Global,

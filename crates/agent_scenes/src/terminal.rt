@@ -81,12 +81,7 @@ pub struct Terminal<'g, R> {
 }
 
 impl<'g, R: Clock> Terminal<'g, R> {
-    fn new(
-        rt: &'g R,
-        alloc: Global,
-        valve: &'g Valve,
-        stream: TcpStream,
-    ) -> Terminal<'g, R> {
+    fn new(rt: &'g R, alloc: Global, valve: &'g Valve, stream: TcpStream) -> Terminal<'g, R> {
         Terminal {
             rt,
             valve,
@@ -124,5 +119,9 @@ where
 {
     let (console, input) = pair(rt)?;
     let (log, output) = pair(rt)?;
-    Ok((input, Terminal::new(rt, alloc, valve, output), (console, log)))
+    Ok((
+        input,
+        Terminal::new(rt, alloc, valve, output),
+        (console, log),
+    ))
 }
