@@ -9,7 +9,7 @@
 # make uninstall   takes away what make install put, and leaves /etc/slpda alone: seconds
 # make test        the gate, which proves and tries all from nothing: an hour or so, on 4 processors
 # make wrong       tries the wrong bodies beside the gate, or CRATE=slp_text those of one crate: 90 minutes; needs python3
-# make scripts     tries the tools of contrib/, make install and make/build over files and stand-ins alone: seconds; needs python3
+# make scripts     tries the tools of contrib/, make install and make/build over files and stand-ins alone, and compares pages with the code: seconds; needs python3
 # make bench       counts what a message costs, and measures the server: minutes, once make build is done; needs valgrind, python3, cc
 # make refusals    refuses each request for memory of the programs in turn: minutes, once make build is done; needs python3
 # make hostile     sends the server ten million broken messages, or count=N, and asks whether anyone else noticed: minutes; needs make build, python3
@@ -50,7 +50,7 @@ prefix ?= /usr/local
 DESTDIR ?=
 root := $(DESTDIR)$(prefix)
 tools := slpctl slpstat slp
-pages := $(wildcard docs/man/*.[158])
+pages := $(wildcard docs/man/*.[1578])
 page_of = $(root)/share/man/man$(subst .,,$(suffix $(1)))/$(notdir $(1))
 completions := $(root)/share/bash-completion/completions
 completed := slptool slpda slpcheck slpctl slpstat slp
