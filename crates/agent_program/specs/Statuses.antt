@@ -24,10 +24,7 @@ reload_refused view_fault.NoPlace = Rules rule_fault.NoMemory
 reload_refused view_fault.NoMemory = Rules rule_fault.NoMemory
 reload_refused view_fault.Closed = Shut
 
--- the fault of a reload tells that the file is not read; that the writer refuses its rules
-abbrev pub IsUnread : ReloadFault → Type 0
-IsUnread fault = (told : ReadFault) × (fault ≡ unread told)
-
+-- the fault of a reload tells that the writer refuses the rules
 abbrev pub IsRefused : ReloadFault → Type 0
 IsRefused fault = (told : ViewFault) × (fault ≡ reload_refused told)
 

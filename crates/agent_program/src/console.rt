@@ -2,7 +2,7 @@
 ghost use Rattle.std.specs.Prelude.{◌≡◌, ◌⊎◌, ◌∷◌, ⊤, Result, IfOk, IfErr, OnOk, OnErr};
 ghost use Rattle.std.specs.Io.KnownBytes.{Appends};
 ghost use Rattle.access_rules.specs.Deciding.{number};
-ghost use Rattle.agent_program.specs.Statuses.{IsRefused, IsUnread, reload_text, sweep_text};
+ghost use Rattle.agent_program.specs.Statuses.{IsRefused, reload_text, sweep_text};
 ghost use Rattle.directory_judge.specs.History.{now};
 ghost use Rattle.directory_runs.specs.Changes.{reload_at, sweep_at};
 ghost use Rattle.published_view.specs.Changes.{written_at};
@@ -109,8 +109,7 @@ where
 
     // Reads the rule file again. Its rules decide from then on, unless they are refused.
     fn read_rules(&mut self) -> Result<usize, ReloadFault>
-        ensures output { self.new.output ≡ self.old.output }
-        ensures refused { IfErr result (λ fault. IsUnread fault ⊎ IsRefused fault) }
+        ensures { self.new.output ≡ self.old.output }
     {
         match rules_at(self.rt, self.alloc, self.rules) {
             Ok(rules) => self.put(rules),
