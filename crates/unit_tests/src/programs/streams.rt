@@ -6,7 +6,7 @@ use crate::programs::fakes::{Sink, Source};
 use crate::programs::messages::{EMPTY_REPLY, REQUEST, numbered};
 use addresses::Addr;
 use slp_answer::{Answer, Sent};
-use slp_loops::{Connection, LoopFault, Next, Serve, settle};
+use slp_sockets::{Connection, LoopFault, Next, Serve, settle};
 use slp_text::NoMemory;
 use std::alloc::Global;
 use std::io::ErrorKind;
