@@ -4,7 +4,8 @@
 #![tactic(auto)]
 
 use agent_program::{Ends, agent_run, start_loops};
-use agent_scenes::{CONFIG, MeetingGate, PATIENT, Props, Scene, open_terminal, words_of};
+use agent_scenes::{CONFIG, Meeting, PATIENT, Props, Scene, open_terminal, words_of};
+use published_view::Gate;
 use std::alloc::Global;
 use std::io::{self, Read, Write};
 use std::net::Net;
@@ -16,6 +17,18 @@ use std::time::Clock;
 const END: &str = "---\n";
 
 const START: &str = "\nstart";
+
+// The gate of an agent with a meeting.
+#[derive(Drop)]
+struct MeetingGate<'x> {
+    meeting: &'x Meeting,
+}
+
+impl<'x> Gate for MeetingGate<'x> {
+    fn inside(&self, place: usize) {
+        self.meeting.hold(place);
+    }
+}
 
 // The scenes on standard input.
 fn scenes(rt: &HostRuntime) -> io::Result<String> {

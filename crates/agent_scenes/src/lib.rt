@@ -15,7 +15,7 @@ mod terminal;
 mod words;
 
 pub use handed::Handed;
-pub use meeting::MeetingGate;
+pub use meeting::Meeting;
 pub use props::Props;
 pub use scene::{CONFIG, PATIENT, Scene};
 pub use terminal::{Terminal, open_terminal};

@@ -1,5 +1,4 @@
 //! Two loops of an agent that are inside their entries at once.
-use published_view::Gate;
 use std::sync::atomic::{AtomicBool, Ordering};
 use std::thread;
 use std::time::{Clock, Duration};
@@ -56,8 +55,8 @@ impl Meeting {
         self.were_both_inside.load(Ordering::SeqCst)
     }
 
-    // Holds the first loop, once, where that was called for.
-    fn hold(&self, place: usize) {
+    /// Holds the first loop inside an entry, once, where that was called for.
+    pub fn hold(&self, place: usize) {
         if place != 0 || !self.is_called.swap(false, Ordering::SeqCst) {
             return;
         }
@@ -68,17 +67,5 @@ impl Meeting {
                 return;
             }
         }
-    }
-}
-
-/// The gate of an agent with a meeting.
-#[derive(Drop)]
-pub struct MeetingGate<'x> {
-    pub meeting: &'x Meeting,
-}
-
-impl<'x> Gate for MeetingGate<'x> {
-    fn inside(&self, place: usize) {
-        self.meeting.hold(place);
     }
 }
