@@ -42,7 +42,7 @@ impl<'r, 's, J: Naming, R: Wait + Clock> Sweeping<'r, 's, J, R> {
 
     // Sweeps where it is due. A sweep that is refused is left out: the next one drops the same and more.
     fn sweep(&mut self)
-        ensures { (moment : ℕ) × (self.new.sweeper ≡ timing_after self.old.sweeper moment) }
+        ensures { self.new.sweeper ≡ timing_after self.old.sweeper self.new.clock }
     {
         let now = self.clock.now();
         let _ = self.sweeper.turn(self.rt, now, self.writer);
