@@ -8,7 +8,7 @@
 # make install     puts the programs of bin/, tools and pages below prefix=/usr/local: seconds, once make build is done
 # make uninstall   takes away what make install put, and leaves /etc/slpda alone: seconds
 # make test        the gate, which proves and tries all from nothing: an hour or so, on 4 processors
-# make wrong       tries the wrong bodies beside the gate, or CRATE=slp_text those of one crate: 90 minutes, on 4 processors; needs python3
+# make wrong       tries the wrong bodies beside the gate, or CRATE=slp_text those of one crate: 90 minutes or more, on 4 processors; needs python3
 # make scripts     tries the tools of contrib/, make install and make/build over files and stand-ins alone, and compares pages with the code: seconds; needs python3
 # make bench       counts what a message costs, and measures the server: minutes, once make build is done; needs valgrind, python3, cc
 # make refusals    refuses each request for memory of the programs in turn: minutes, once make build is done; needs python3
