@@ -1,5 +1,5 @@
 -- How registrations and withdrawals are judged: the first step whose fault is there, else they are accepted (RFC 2608, sections 7, 9.3 and 10.6).
-use Rattle.std.specs.Prelude.{◌≡◌, ℕ, ◌≤◌, Bool, not, ◌==◌, ◌&&◌, ◌||◌, List, [], ◌∷◌, map, filter, find, length, slice_get, Option, Some, None, is_none, is_some, nat_le, unwrap_or, Result, Ok, Err, if◌then◌else◌, refl}
+use Rattle.std.specs.Prelude.{◌≡◌, ℕ, ◌≤◌, Bool, not, ◌==◌, ◌&&◌, ◌||◌, List, [], ◌∷◌, ◌++◌, codes, map, filter, find, length, slice_get, Option, Some, None, is_none, is_some, nat_le, unwrap_or, Result, Ok, Err, if◌then◌else◌, refl}
 use Rattle.std.specs.Coded as coded
 use Rattle.std.specs.Coded.{Coded, coded×, coded_ℕ}
 use Rattle.std.specs.Option.{option_copied, option_or, option_map, option_map_or}
@@ -114,6 +114,24 @@ code_by decider.Attributes = PARSE_ERROR
 code_by decider.Update = INVALID_UPDATE
 code_by decider.Template = INVALID_REGISTRATION
 code_by decider.Full = DIRECTORY_BUSY
+
+-- what a line calls who decided, with the name of the rule
+abbrev pub decider_text : List ℕ → Decider → List ℕ
+decider_text name (decider.Rule index) = codes "rule:" ++ name
+decider_text name decider.Default = codes "default"
+decider_text name decider.Nobody = codes "none"
+decider_text name decider.Memory = codes "memory"
+decider_text name decider.Version = codes "version"
+decider_text name decider.Parse = codes "parse"
+decider_text name decider.Auth = codes "auth"
+decider_text name decider.Option = codes "option"
+decider_text name decider.Scope = codes "scope"
+decider_text name decider.Language = codes "language"
+decider_text name decider.Registration = codes "registration"
+decider_text name decider.Attributes = codes "attributes"
+decider_text name decider.Update = codes "update"
+decider_text name decider.Template = codes "template"
+decider_text name decider.Full = codes "full"
 
 -- a denial, by who decided on what
 abbrev pub denial : Because → Judgement

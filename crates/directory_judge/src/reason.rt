@@ -1,6 +1,6 @@
-ghost use Rattle.std.specs.Prelude.{◌≡◌, false, true, IfOk};
+ghost use Rattle.std.specs.Prelude.{◌≡◌, ◌++◌, false, true, IfOk};
 ghost use Rattle.std.specs.Option.{option_copied};
-ghost use Rattle.directory_judge.specs.Judgements.{because_of, because_on, by_step, code_by, finding_code};
+ghost use Rattle.directory_judge.specs.Judgements.{because_of, because_on, by_step, code_by, decider_text, finding_code};
 
 use access_rules::Verdict;
 use service_url::ServiceType;
@@ -46,6 +46,30 @@ impl Decider {
             Decider::Full => code::DIRECTORY_BUSY,
             Decider::Option => code::OPTION_NOT_UNDERSTOOD,
             Decider::Update => code::INVALID_UPDATE,
+        }
+    }
+
+    /// What a line of the log calls it: a word, and the name of the rule, where one decided.
+    #[inline]
+    pub fn words(self, rule: &str) -> (&'static str, &str)
+        ensures { result.0.now ++ result.1.now ≡ decider_text rule.now self }
+    {
+        match self {
+            Decider::Rule(_) => ("rule:", rule),
+            Decider::Default => ("default", ""),
+            Decider::Nobody => ("none", ""),
+            Decider::Memory => ("memory", ""),
+            Decider::Version => ("version", ""),
+            Decider::Parse => ("parse", ""),
+            Decider::Auth => ("auth", ""),
+            Decider::Option => ("option", ""),
+            Decider::Scope => ("scope", ""),
+            Decider::Language => ("language", ""),
+            Decider::Registration => ("registration", ""),
+            Decider::Attributes => ("attributes", ""),
+            Decider::Update => ("update", ""),
+            Decider::Template => ("template", ""),
+            Decider::Full => ("full", ""),
         }
     }
 }

@@ -38,7 +38,7 @@ use Rattle.srv_template.specs.Conformity.{template_fault}
 use Rattle.registry_core.specs.declared.entry.Entry.{Entry}
 use Rattle.registry_core.specs.Entries.{Pair, is_of_url}
 use Rattle.directory_judge.specs.History.{Event, History}
-use Rattle.directory_judge.specs.Judgements.{Grounds, Judgement, Accepts, Ignores, Waits, Denies, act_of, allowance, by_rule, by_step, code_by, concerned_entries, denial, denial_by, denial_in, denial_of_kept, denial_of_live, denial_of_new, denial_of_old, denial_of_room, denial_of_scopes, denial_of_template, denial_of_update, entries_in, first_of, is_denied, is_kept, judgement, judgement_in_scopes, judgement_of_entries, judgement_of_particulars, judgement_of_reading, judgement_of_tagged, judgement_of_tags, judgement_of_texts, judgement_of_url, pair_in, particulars, particulars_of_texts, release, removal_event, resulting_attributes, supports, withdrawal_event}
+use Rattle.directory_judge.specs.Judgements.{Grounds, Judgement, Accepts, Ignores, Waits, Denies, act_of, allowance, by_rule, by_step, code_by, concerned_entries, decider_text, denial, denial_by, denial_in, denial_of_kept, denial_of_live, denial_of_new, denial_of_old, denial_of_room, denial_of_scopes, denial_of_template, denial_of_update, entries_in, first_of, is_denied, is_kept, judgement, judgement_in_scopes, judgement_of_entries, judgement_of_particulars, judgement_of_reading, judgement_of_tagged, judgement_of_tags, judgement_of_texts, judgement_of_url, pair_in, particulars, particulars_of_texts, release, removal_event, resulting_attributes, supports, withdrawal_event}
 use Rattle.directory_judge.specs.Meaning.{rules}
 use Rattle.directory_judge.specs.Sites.{Site}
 use Rattle.directory_judge.specs.declared.particulars.Particulars.{Particulars}
@@ -55,7 +55,7 @@ use Rattle.directory_questions.specs.Verdicts.{grounds}
 use Rattle.directory_questions.specs.declared.question.Question.{Question}
 use Rattle.directory_questions.specs.declared.question.Question.TheVariants as question
 use Rattle.slp_replies.specs.Tellings.{audit_in}
-use Rattle.slp_replies.specs.Audits.{action_text, audit_text, decider_text, line_text, rule_named, tail_text}
+use Rattle.slp_replies.specs.Audits.{action_text, audit_text, line_text, rule_named, tail_text}
 use Rattle.slp_replies.specs.declared.copies.Audit.{Audit}
 use Rattle.directory_runs.specs.Promises.{DenialsAreKept, IsDenial, IsRuledOut, answering_function, asks_for_agents, is_for_agents}
 
@@ -70,19 +70,7 @@ record IsAccounted (rs : SiteRules) (asker : ℕ) (did : Action) (because : Beca
 abbrev IsStep : Decider → Type 0
 IsStep (decider.Rule index) = ⊥
 IsStep decider.Default = ⊥
-IsStep decider.Nobody = Unit {0}
-IsStep decider.Memory = Unit {0}
-IsStep decider.Version = Unit {0}
-IsStep decider.Parse = Unit {0}
-IsStep decider.Auth = Unit {0}
-IsStep decider.Option = Unit {0}
-IsStep decider.Scope = Unit {0}
-IsStep decider.Language = Unit {0}
-IsStep decider.Registration = Unit {0}
-IsStep decider.Attributes = Unit {0}
-IsStep decider.Update = Unit {0}
-IsStep decider.Template = Unit {0}
-IsStep decider.Full = Unit {0}
+IsStep _ = Unit {0}
 
 step_accounted : (rs : SiteRules) (asker : ℕ) (did : Action) (because : Because) → IsStep because.decider → IsAccounted rs asker did because
 step_accounted rs asker did because step = record { by_rule = λ index is. absurd (subst IsStep is step); by_default = λ is. absurd (subst IsStep is step) }

@@ -13,7 +13,7 @@ use Rattle.attr_list.specs.Lists.{Attributes}
 use Rattle.access_rules.specs.Deciding.{SiteRules, deciding, deed}
 use Rattle.access_rules.specs.declared.rule.Action.{Action}
 use Rattle.directory_judge.specs.History.{Event, History}
-use Rattle.directory_judge.specs.Judgements.{code_by, decider_of}
+use Rattle.directory_judge.specs.Judgements.{code_by, decider_of, decider_text}
 use Rattle.directory_judge.specs.Meaning.{rules}
 use Rattle.directory_judge.specs.declared.reason.Because.{Because}
 use Rattle.directory_judge.specs.declared.reason.Decider.TheVariants as decider
@@ -28,7 +28,7 @@ use Rattle.directory_questions.specs.declared.question.Question.{Question}
 use Rattle.directory_questions.specs.declared.question.Question.TheVariants.{Silent, Unreadable, Agents}
 use Rattle.directory_questions.specs.declared.question.Question.TheVariants as question
 use Rattle.slp_replies.specs.Tellings.{line_of}
-use Rattle.slp_replies.specs.Audits.{decider_text, rule_named}
+use Rattle.slp_replies.specs.Audits.{rule_named}
 use Rattle.history_log.specs.Pasts.{IsPast}
 use Rattle.directory_runs.specs.Allowing.{IsAllowed}
 use Rattle.directory_runs.specs.Runs.{Happening, Publish, Sweep, Reload, Entry, Look, Tell, Learn, Refusal, Run, World, happened, world}

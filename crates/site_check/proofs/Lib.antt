@@ -1,5 +1,4 @@
 pub mod HiddenRules
-pub mod Readings
 pub mod Sites
 pub mod Stops
 pub mod TableKeys

@@ -5,97 +5,35 @@ ghost use Rattle.toml.specs.Errors.{IsMemory, span_start};
 ghost use Rattle.toml.specs.View.{table_view, view};
 ghost use Rattle.toml_tables.specs.Tables as tables;
 ghost use Rattle.site_config.specs.Tables.{members_in};
-ghost use Rattle.site_check.specs.ConfigFaults.{IsKeyFault, config_lines, config_table_lines, key_fault, key_line, key_refusal, key_text, unknown_line};
+ghost use Rattle.site_check.specs.ConfigFaults.{config_lines, config_table_lines, key_line, unknown_line};
 ghost use Rattle.site_check.specs.NotToml.{AppendsStopped, Stop, not_toml_line};
 
 use crate::fault::CheckFault;
 use crate::problem::{FileText, LONGEST_TEXT, Place, Problem, line_at, report};
-use site_config::{ConfigFault, keys};
+use site_config::{CONFIG_KEYS, ConfigFault, ConfigKey, keys};
 use std::alloc::Global;
 use std::io::{self, Write};
 use toml::{Table, Value};
 
-/// A key of a configuration.
-#[derive(Clone, Copy)]
-enum ConfigKey {
-    Scopes,
-    Listen,
-    Capacity,
-    Connections,
-    Sweep,
-    Rules,
-    Templates,
-}
-
-const CONFIG_KEYS: [ConfigKey; 7] = [
-    ConfigKey::Scopes,
-    ConfigKey::Listen,
-    ConfigKey::Capacity,
-    ConfigKey::Connections,
-    ConfigKey::Sweep,
-    ConfigKey::Rules,
-    ConfigKey::Templates,
-];
-
-impl ConfigKey {
-    // What the key is called, and what a value that is refused is not.
-    fn texts(self) -> (&'static str, &'static str)
-        ensures text { result.0.now ≡ key_text self }
-        ensures refusal { result.1.now ≡ key_refusal self }
-    {
-        match self {
-            ConfigKey::Scopes => (
-                "scopes",
-                "not a list of 1 to 16 scopes in at most 1024 bytes",
-            ),
-            ConfigKey::Listen => (
-                "listen",
-                "not an array of 1 to 8 distinct texts \"a.b.c.d:port\"",
-            ),
-            ConfigKey::Capacity => ("capacity", "not within 1 to 65536"),
-            ConfigKey::Connections => ("connections", "not within 1 to 256"),
-            ConfigKey::Sweep => ("sweep", "not within 1 to 3600"),
-            ConfigKey::Rules => ("rules", "not the path of a file"),
-            ConfigKey::Templates => ("templates", "not an array of at most 256 paths"),
-        }
-    }
-
-    // Why the value of the key is refused.
-    #[tactic(auto, using(crate::proofs::Readings::fault_read))]
-    fn fault(self, alloc: Global, table: &Value) -> Option<ConfigFault>
-        ensures { IsKeyFault result (key_fault self (members_in (view table.now))) }
-    {
-        match self {
-            ConfigKey::Scopes => keys::scopes(alloc, table).err(),
-            ConfigKey::Listen => keys::listen(alloc, table).err(),
-            ConfigKey::Capacity => keys::capacity(table).err(),
-            ConfigKey::Connections => keys::number(table, "connections", 64, 256).err(),
-            ConfigKey::Sweep => keys::number(table, "sweep", 60, 3_600).err(),
-            ConfigKey::Rules => keys::rules(alloc, table).err(),
-            ConfigKey::Templates => keys::templates(alloc, table).err(),
-        }
-    }
-
-    // Writes what is wrong with the value of the key, if anything is.
-    fn explain<W: Write>(
-        self,
-        alloc: Global,
-        file: &str,
-        table: &Value,
-        writer: &mut W,
-    ) -> Result<(), CheckFault>
-        ensures { OnOk result (Appends (W.contents writer.old) (W.contents writer.new) (key_line file.now (members_in (view table.now)) self)) }
-    {
-        let (text, refusal) = self.texts();
-        let problem = match self.fault(alloc, table) {
-            None => return Ok(()),
-            Some(ConfigFault::NoMemory) => return Err(CheckFault::NoMemory),
-            Some(ConfigFault::Missing) => Problem::Missing(text),
-            Some(ConfigFault::Range | ConfigFault::Toml) => Problem::Value(text, refusal),
-        };
-        report(Place::File(file), problem, writer)?;
-        Ok(())
-    }
+// Writes what is wrong with the value of a key, if anything is.
+fn explain_key<W: Write>(
+    alloc: Global,
+    file: &str,
+    key: ConfigKey,
+    table: &Value,
+    writer: &mut W,
+) -> Result<(), CheckFault>
+    ensures { OnOk result (Appends (W.contents writer.old) (W.contents writer.new) (key_line file.now (members_in (view table.now)) key)) }
+{
+    let (text, refusal) = key.texts();
+    let problem = match key.fault(alloc, table) {
+        None => return Ok(()),
+        Some(ConfigFault::NoMemory) => return Err(CheckFault::NoMemory),
+        Some(ConfigFault::Missing) => Problem::Missing(text),
+        Some(ConfigFault::Range | ConfigFault::Toml) => Problem::Value(text, refusal),
+    };
+    report(Place::File(file), problem, writer)?;
+    Ok(())
 }
 
 // Writes what is wrong with the values of some keys.
@@ -109,7 +47,7 @@ fn explain_keys<W: Write>(
     ensures { OnOk result (Appends (W.contents writer.old) (W.contents writer.new) (flat_map (key_line file.now (members_in (view table.now))) keys.now)) }
 {
     for key in keys {
-        key.explain(alloc, file, table, writer)?;
+        explain_key(alloc, file, *key, table, writer)?;
     }
     Ok(())
 }

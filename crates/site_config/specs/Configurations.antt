@@ -2,6 +2,7 @@
 use Rattle.std.specs.Prelude.{◌≡◌, ℕ, ◌≤◌, Bool, true, not, ◌==◌, ◌&&◌, nat_le, nat_lt, List, [], ◌∷◌, length, codes, Option, Some, None, Result, Ok, Err, if◌then◌else◌, option_and_then}
 use Rattle.std.specs.List.{list_all, list_any}
 use Rattle.std.specs.Option.{option_map_or}
+use Rattle.std.specs.Result.{result_err}
 use Rattle.toml.specs.Data.{Data, as_str, Members, get_member}
 use Rattle.toml.specs.Parse.{parse_document}
 use Rattle.slp_text.specs.Reading.{read_then}
@@ -10,6 +11,8 @@ use Rattle.slp_text.specs.Words.{bytes_eq}
 use Rattle.slp_text.specs.declared.faults.TextFault.{TextFault}
 use Rattle.addresses.specs.Addresses.{socket_of}
 use Rattle.toml_tables.specs.Tables.{if_where, number_in, array_in, keys_of}
+use Rattle.site_config.specs.declared.keys.ConfigKey.{ConfigKey}
+use Rattle.site_config.specs.declared.keys.ConfigKey.TheVariants.{Scopes, Listen, Capacity, Connections, Sweep, Rules, Templates}
 use Rattle.site_config.specs.declared.config.Config.{Config}
 use Rattle.site_config.specs.declared.fault.ConfigFault.{ConfigFault}
 use Rattle.site_config.specs.declared.fault.ConfigFault.TheVariants.{Toml, Missing, Range, NoMemory}
@@ -100,13 +103,22 @@ is_known key =
 abbrev pub config_alone : Members → Config → Result Config ConfigFault
 config_alone table config = if list_all is_known (keys_of table) then Ok config else Err Range
 
+abbrev pub capacity_in : Members → Result ℕ ConfigFault
+capacity_in = needed_value (number_in 1 65536) capacity_key
+
+abbrev pub connections_in : Members → Result ℕ ConfigFault
+connections_in = optional_value (number_in 1 256) connections_key 64
+
+abbrev pub sweep_in : Members → Result ℕ ConfigFault
+sweep_in = optional_value (number_in 1 3600) sweep_key 60
+
 -- the capacity, the connections and the sweep, asked in this order
 abbrev pub numbers_in : Members → Result (ℕ × ℕ × ℕ) ConfigFault
 numbers_in table =
     read_then (λ capacity. read_then (λ connections. read_then (λ sweep. Ok (capacity, connections, sweep))
-    (optional_value (number_in 1 3600) sweep_key 60 table))
-    (optional_value (number_in 1 256) connections_key 64 table))
-    (needed_value (number_in 1 65536) capacity_key table)
+    (sweep_in table))
+    (connections_in table))
+    (capacity_in table)
 
 -- the rules and the templates, asked in this order
 abbrev pub paths_in : Members → Result (Option (List ℕ) × List (List ℕ)) ConfigFault
@@ -159,3 +171,47 @@ pub record IsWithin (c : Config) : Type 0 where
   pub some_second : 1 ≤ c.sweep
   pub few_seconds : c.sweep ≤ 3600
   pub few_templates : length c.templates ≤ 256
+
+-- ---- a key by itself
+
+-- all, in the order in which they are asked
+abbrev pub config_keys : List ConfigKey
+config_keys = Scopes ∷ Listen ∷ Capacity ∷ Connections ∷ Sweep ∷ Rules ∷ Templates ∷ []
+
+-- what it is called
+abbrev pub key_text : ConfigKey → List ℕ
+key_text Scopes = scopes_key
+key_text Listen = listen_key
+key_text Capacity = capacity_key
+key_text Connections = connections_key
+key_text Sweep = sweep_key
+key_text Rules = rules_key
+key_text Templates = templates_key
+
+-- what a value that is refused is not
+abbrev pub key_refusal : ConfigKey → List ℕ
+key_refusal Scopes = codes "not a list of 1 to 16 scopes in at most 1024 bytes"
+key_refusal Listen = codes "not an array of 1 to 8 distinct texts \"a.b.c.d:port\""
+key_refusal Capacity = codes "not within 1 to 65536"
+key_refusal Connections = codes "not within 1 to 256"
+key_refusal Sweep = codes "not within 1 to 3600"
+key_refusal Rules = codes "not the path of a file"
+key_refusal Templates = codes "not an array of at most 256 paths"
+
+-- why what stands at the key is refused, if it is
+abbrev pub key_fault : ConfigKey → Members → Option ConfigFault
+key_fault Scopes table = result_err (needed_value scopes_in scopes_key table)
+key_fault Listen table = result_err (needed_value listen_in listen_key table)
+key_fault Capacity table = result_err (capacity_in table)
+key_fault Connections table = result_err (connections_in table)
+key_fault Sweep table = result_err (sweep_in table)
+key_fault Rules table = result_err (optional_value path_in rules_key None table)
+key_fault Templates table = result_err (optional_value templates_in templates_key [] table)
+
+-- that fault, unless memory ran out
+abbrev pub IsKeyFault : Option ConfigFault → Option ConfigFault → Type 0
+IsKeyFault None told = told ≡ None
+IsKeyFault (Some NoMemory) told = Unit {0}
+IsKeyFault (Some Toml) told = told ≡ Some Toml
+IsKeyFault (Some Missing) told = told ≡ Some Missing
+IsKeyFault (Some Range) told = told ≡ Some Range

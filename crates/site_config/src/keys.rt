@@ -1,11 +1,11 @@
-//! The keys of a configuration, and what stands at each. It is public for who has to say which key is at fault.
+//! The keys of a configuration: what each is called, what stands at it, and what is said of a value that is refused.
 ghost use Rattle.std.specs.Prelude.{◌≡◌, ◌≤◌, None, [], length, string_bytes, IfOk, IsTrue};
 ghost use Rattle.std.specs.BTreeMap.{keys};
 ghost use Rattle.std.specs.List.{list_all};
 ghost use Rattle.toml.specs.View.{view};
 ghost use Rattle.toml_tables.specs.Tables.{number_in, keys_of};
 ghost use Rattle.site_config.specs.Configurations as spec;
-ghost use Rattle.site_config.specs.Configurations.{scopes_key, listen_key, capacity_key, rules_key, templates_key, are_site_scopes, scopes_in, are_listening, listen_in, path_in, templates_in, needed_value, optional_value, numbers_in, paths_in, IsReading};
+ghost use Rattle.site_config.specs.Configurations.{scopes_key, listen_key, rules_key, templates_key, capacity_in, connections_in, sweep_in, are_site_scopes, scopes_in, are_listening, listen_in, path_in, templates_in, key_text, key_refusal, key_fault, needed_value, optional_value, numbers_in, paths_in, IsKeyFault, IsReading};
 ghost use Rattle.site_config.specs.Tables.{members_in};
 
 use crate::fault::ConfigFault;
@@ -15,6 +15,69 @@ use slp_scopes::ScopeList;
 use slp_text::{Row, Text};
 use std::alloc::Global;
 use toml::{Table, Value};
+
+/// A key of a configuration.
+#[derive(Clone, Copy)]
+pub enum ConfigKey {
+    Scopes,
+    Listen,
+    Capacity,
+    Connections,
+    Sweep,
+    Rules,
+    Templates,
+}
+
+/// All keys, in the order in which they are asked.
+pub const CONFIG_KEYS: [ConfigKey; 7] = [
+    ConfigKey::Scopes,
+    ConfigKey::Listen,
+    ConfigKey::Capacity,
+    ConfigKey::Connections,
+    ConfigKey::Sweep,
+    ConfigKey::Rules,
+    ConfigKey::Templates,
+];
+
+impl ConfigKey {
+    /// What the key is called, and what a value that is refused is not.
+    pub fn texts(self) -> (&'static str, &'static str)
+        ensures text { result.0.now ≡ key_text self }
+        ensures refusal { result.1.now ≡ key_refusal self }
+    {
+        match self {
+            ConfigKey::Scopes => (
+                "scopes",
+                "not a list of 1 to 16 scopes in at most 1024 bytes",
+            ),
+            ConfigKey::Listen => (
+                "listen",
+                "not an array of 1 to 8 distinct texts \"a.b.c.d:port\"",
+            ),
+            ConfigKey::Capacity => ("capacity", "not within 1 to 65536"),
+            ConfigKey::Connections => ("connections", "not within 1 to 256"),
+            ConfigKey::Sweep => ("sweep", "not within 1 to 3600"),
+            ConfigKey::Rules => ("rules", "not the path of a file"),
+            ConfigKey::Templates => ("templates", "not an array of at most 256 paths"),
+        }
+    }
+
+    /// Why the value at the key is refused, if it is.
+    #[tactic(auto, using(crate::proofs::Readings::fault_read))]
+    pub fn fault(self, alloc: Global, table: &Value) -> Option<ConfigFault>
+        ensures { IsKeyFault result (key_fault self (members_in (view table.now))) }
+    {
+        match self {
+            ConfigKey::Scopes => scopes(alloc, table).err(),
+            ConfigKey::Listen => listen(alloc, table).err(),
+            ConfigKey::Capacity => capacity(table).err(),
+            ConfigKey::Connections => connections(table).err(),
+            ConfigKey::Sweep => sweep(table).err(),
+            ConfigKey::Rules => rules(alloc, table).err(),
+            ConfigKey::Templates => templates(alloc, table).err(),
+        }
+    }
+}
 
 /// The scopes.
 pub fn scopes(alloc: Global, table: &Value) -> Result<ScopeList, ConfigFault>
@@ -40,7 +103,7 @@ pub fn listen(alloc: Global, table: &Value) -> Result<Row<(Addr, u16)>, ConfigFa
 
 /// The capacity.
 pub fn capacity(table: &Value) -> Result<u32, ConfigFault>
-    ensures value { result ≡ needed_value (number_in 1 65536) capacity_key (members_in (view table.now)) }
+    ensures value { result ≡ capacity_in (members_in (view table.now)) }
     ensures low { IfOk result (λ n. 1 ≤ n) }
     ensures high { IfOk result (λ n. n ≤ 65536) }
 {
@@ -50,8 +113,8 @@ pub fn capacity(table: &Value) -> Result<u32, ConfigFault>
     }
 }
 
-/// The number from 1 to `high` at a key, or the usual one where the key is missing.
-pub fn number(table: &Value, key: &str, usual: u32, high: u32) -> Result<u32, ConfigFault>
+// The number from 1 to `high` at a key, or the usual one where the key is missing.
+fn number(table: &Value, key: &str, usual: u32, high: u32) -> Result<u32, ConfigFault>
     requires low { 1 ≤ usual }
     requires high { usual ≤ high }
     ensures value { result ≡ optional_value (number_in 1 high) key.now usual (members_in (view table.now)) }
@@ -64,6 +127,24 @@ pub fn number(table: &Value, key: &str, usual: u32, high: u32) -> Result<u32, Co
     }
 }
 
+/// The connections of a loop.
+pub fn connections(table: &Value) -> Result<u32, ConfigFault>
+    ensures value { result ≡ connections_in (members_in (view table.now)) }
+    ensures low { IfOk result (λ n. 1 ≤ n) }
+    ensures high { IfOk result (λ n. n ≤ 256) }
+{
+    number(table, "connections", 64, 256)
+}
+
+/// The seconds between two sweeps.
+pub fn sweep(table: &Value) -> Result<u32, ConfigFault>
+    ensures value { result ≡ sweep_in (members_in (view table.now)) }
+    ensures low { IfOk result (λ n. 1 ≤ n) }
+    ensures high { IfOk result (λ n. n ≤ 3600) }
+{
+    number(table, "sweep", 60, 3_600)
+}
+
 /// The capacity, the connections and the sweep.
 #[tactic(auto, using(crate::proofs::Readings::fault_first))]
 pub fn numbers(table: &Value) -> Result<(u32, u32, u32), ConfigFault>
@@ -73,8 +154,8 @@ pub fn numbers(table: &Value) -> Result<(u32, u32, u32), ConfigFault>
     ensures sweep { IfOk result (λ n. (1 ≤ n.2) × (n.2 ≤ 3600)) }
 {
     let capacity = capacity(table)?;
-    let connections = number(table, "connections", 64, 256)?;
-    let sweep = number(table, "sweep", 60, 3_600)?;
+    let connections = connections(table)?;
+    let sweep = sweep(table)?;
     Ok((capacity, connections, sweep))
 }
 

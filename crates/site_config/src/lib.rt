@@ -9,3 +9,4 @@ mod values;
 
 pub use config::{Config, LONGEST_CONFIG};
 pub use fault::ConfigFault;
+pub use keys::{CONFIG_KEYS, ConfigKey};

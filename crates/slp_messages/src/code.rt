@@ -1,4 +1,6 @@
 //! The codes of replies, by their numbers (RFC 2608, section 7).
+ghost use Rattle.std.specs.Prelude.{◌≡◌};
+ghost use Rattle.slp_messages.specs.declared.code.TheConstants as code;
 
 /// Nothing speaks against it.
 pub const OK: u16 = 0;
@@ -22,3 +24,10 @@ pub const DIRECTORY_BUSY: u16 = 11;
 pub const OPTION_NOT_UNDERSTOOD: u16 = 12;
 /// An update does not fit what is registered.
 pub const INVALID_UPDATE: u16 = 13;
+
+/// A law: no constant above can be another number than the protocol's.
+pub fn codes_are_numbered()
+    ensures { (code.OK ≡ 0) × (code.LANGUAGE_NOT_SUPPORTED ≡ 1) × (code.PARSE_ERROR ≡ 2) × (code.INVALID_REGISTRATION ≡ 3)
+        × (code.SCOPE_NOT_SUPPORTED ≡ 4) × (code.AUTHENTICATION_UNKNOWN ≡ 5) × (code.VERSION_NOT_SUPPORTED ≡ 9) × (code.INTERNAL_ERROR ≡ 10)
+        × (code.DIRECTORY_BUSY ≡ 11) × (code.OPTION_NOT_UNDERSTOOD ≡ 12) × (code.INVALID_UPDATE ≡ 13) }
+{}

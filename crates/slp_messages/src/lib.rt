@@ -6,7 +6,6 @@ pub mod code;
 pub mod function;
 mod header;
 mod kind;
-pub mod laws;
 mod message;
 mod views;
 

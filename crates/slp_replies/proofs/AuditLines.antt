@@ -5,7 +5,8 @@ use Rattle.std.specs.Fmt.{decimal, digits}
 use Rattle.std.proofs.lemmas.Bool.Decides.{nat_tests}
 use Rattle.std.proofs.lemmas.List.{length-append}
 use Rattle.addresses.specs.Addresses.{address_text}
-use Rattle.slp_replies.specs.Audits.{line_text, head_text, tail_text, beginning_text, decider_text, action_text, text_or_dash, ending_text}
+use Rattle.directory_judge.specs.Judgements.{decider_text}
+use Rattle.slp_replies.specs.Audits.{line_text, head_text, tail_text, beginning_text, action_text, text_or_dash, ending_text}
 use Rattle.slp_replies.specs.declared.copies.Audit.{Audit}
 use Rattle.slp_text.specs.Ascii.{backslash, digit_zero, dot}
 use Rattle.slp_text.specs.Escapes.{is_reserved, capital_digit, written_character}

@@ -9,10 +9,9 @@ use Rattle.access_rules.specs.declared.rule.Action.{Action}
 use Rattle.access_rules.specs.declared.rule.Action.TheVariants.{Register, Withdraw, See}
 use Rattle.addresses.specs.Addresses.{address_text}
 use Rattle.access_rules.specs.Deciding.{SiteRules, rules_in}
-use Rattle.directory_judge.specs.Judgements.{because_of}
+use Rattle.directory_judge.specs.Judgements.{because_of, decider_text}
 use Rattle.directory_judge.specs.declared.reason.Decider.{Decider}
-use Rattle.directory_judge.specs.declared.reason.Decider.TheVariants.{Rule, Default, Nobody, Memory, Version, Parse, Auth, Language, Registration, Attributes, Update, Template, Full}
-use Rattle.directory_judge.specs.declared.reason.Decider.TheVariants as decider
+use Rattle.directory_judge.specs.declared.reason.Decider.TheVariants.{Rule}
 use Rattle.slp_replies.specs.declared.copies.Audit.{Audit}
 use Rattle.slp_replies.specs.declared.audit.AuditView.{AuditView}
 
@@ -24,24 +23,6 @@ name_at rules index = option_map_or (λ r. r.name) (slice_get (rules_in rules) i
 abbrev pub rule_named : SiteRules → Decider → List ℕ
 rule_named rules (Rule index) = name_at rules index
 rule_named rules _ = []
-
--- who decided, with the name of the rule
-abbrev pub decider_text : List ℕ → Decider → List ℕ
-decider_text name (Rule index) = codes "rule:" ++ name
-decider_text name Default = codes "default"
-decider_text name Nobody = codes "none"
-decider_text name Memory = codes "memory"
-decider_text name Version = codes "version"
-decider_text name Parse = codes "parse"
-decider_text name Auth = codes "auth"
-decider_text name decider.Option = codes "option"
-decider_text name decider.Scope = codes "scope"
-decider_text name Language = codes "language"
-decider_text name Registration = codes "registration"
-decider_text name Attributes = codes "attributes"
-decider_text name Update = codes "update"
-decider_text name Template = codes "template"
-decider_text name Full = codes "full"
 
 abbrev pub action_text : Action → List ℕ
 action_text Register = codes "register"

@@ -2,7 +2,8 @@ ghost use Rattle.std.specs.Prelude.{◌≡◌, ◌≤◌, ◌+◌, [], ◌++◌,
 ghost use Rattle.std.specs.Fmt.{decimal};
 ghost use Rattle.std.specs.Option.{option_copied};
 ghost use Rattle.addresses.specs.Addresses.{address_text};
-ghost use Rattle.slp_replies.specs.Audits.{action_text, audit_of, decider_text, rule_named, text_or_dash, beginning_text, ending_text, head_text, tail_text, line_text, audit_text};
+ghost use Rattle.directory_judge.specs.Judgements.{decider_text};
+ghost use Rattle.slp_replies.specs.Audits.{action_text, audit_of, rule_named, text_or_dash, beginning_text, ending_text, head_text, tail_text, line_text, audit_text};
 ghost use Rattle.slp_text.specs.Ascii.{dot};
 ghost use Rattle.slp_text.specs.Escapes.{written_character, escaped_text};
 ghost use Rattle.slp_text.specs.declared.escapes.Place.TheVariants.{Scope};
@@ -145,34 +146,12 @@ fn put_beginning<S: Sink>(sink: &mut S, code: u16) -> Result<(), NoMemory>
 }
 
 // Who decided: a word, and the name of the rule.
-fn decider_words<'a>(rule: &'a str, decider: Decider) -> (&'static str, &'a str)
-    ensures { result.0.now ++ result.1.now ≡ decider_text rule.now decider }
-{
-    match decider {
-        Decider::Rule(_) => ("rule:", rule),
-        Decider::Default => ("default", ""),
-        Decider::Nobody => ("none", ""),
-        Decider::Memory => ("memory", ""),
-        Decider::Version => ("version", ""),
-        Decider::Parse => ("parse", ""),
-        Decider::Auth => ("auth", ""),
-        Decider::Option => ("option", ""),
-        Decider::Scope => ("scope", ""),
-        Decider::Language => ("language", ""),
-        Decider::Registration => ("registration", ""),
-        Decider::Attributes => ("attributes", ""),
-        Decider::Update => ("update", ""),
-        Decider::Template => ("template", ""),
-        Decider::Full => ("full", ""),
-    }
-}
-
 fn put_decider<S: Sink>(sink: &mut S, rule: &str, decider: Decider) -> Result<(), NoMemory>
     ensures ok { OnOk result (S.written sink.new ≡ S.written sink.old ++ decider_text rule.now decider) }
     ensures room { OnOk result (S.room sink.old ≤ S.room sink.new + length (decider_text rule.now decider)) }
     ensures err { OnErr result (S.room sink.old ≤ length (decider_text rule.now decider)) }
 {
-    let (word, name) = decider_words(rule, decider);
+    let (word, name) = decider.words(rule);
     sink.put(word)?;
     sink.put(name)
 }

@@ -2,7 +2,8 @@ use Rattle.std.proofs.Common.{◌≡◌, ◌≤◌, ◌++◌, length, ap, subst,
 use Rattle.std.specs.Prelude.{OnOk}
 use Rattle.std.proofs.lemmas.Result.{on_err_weaker, on_ok_weaker}
 use Rattle.slp_replies.proofs.AuditLines.{head_is_written, head_length, on_err}
-use Rattle.slp_replies.specs.Audits.{audit_of, beginning_text, decider_text, head_text}
+use Rattle.directory_judge.specs.Judgements.{decider_text}
+use Rattle.slp_replies.specs.Audits.{audit_of, beginning_text, head_text}
 use Rattle.slp_replies.proofs.audit.put_head.Goals as goal
 
 pub returns-in_err-put_beginning-clause-err : goal.returns-in_err-put_beginning-clause-err
