@@ -4,13 +4,13 @@ use Rattle.std.proofs.lemmas.List.{append-nil, map-append, length-map, map_more,
 use Rattle.std.proofs.lemmas.Grind.{flat_map-append}
 use Rattle.std.specs.declared.io.Error.{Error}
 use Rattle.slp_sockets.specs.Exchanging.{back, datagram, datagrams, dues, all_dues, Stopped}
-use Rattle.slp_sockets.specs.Ports.{Datagram, Happening, Came, Paused, Left, Ports, Runs, ServedFor, AreAnswered, IsRound, Serves, Says, GoOnTo, IsThrough, asker_of, owed, pausing, in_all, is_over, effort}
+use Rattle.slp_sockets.specs.Ports.{Datagram, Happening, Came, Paused, Left, Ports, Runs, ServedFor, AreAnswered, IsRound, Says, IsThrough, asker_of, owed, pausing}
 use Rattle.slp_sockets.specs.Serving.{Steps, Settles}
 use Rattle.slp_sockets.specs.declared.exchange.Exchange.{Exchange}
 use Rattle.slp_sockets.specs.declared.exchange.Rest.{Rest}
 use Rattle.slp_sockets.specs.declared.exchange.Rest.TheVariants.{Nothing, More, Later}
 use Rattle.slp_sockets.specs.declared.fault.LoopFault.{LoopFault}
-use Rattle.slp_sockets.proofs.Ports.{runs_on, runs_one, answered_on, answered_one, serves_more, in_more, through, paused_later, effort_on, go_on}
+use Rattle.slp_sockets.proofs.Ports.{runs_on, runs_one, answered_on, answered_one, through}
 
 module _ {P : Type 0} (may : Ports P) (es : List Exchange) (i : ℕ) (lt : i < length es) where
   came_more : (y : Exchange) → map Came (datagrams (take (i + 1) (set es i y))) ≡ map Came (datagrams (take i es)) ++ Came (datagram y) ∷ []
@@ -114,53 +114,3 @@ module _ {P S : Type 0} (may : Ports P) (steps : Steps S) (settles : Settles S) 
     },
     through (datagrams (take count es)) count (length es) told pause ds (length-map (take count es) datagram ∙ length-take-le count es most) sixteen stopped,
   )
-
-  -- rounds so far, of which each went on
-  abbrev pub GoneOn : ℕ → P → S → P → S → Type 0
-  GoneOn n a s b t = (rounds : List (List Happening)) × Runs may a (in_all rounds) b × Serves steps settles s rounds t × (16 * n ≤ effort (in_all rounds)) × GoOnTo (Ok More) (in_all rounds)
-
-  -- one round
-  abbrev pub OneRound : Result Rest LoopFault → P → S → P → S → Type 0
-  OneRound told b t c u = (hs : List Happening) × Runs may b hs c × IsRound steps settles t hs u × IsThrough 16 told hs
-
-  abbrev pub AllRounds : Result Rest LoopFault → P → S → P → S → Type 0
-  AllRounds told a s c u = (rounds : List (List Happening)) × Runs may a (in_all rounds) c × Serves steps settles s rounds u × IsThrough 128 told (in_all rounds)
-
-  module _ (a b c : P) (s t u : S) (n : ℕ) where
-    runs_more : (rounds : List (List Happening)) (hs : List Happening) → Runs may a (in_all rounds) b → Runs may b hs c → Runs may a (in_all (rounds ++ hs ∷ [])) c
-    runs_more rounds hs r q = subst (λ xs. Runs may a xs c) (sym (in_more rounds hs)) (runs_on may a (in_all rounds) hs b c r q)
-
-    -- one that goes on
-    pub keep_on : (told : Result Rest LoopFault) → is_over told ≡ false → GoneOn n a s b t → OneRound told b t c u → GoneOn (n + 1) a s c u
-    keep_on (Ok More) over (rounds, r, v, e, on) (hs, q, w, (l, more)) = (
-      rounds ++ hs ∷ [],
-      runs_more rounds hs r q,
-      serves_more steps settles s rounds hs t u v w,
-      omega (arith, ap effort (in_more rounds hs), effort_on (in_all rounds) hs, e, l),
-      subst (GoOnTo (Ok More)) (sym (in_more rounds hs)) (go_on (Ok More) (in_all rounds) hs on more),
-    )
-    keep_on (Ok Nothing) over before one = absurd cc
-    keep_on (Ok Later) over before one = absurd cc
-    keep_on (Err fault) over before one = absurd cc
-
-    -- the last one
-    pub stop_at : (told : Result Rest LoopFault) → is_over told ≡ true → GoneOn n a s b t → OneRound told b t c u → AllRounds told a s c u
-    stop_at (Ok More) over before one = absurd cc
-    stop_at (Ok Nothing) over (rounds, r, v, e, on) (hs, q, w, (l, last)) = (
-      rounds ++ hs ∷ [],
-      runs_more rounds hs r q,
-      serves_more steps settles s rounds hs t u v w,
-      subst (IsThrough 128 (Ok Nothing)) (sym (in_more rounds hs)) (paused_later (Ok Nothing) (in_all rounds) hs l, go_on (Ok Nothing) (in_all rounds) hs on last),
-    )
-    stop_at (Ok Later) over (rounds, r, v, e, on) (hs, q, w, (l, last)) = (
-      rounds ++ hs ∷ [],
-      runs_more rounds hs r q,
-      serves_more steps settles s rounds hs t u v w,
-      subst (IsThrough 128 (Ok Later)) (sym (in_more rounds hs)) (paused_later (Ok Later) (in_all rounds) hs l, go_on (Ok Later) (in_all rounds) hs on last),
-    )
-    stop_at (Err fault) over (rounds, r, v, e, on) (hs, q, w, (l, last)) = (
-      rounds ++ hs ∷ [],
-      runs_more rounds hs r q,
-      serves_more steps settles s rounds hs t u v w,
-      subst (IsThrough 128 (Err fault)) (sym (in_more rounds hs)) (paused_later (Err fault) (in_all rounds) hs l, go_on (Err fault) (in_all rounds) hs on last),
-    )

@@ -1,5 +1,4 @@
 pub mod Advancing
-pub mod Cutting
 pub mod Exchanges
 pub mod Ports
 pub mod Reaching

@@ -1,11 +1,10 @@
 -- What happens at a port, one part after the other.
 use Rattle.std.proofs.Common.{◌≡◌, ◌≤◌, ℕ, ◌+◌, List, [], ◌∷◌, ◌++◌, map, length, Option, Some, None, Result, Ok, Err, refl, sym, ap, ◌∙◌, subst, arith, inl, inr}
 use Rattle.std.proofs.lemmas.List.{append-nil, append_assoc}
-use Rattle.std.proofs.lemmas.Option.{none-some}
 use Rattle.std.specs.declared.io.Error.{Error}
 use Rattle.slp_sockets.specs.Exchanging.{Stopped}
-use Rattle.slp_sockets.specs.Ports.{Datagram, Happening, Came, Paused, Left, Ports, Runs, ServedFor, AreAnswered, IsRound, Serves, Says, GoOnTo, NoPause, IsEnough, IsThrough, IsPausedBy, asker_of, owed, pausing, in_all, pause_after, effort}
-use Rattle.slp_sockets.specs.Serving.{Steps, Settles}
+use Rattle.slp_sockets.specs.Ports.{Datagram, Happening, Came, Paused, Left, Ports, Runs, ServedFor, AreAnswered, Says, GoOnTo, NoPause, IsEnough, IsThrough, IsPausedBy, asker_of, owed, pausing, pause_after, effort}
+use Rattle.slp_sockets.specs.Serving.{Steps}
 use Rattle.slp_sockets.specs.declared.exchange.Rest.{Rest}
 use Rattle.slp_sockets.specs.declared.exchange.Rest.TheVariants.{Nothing, More, Later}
 use Rattle.slp_sockets.specs.declared.fault.LoopFault.{LoopFault}
@@ -35,16 +34,6 @@ module _ {S : Type 0} (steps : Steps S) where
   pub answered_one : (a : S) (d : Datagram) (back : List ℕ) (b : S) → ServedFor steps (asker_of d.peer) a d.bytes back b → AreAnswered steps a (d ∷ []) (owed d.peer back) b
   answered_one a d back b one = (back, b, [], one, (refl, refl), sym (append-nil (owed d.peer back)))
 
-module _ {S : Type 0} (steps : Steps S) (settles : Settles S) where
-  -- one round more
-  pub serves_more : (a : S) (rounds : List (List Happening)) (hs : List Happening) (b c : S) → Serves steps settles a rounds b → IsRound steps settles b hs c → Serves steps settles a (rounds ++ hs ∷ []) c
-  serves_more a [] hs b c same one = (c, subst (λ s. IsRound steps settles s hs c) same one, refl)
-  serves_more a (gs ∷ rounds) hs b c (between, first, rest) one = (between, first, serves_more between rounds hs b c rest one)
-
-pub in_more : (rounds : List (List Happening)) (hs : List Happening) → in_all (rounds ++ hs ∷ []) ≡ in_all rounds ++ hs
-in_more [] hs = append-nil hs
-in_more (gs ∷ rounds) hs = ap (λ xs. gs ++ xs) (in_more rounds hs) ∙ sym (append_assoc gs (in_all rounds) hs)
-
 -- how many came in both
 pub effort_on : (hs gs : List Happening) → effort (hs ++ gs) ≡ effort hs + effort gs
 effort_on [] gs = omega arith
@@ -69,21 +58,6 @@ pause_on before (Left d ∷ hs) gs = pause_on before hs gs
 pause_left : (before : Option Error) (ds : List Datagram) → pause_after before (map Left ds) ≡ before
 pause_left before [] = refl
 pause_left before (d ∷ ds) = pause_left before ds
-
--- the last pause is that of the later part, where there is one
-pause_later : (before : Option Error) (hs : List Happening) (e : Error) → pause_after None hs ≡ Some e → pause_after before hs ≡ Some e
-pause_later before [] e is = absurd (none-some e is)
-pause_later before (Came d ∷ hs) e is = is
-pause_later before (Paused p ∷ hs) e is = is
-pause_later before (Left d ∷ hs) e is = pause_later before hs e is
-
--- what was through in the later part is through in both
-pub paused_later : (told : Result Rest LoopFault) (hs gs : List Happening) → IsPausedBy told gs → IsPausedBy told (hs ++ gs)
-paused_later told hs gs p = record {
-  error = p.error;
-  last = pause_on None hs gs ∙ pause_later (pause_after None hs) gs p.error p.last;
-  says = p.says;
-}
 
 -- a round, and what it answers
 last_is : (hs : List Happening) (e : Error) (ds : List Datagram) → pause_after None ((hs ++ Paused e ∷ []) ++ map Left ds) ≡ Some e

@@ -8,7 +8,7 @@ use Rattle.mio.specs.Event.{event_token}
 use Rattle.mio.specs.declared.event.event.Event.{Event}
 use Rattle.mio.specs.declared.token.Token.{Token}
 use Rattle.slp_sockets.specs.Holding.{Seat}
-use Rattle.slp_sockets.specs.Ports.{ServesAll}
+use Rattle.slp_sockets.specs.Ports.{ServesRound}
 use Rattle.slp_sockets.specs.Readiness.{token_of}
 use Rattle.slp_sockets.specs.Serving.{Steps, Settles}
 use Rattle.slp_sockets.specs.Turning.{Tended, AreServedAt, ComeOrGo, IsBegun, IsByPeers, IsPart, IsServedAt, IsSettled, Passes, Reaches, ReceivesAgain, ServesAt, SettlesFirst, SettlesLast, datagrams_token, listener_token}
@@ -34,7 +34,7 @@ module _ {S : Type 0} (steps : Steps S) (settles : Settles S) where
   reach_again a b (inl one) = reach_part a b (inr (inl one))
   reach_again a b (inr same) = ([], same)
 
-  received_again : (seats : List (Option Seat)) (a b : S) → ServesAll steps settles a b ⊎ (b ≡ a)
+  received_again : (seats : List (Option Seat)) (a b : S) → ServesRound steps settles a b ⊎ (b ≡ a)
       → ReceivesAgain steps settles (record { seats = seats; server = a }) (record { seats = seats; server = b })
   received_again seats a b (inl one) = inl (one, refl)
   received_again seats a b (inr same) = inr (ap (λ s. record { seats = seats; server = s }) same)
@@ -77,7 +77,7 @@ module _ {S : Type 0} (steps : Steps S) (settles : Settles S) where
   served_more a (t ∷ ts) token b c (between, first, rest) one = (between, first, served_more between ts token b c rest one)
 
   -- what begins a turn
-  pub begins : (s : Tended S) (before between after : List (Option Seat)) (a b c : S) → record { seats = before; server = a } ≡ s → settles a b → between ≡ before → ComeOrGo between after → ServesAll steps settles b c ⊎ (c ≡ b)
+  pub begins : (s : Tended S) (before between after : List (Option Seat)) (a b c : S) → record { seats = before; server = a } ≡ s → settles a b → between ≡ before → ComeOrGo between after → ServesRound steps settles b c ⊎ (c ≡ b)
       → IsBegun steps settles s (record { seats = after; server = c })
   begins s before between after a b c is settled same come served = subst (λ t. IsBegun steps settles t (record { seats = after; server = c })) is (record {
     settled = record { seats = before; server = b };

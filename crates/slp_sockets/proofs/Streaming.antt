@@ -1,7 +1,7 @@
 -- A stream's steps, one after the other.
-use Rattle.std.proofs.Common.{◌≡◌, ◌≤◌, ◌<◌, ℕ, ◌+◌, ◌-◌, suc, List, Option, Some, None, Result, Ok, Err, refl, ap, ◌∙◌, subst, inl, inr, arith}
+use Rattle.std.proofs.Common.{◌≡◌, ◌≤◌, ◌<◌, ◌&&◌, ◌||◌, ℕ, ◌+◌, ◌-◌, suc, Bool, true, false, List, Option, Some, None, Result, Ok, Err, refl, sym, ap, ◌∙◌, subst, inl, inr, arith}
 use Rattle.std.specs.Prelude.{IfSome, IfNone}
-use Rattle.slp_sockets.specs.Linking.{Link, unread, unwritten}
+use Rattle.slp_sockets.specs.Linking.{Link, has_message, unread, unwritten}
 use Rattle.slp_sockets.specs.Reading.{Reads}
 use Rattle.slp_sockets.specs.Serving.{Steps, Settles}
 use Rattle.slp_sockets.specs.Streaming.{Talk, end_of, IsRead, IsStep, Goes}
@@ -22,32 +22,41 @@ goes_so : (Y : Type 0) (o : Option Next) → o ≡ None → (P : Next → Type 0
 goes_so Y None is P y = (tt, y)
 goes_so Y (Some n) is P y = absurd cc
 
-module _ {S : Type 0} (steps : Steps S) (settles : Settles S) (i : ℕ) where
+module _ {S : Type 0} (steps : Steps S) (settles : Settles S) (i : ℕ) (served : Bool) where
   -- no step is left
-  pub over : 16 ≤ i → (a : Talk S) → Goes steps settles (16 - i) a (Ok More) a
-  over past a = let none : 0 ≡ 16 - i = omega (arith, past) in subst (λ n. Goes steps settles n a (Ok More) a) none (refl, refl)
+  pub over : 16 ≤ i → (a : Talk S) → Goes steps settles (16 - i) served a (Ok More) a
+  over past a = let none : 0 ≡ 16 - i = omega (arith, past) in subst (λ n. Goes steps settles n served a (Ok More) a) none (refl, refl)
 
-module _ {S : Type 0} (steps : Steps S) (settles : Settles S) (i : ℕ) (lt : i < 16) (a : Talk S) where
-  -- the read failed
-  pub read_failed : (e : LoopFault) (b : Talk S) → IsRead steps settles a (Err e) b → Goes steps settles (16 - i) a (Err e) b
-  read_failed e b read = subst (λ n. Goes steps settles n a (Err e) b) (one_left i lt) (inl (e, refl, read))
+module _ {S : Type 0} (steps : Steps S) (settles : Settles S) (i : ℕ) (lt : i < 16) (served : Bool) (a : Talk S) (waits : Bool) (same : waits ≡ has_message a.link) where
+  -- another message waits, where one was served
+  pub next_waits : (waits && served) ≡ true → Goes steps settles (16 - i) served a (Ok More) a
+  next_waits next = subst (λ n. Goes steps settles n served a (Ok More) a) (one_left i lt) (inl (ap (λ b. b && served) (sym same) ∙ next, refl, refl))
 
-  -- the write failed
-  pub write_failed : (read : Next) (e : LoopFault) (b : Talk S) → IsStep steps settles a read (Err e) b → Goes steps settles (16 - i) a (Err e) b
-  write_failed read e b step = subst (λ n. Goes steps settles n a (Err e) b) (one_left i lt) (inr (inl (read, e, refl, step)))
+  module _ (none : (waits && served) ≡ false) where
+    free : (has_message a.link && served) ≡ false
+    free = ap (λ b. b && served) (sym same) ∙ none
 
-  -- it ends there
-  pub ended : (read written next : Next) (b : Talk S) → IsStep steps settles a read (Ok written) b → end_of read written ≡ Some next → Goes steps settles (16 - i) a (Ok next) b
-  ended read written next b step is =
-      let over = ends_so _ (end_of read written) next is (λ n. (Ok next ≡ Ok n) × (b ≡ b)) (refl, refl) in
-      subst (λ n. Goes steps settles n a (Ok next) b) (one_left i lt) (inr (inr (read, written, b, step, over.0, over.1)))
+    -- the read failed
+    pub read_failed : (e : LoopFault) (b : Talk S) → IsRead steps settles a (Err e) b → Goes steps settles (16 - i) served a (Err e) b
+    read_failed e b read = subst (λ n. Goes steps settles n served a (Err e) b) (one_left i lt) (inr (free, inl (e, refl, read)))
 
-  -- it goes on
-  pub went_on : (read written : Next) (c : Talk S) → IsStep steps settles a read (Ok written) c → end_of read written ≡ None
-      → (told : Result Next LoopFault) (b : Talk S) → Goes steps settles (16 - (i + 1)) c told b → Goes steps settles (16 - i) a told b
-  went_on read written c step is told b rest =
-      let more = goes_so _ (end_of read written) is (λ n. (told ≡ Ok n) × (b ≡ c)) rest in
-      subst (λ n. Goes steps settles n a told b) (one_left i lt) (inr (inr (read, written, c, step, more.0, more.1)))
+    -- the write failed
+    pub write_failed : (read : Next) (e : LoopFault) (b : Talk S) → IsStep steps settles a read (Err e) b → Goes steps settles (16 - i) served a (Err e) b
+    write_failed read e b step = subst (λ n. Goes steps settles n served a (Err e) b) (one_left i lt) (inr (free, inr (inl (read, e, refl, step))))
+
+    -- it ends there
+    pub ended : (read written next : Next) (b : Talk S) → IsStep steps settles a read (Ok written) b → end_of read written ≡ Some next → Goes steps settles (16 - i) served a (Ok next) b
+    ended read written next b step is =
+        let over = ends_so _ (end_of read written) next is (λ n. (Ok next ≡ Ok n) × (b ≡ b)) (refl, refl) in
+        subst (λ n. Goes steps settles n served a (Ok next) b) (one_left i lt) (inr (free, inr (inr (read, written, b, step, over.0, over.1))))
+
+    -- it goes on
+    pub went_on : (read written : Next) (c : Talk S) → IsStep steps settles a read (Ok written) c → end_of read written ≡ None
+        → (told : Result Next LoopFault) (b : Talk S) → Goes steps settles (16 - (i + 1)) (waits || served) c told b → Goes steps settles (16 - i) served a told b
+    went_on read written c step is told b rest =
+        let on : Goes steps settles (16 - (i + 1)) (has_message a.link || served) c told b = subst (λ w. Goes steps settles (16 - (i + 1)) (w || served) c told b) same rest in
+        let more = goes_so _ (end_of read written) is (λ n. (told ≡ Ok n) × (b ≡ c)) on in
+        subst (λ n. Goes steps settles n served a told b) (one_left i lt) (inr (free, inr (inr (read, written, c, step, more.0, more.1))))
 
 -- a stream of a type, its connection and its server
 module _ {T S : Type 0} (brings taken : T → Option (List ℕ)) where

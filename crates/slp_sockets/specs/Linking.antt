@@ -1,5 +1,6 @@
 -- What a connection is to contracts, and what it answers while it neither reads nor writes.
-use Rattle.std.specs.Prelude.{ℕ, Bool, nat_lt, List, length, Option, Some, None, if◌then◌else◌}
+use Rattle.std.specs.Prelude.{ℕ, Bool, false, nat_lt, List, length, Option, Some, None, if◌then◌else◌}
+use Rattle.slp_stream.specs.Cutting.{front_of, is_whole}
 use Rattle.slp_sockets.specs.declared.connection.Next.{Next}
 use Rattle.slp_sockets.specs.declared.connection.Next.TheVariants.{More, Blocked, Closed}
 use Rattle.slp_sockets.specs.declared.connection.Stage.{Stage}
@@ -48,11 +49,14 @@ unwritten_at Ending waiting = if nat_lt 0 (length waiting) then None else Some C
 abbrev pub unwritten : Link → Option Next
 unwritten l = unwritten_at l.stage l.waiting
 
--- what is answered after bytes were read
-abbrev pub next_read : Stage → List ℕ → Next
-next_read Reading waiting = More
-next_read Ending waiting = ending_next waiting
-next_read Failed waiting = Closed
+-- whether a whole message stands in front of what is not served, and is served next
+abbrev pub has_message_at : Stage → List ℕ → Bool
+has_message_at Reading unserved = is_whole (front_of longest unserved)
+has_message_at Ending unserved = false
+has_message_at Failed unserved = false
+
+abbrev pub has_message : Link → Bool
+has_message l = has_message_at l.stage l.unserved
 
 -- what is answered after bytes were written
 abbrev pub next_written : Stage → List ℕ → Next

@@ -1,5 +1,5 @@
 -- What happens at a socket of datagrams, and what it is to serve those that come.
-use Rattle.std.specs.Prelude.{◌≡◌, ◌⊎◌, ◌≤◌, ℕ, ◌+◌, Bool, true, false, List, [], ◌∷◌, ◌++◌, map, take, Option, Some, None, Result, Ok, Err}
+use Rattle.std.specs.Prelude.{◌≡◌, ◌⊎◌, ◌≤◌, ℕ, ◌+◌, List, [], ◌∷◌, ◌++◌, map, take, Option, Some, None, Result, Ok, Err}
 use Rattle.std.specs.IoError.{error_kind}
 use Rattle.std.specs.declared.io.Error.{Error}
 use Rattle.std.specs.declared.io.ErrorKind.{ErrorKind}
@@ -75,7 +75,8 @@ module _ {S : Type 0} (steps : Steps S) where
       (back : List ℕ) × (between : S) × (later : List Datagram) × ServedFor (asker_of d.peer) before d.bytes back between × AreAnswered between ds later after × (dues ≡ owed d.peer back ++ later)
 
 module _ {S : Type 0} (steps : Steps S) (settles : Settles S) where
-  -- A round: datagrams come, until none is left or there are enough. Each is served once, in their order. The server settles, and what is owed leaves, in order.
+  -- A round: datagrams come, until none is left or there are enough. Each is served once, in their order. The server settles, and what is owed leaves, in order: nothing that is not owed,
+  -- and nothing twice.
   pub record IsRound (before : S) (hs : List Happening) (after : S) : Type 0 where
     pub came : List Datagram
     pub pause : Option Error
@@ -84,16 +85,6 @@ module _ {S : Type 0} (steps : Steps S) (settles : Settles S) where
     pub answered : AreAnswered steps before came dues between
     pub settled : settles between after
     pub order : hs ≡ (map Came came ++ pausing pause) ++ map Left dues
-
-  -- Rounds, one after the other: nothing leaves that is not owed, and nothing twice.
-  abbrev pub Serves : S → List (List Happening) → S → Type 0
-  Serves before [] after = after ≡ before
-  Serves before (hs ∷ rounds) after = (between : S) × IsRound before hs between × Serves between rounds after
-
--- what happens in them
-abbrev pub in_all : List (List Happening) → List Happening
-in_all [] = []
-in_all (hs ∷ rounds) = hs ++ in_all rounds
 
 -- what there may be after a failed receive of a socket that is still of use
 abbrev pub rest_by : ErrorKind → Rest
@@ -105,13 +96,6 @@ rest_by _ = Later
 abbrev pub Says : Error → Result Rest LoopFault → Type 0
 Says e (Ok rest) = (¬ (IsLost (raw_os_error e))) × (rest ≡ rest_by (error_kind e))
 Says e (Err fault) = IsLost (raw_os_error e) × (fault ≡ Io)
-
--- no more are to be received now
-abbrev pub is_over : Result Rest LoopFault → Bool
-is_over (Ok More) = false
-is_over (Ok Nothing) = true
-is_over (Ok Later) = true
-is_over (Err e) = true
 
 -- the pause after which none came
 abbrev pub pause_after : Option Error → List Happening → Option Error
@@ -159,6 +143,6 @@ abbrev pub IsThrough : ℕ → Result Rest LoopFault → List Happening → Type
 IsThrough least told hs = IsEnough least told hs × GoOnTo told hs
 
 module _ {S : Type 0} (steps : Steps S) (settles : Settles S) where
-  -- Rounds, until 128 or more have come, where a pause counts for 16, or a pause says that no more are to be received now.
-  abbrev pub ServesAll : S → S → Type 0
-  ServesAll before after = (rounds : List (List Happening)) × (told : Result Rest LoopFault) × Serves steps settles before rounds after × IsThrough 128 told (in_all rounds)
+  -- A round, until 16 have come, where a pause counts for as many, or a pause says that no more are to be received now.
+  abbrev pub ServesRound : S → S → Type 0
+  ServesRound before after = (hs : List Happening) × (told : Result Rest LoopFault) × IsRound steps settles before hs after × IsThrough 16 told hs

@@ -1,65 +1,38 @@
--- What one read does to a connection and its server.
-use Rattle.std.specs.Prelude.{◌≡◌, ◌≢◌, ◌⊎◌, ◌≤◌, ◌<◌, ◌||◌, ℕ, Bool, nat_lt, List, ◌++◌, length, Result, MatchResult, Option}
+-- What one read does to a connection and its server, or the message that stands in front of what came.
+use Rattle.std.specs.Prelude.{◌≡◌, ◌≢◌, ◌⊎◌, ◌≤◌, ◌<◌, ℕ, true, List, ◌++◌, take, drop, length, Result, Ok, MatchResult, Option}
 use Rattle.std.specs.Io.KnownBytes.{Consumes, Keeps, IsAtEnd}
-use Rattle.slp_stream.specs.Cutting.{IsCut, Front, Wanting, Whole, Bad, front_of}
-use Rattle.slp_sockets.specs.Linking.{Link, longest, most_read, ending_next, next_read}
-use Rattle.slp_sockets.specs.Serving.{Steps, AreServed}
+use Rattle.slp_stream.specs.Cutting.{Front, Wanting, Whole, Bad, front_of}
+use Rattle.slp_sockets.specs.Linking.{Link, longest, most_read, ending_next}
+use Rattle.slp_sockets.specs.Serving.{Steps, IsServed}
+use Rattle.slp_sockets.specs.declared.connection.InFront.{InFront}
+use Rattle.slp_sockets.specs.declared.connection.InFront.TheVariants as front
 use Rattle.slp_sockets.specs.declared.connection.Next.{Next}
-use Rattle.slp_sockets.specs.declared.connection.Next.TheVariants.{Closed}
-use Rattle.slp_sockets.specs.declared.connection.Stage.{Stage}
-use Rattle.slp_sockets.specs.declared.connection.Stage.TheVariants.{Reading, Ending, Failed}
+use Rattle.slp_sockets.specs.declared.connection.Next.TheVariants.{More, Closed}
+use Rattle.slp_sockets.specs.declared.connection.Stage.TheVariants.{Ending, Failed}
 use Rattle.slp_sockets.specs.declared.fault.LoopFault.{LoopFault}
 use Rattle.slp_sockets.specs.declared.fault.LoopFault.TheVariants.{Io, NoMemory}
 
--- it moved before, or a whole message was taken from the front of what came
-abbrev pub moves : Bool → List ℕ → List ℕ → Bool
-moves before stream rest = before || nat_lt (length rest) (length stream)
-
--- how far a connection is by what stands in front of what is not served
-abbrev pub stage_by : Front → Stage
-stage_by Wanting = Reading
-stage_by (Whole n) = Reading
-stage_by (Bad e) = Ending
-
-module _ {S : Type 0} (steps : Steps S) (asker : ℕ) where
-  -- All messages that are cut off the stream are served, and what waits grows by what goes back for each.
-  pub record AllServed (stream rest waiting : List ℕ) (before : S) (grown : List ℕ) (after : S) : Type 0 where
-    pub messages : List (List ℕ)
-    pub cut : IsCut longest stream messages rest
-    pub bytes : List ℕ
-    pub served : AreServed steps asker longest before messages bytes after
-    pub grows : grown ≡ waiting ++ bytes
-
-  -- The first messages that are cut off the stream are served, and what waits grows by what goes back for each, but that of the last one is lost.
-  pub record SomeServed (stream waiting : List ℕ) (before : S) (grown : List ℕ) (after : S) : Type 0 where
-    pub first : List (List ℕ)
-    pub last : List (List ℕ)
-    pub later : List (List ℕ)
-    pub rest : List ℕ
-    pub cut : IsCut longest stream (first ++ (last ++ later)) rest
-    pub bytes : List ℕ
-    pub between : S
-    pub served : AreServed steps asker longest before first bytes between
-    pub one : length last ≤ 1
-    pub lost : List ℕ
-    pub served_last : AreServed steps asker longest between last lost after
-    pub grows : grown ≡ waiting ++ bytes
-
 module _ {S : Type 0} (steps : Steps S) where
-  -- these bytes were taken, and what they complete was served
-  pub record Took (piece : List ℕ) (l : Link) (before : S) (answered : Next) (m : Link) (after : S) : Type 0 where
-    pub served : AllServed steps l.asker (l.unserved ++ piece) m.unserved l.waiting before m.waiting after
-    pub stage : m.stage ≡ stage_by (front_of longest m.unserved)
-    pub moved : m.moved ≡ moves l.moved (l.unserved ++ piece) m.unserved
-    pub next : answered ≡ next_read m.stage m.waiting
-    pub asker : m.asker ≡ l.asker
+  -- the message in front of a stream is served, and what goes back is added to what waits; it is lost where memory is wanting
+  pub record TakesOne {E : Type 0} (asker n : ℕ) (stream waiting : List ℕ) (before : S) (result : Result InFront E) (rest grown : List ℕ) (after : S) : Type 0 where
+    pub bytes : List ℕ
+    pub served : IsServed steps asker longest before (take n stream) bytes after
+    pub left : rest ≡ drop n stream
+    pub grows : MatchResult result (λ told. (told ≡ front.Message) × (grown ≡ waiting ++ bytes)) (λ _. grown ≡ waiting)
 
-  -- memory was wanting for these bytes, or for what goes back
-  pub record Lacked (piece : List ℕ) (l : Link) (before : S) (answered : LoopFault) (m : Link) (after : S) : Type 0 where
-    pub fault : answered ≡ NoMemory
-    pub served : SomeServed steps l.asker (l.unserved ++ piece) l.waiting before m.waiting after
-    pub stage : m.stage ≡ Failed
-    pub asker : m.asker ≡ l.asker
+  -- what stands in front of a stream is taken
+  abbrev pub Takes : {E : Type 0} → Front → (asker : ℕ) (stream waiting : List ℕ) (before : S) (result : Result InFront E) (rest grown : List ℕ) (after : S) → Type 0
+  Takes (Whole n) asker stream waiting before result rest grown after = TakesOne asker n stream waiting before result rest grown after
+  Takes Wanting asker stream waiting before result rest grown after = (result ≡ Ok front.Nothing) × (rest ≡ stream) × (grown ≡ waiting) × (after ≡ before)
+  Takes (Bad e) asker stream waiting before result rest grown after = (result ≡ Ok front.Fault) × (rest ≡ stream) × (grown ≡ waiting) × (after ≡ before)
+
+  -- the message in front is served, and what goes back for it waits; where memory is wanting for that, it is lost
+  pub record ServesOne (n : ℕ) (l : Link) (before : S) (result : Result Next LoopFault) (m : Link) (after : S) : Type 0 where
+    pub bytes : List ℕ
+    pub served : IsServed steps l.asker longest before (take n l.unserved) bytes after
+    pub then : MatchResult result
+        (λ next. (next ≡ More) × (m ≡ record l { unserved = drop n l.unserved; waiting = l.waiting ++ bytes; moved = true }))
+        (λ fault. (fault ≡ NoMemory) × (m ≡ record l { unserved = drop n l.unserved; stage = Failed; moved = true }))
 
   -- the reader gave bytes
   pub record GaveBytes (known left : Option (List ℕ)) (l : Link) (before : S) (answered : Next) (m : Link) (after : S) : Type 0 where
@@ -67,7 +40,9 @@ module _ {S : Type 0} (steps : Steps S) where
     pub some : 0 < length piece
     pub within : length piece ≤ most_read
     pub read : Consumes known left piece
-    pub took : Took piece l before answered m after
+    pub more : m ≡ record l { unserved = l.unserved ++ piece }
+    pub server : after ≡ before
+    pub next : answered ≡ More
 
   -- the reader gave bytes, for which memory was wanting
   pub record GaveTooMuch (known left : Option (List ℕ)) (l : Link) (before : S) (answered : LoopFault) (m : Link) (after : S) : Type 0 where
@@ -75,7 +50,9 @@ module _ {S : Type 0} (steps : Steps S) where
     pub some : 0 < length piece
     pub within : length piece ≤ most_read
     pub read : Consumes known left piece
-    pub lacked : Lacked piece l before answered m after
+    pub same : m ≡ record l { stage = Failed }
+    pub server : after ≡ before
+    pub fault : answered ≡ NoMemory
 
   -- the reader was at its end
   pub record MetEnd (known left : Option (List ℕ)) (l : Link) (before : S) (answered : Next) (m : Link) (after : S) : Type 0 where
@@ -99,8 +76,14 @@ module _ {S : Type 0} (steps : Steps S) where
     pub same : m ≡ record l { stage = Failed }
     pub server : after ≡ before
 
-  abbrev pub Reads : (known left : Option (List ℕ)) (l : Link) (before : S) (result : Result Next LoopFault) (m : Link) (after : S) → Type 0
-  Reads known left l before result m after =
+  -- A whole message in front is served, and nothing is read. A bad length there is the end. Else it is read once.
+  abbrev pub ReadsBy : Front → (known left : Option (List ℕ)) (l : Link) (before : S) (result : Result Next LoopFault) (m : Link) (after : S) → Type 0
+  ReadsBy (Whole n) known left l before result m after = (left ≡ known) × ServesOne n l before result m after
+  ReadsBy (Bad e) known left l before result m after = (left ≡ known) × (result ≡ Ok (ending_next l.waiting)) × (m ≡ record l { stage = Ending }) × (after ≡ before)
+  ReadsBy Wanting known left l before result m after =
       MatchResult result
       (λ next. GaveBytes known left l before next m after ⊎ (MetEnd known left l before next m after ⊎ MetNothing known left l before next m after))
       (λ fault. ReaderFailed known left l before fault m after ⊎ GaveTooMuch known left l before fault m after)
+
+  abbrev pub Reads : (known left : Option (List ℕ)) (l : Link) (before : S) (result : Result Next LoopFault) (m : Link) (after : S) → Type 0
+  Reads known left l before result m after = ReadsBy (front_of longest l.unserved) known left l before result m after

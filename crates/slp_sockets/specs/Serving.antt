@@ -1,5 +1,5 @@
 -- What it is to serve messages one after the other.
-use Rattle.std.specs.Prelude.{◌≡◌, ℕ, List, [], ◌∷◌, ◌++◌, Result, MatchResult}
+use Rattle.std.specs.Prelude.{◌≡◌, ℕ, List, Result, MatchResult}
 use Rattle.slp_headers.specs.Headers.{heading_of}
 use Rattle.slp_text.specs.declared.faults.NoMemory.{NoMemory}
 use Rattle.directory_questions.specs.Outcomes.{refusal_outcome}
@@ -29,9 +29,3 @@ module _ {S : Type 0} (steps : Steps S) (asker limit : ℕ) where
     pub answer : Answer
     pub step : steps before asker message limit outcome answer after
     pub given : MatchResult outcome (λ _. back ≡ answer.bytes.items) (λ _. back ≡ refused_reply message)
-
-  -- the messages are served once each and in order, and these bytes go back
-  abbrev pub AreServed : S → List (List ℕ) → List ℕ → S → Type 0
-  AreServed before [] bytes after = (bytes ≡ []) × (after ≡ before)
-  AreServed before (m ∷ ms) bytes after =
-      (first : List ℕ) × (later : List ℕ) × (between : S) × IsServed before m first between × AreServed between ms later after × (bytes ≡ first ++ later)

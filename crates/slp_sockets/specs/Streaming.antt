@@ -1,6 +1,6 @@
 -- What a stream, its connection and its server go through, where it is ready.
-use Rattle.std.specs.Prelude.{◌≡◌, ◌⊎◌, ℕ, zero, suc, false, List, Option, Some, None, IfSome, IfNone, Result, Ok, Err, if◌then◌else◌}
-use Rattle.slp_sockets.specs.Linking.{Link, unread, unwritten}
+use Rattle.std.specs.Prelude.{◌≡◌, ◌⊎◌, ◌&&◌, ◌||◌, ℕ, zero, suc, Bool, true, false, List, Option, Some, None, IfSome, IfNone, Result, Ok, Err, if◌then◌else◌}
+use Rattle.slp_sockets.specs.Linking.{Link, has_message, unread, unwritten}
 use Rattle.slp_sockets.specs.Reading.{Reads}
 use Rattle.slp_sockets.specs.Serving.{Steps, Settles}
 use Rattle.slp_sockets.specs.Writing.{Wrote, Writes}
@@ -22,7 +22,7 @@ end_of Blocked Blocked = Some Blocked
 end_of read written = None
 
 module _ {S : Type 0} (steps : Steps S) (settles : Settles S) where
-  -- it is read once, at most, and what is whole then is served
+  -- it is read once, at most, or the message in front is served
   abbrev pub IsRead : Talk S → Result Next LoopFault → Talk S → Type 0
   IsRead a told b = IfSome (unread a.link) (λ next. (told ≡ Ok next) × (b ≡ a)) × IfNone (unread a.link) (Reads steps a.brings b.brings a.link a.server told b.link b.server)
 
@@ -40,18 +40,19 @@ module _ {S : Type 0} (steps : Steps S) (settles : Settles S) where
     pub settled : settles between.server server
     pub written_is : IsWritten (record between { server = server }) written b
 
-  -- at most so many steps, one after the other, until one of them fails or ends it
-  abbrev pub Goes : ℕ → Talk S → Result Next LoopFault → Talk S → Type 0
-  Goes zero a told b = (told ≡ Ok More) × (b ≡ a)
-  Goes (suc n) a told b =
-      ((e : LoopFault) × (told ≡ Err e) × IsRead a (Err e) b)
+  -- at most so many steps, one after the other, until one of them fails or ends it; and none that serves a message, where one was served before
+  abbrev pub Goes : ℕ → Bool → Talk S → Result Next LoopFault → Talk S → Type 0
+  Goes zero served a told b = (told ≡ Ok More) × (b ≡ a)
+  Goes (suc n) served a told b =
+      (((has_message a.link && served) ≡ true) × (told ≡ Ok More) × (b ≡ a))
+      ⊎ (((has_message a.link && served) ≡ false) × (((e : LoopFault) × (told ≡ Err e) × IsRead a (Err e) b)
       ⊎ (((read : Next) × (e : LoopFault) × (told ≡ Err e) × IsStep a read (Err e) b)
       ⊎ ((read : Next) × (written : Next) × (c : Talk S) × IsStep a read (Ok written) c
-      × IfSome (end_of read written) (λ next. (told ≡ Ok next) × (b ≡ c)) × IfNone (end_of read written) (Goes n c told b)))
+      × IfSome (end_of read written) (λ next. (told ≡ Ok next) × (b ≡ c)) × IfNone (end_of read written) (Goes n (has_message a.link || served) c told b)))))
 
-  -- A stream goes on at a moment, by at most 16 steps. Then it is noted whether it moved, where it was known when it did.
+  -- A stream goes on at a moment, by at most 16 steps, of which one at most serves a message. Then it is noted whether it moved, where it was known when it did.
   pub record Advances (now : ℕ) (a : Talk S) (known : ℕ) (told : Result Next LoopFault) (b : Talk S) (knows : ℕ) : Type 0 where
     pub end : Link
-    pub goes : Goes 16 a told (record b { link = end })
+    pub goes : Goes 16 false a told (record b { link = end })
     pub link : b.link ≡ record end { moved = false }
     pub moved : knows ≡ (if end.moved then now else known)

@@ -3,7 +3,7 @@ use Rattle.std.specs.Prelude.{◌≡◌, ◌≢◌, ◌⊎◌, ℕ, ⊤, Bool, t
 use Rattle.std.specs.declared.net.socket_addr.SocketAddr.{SocketAddr}
 use Rattle.slp_sockets.specs.Holding.{Seat, Looping, seat_at}
 use Rattle.slp_sockets.specs.Linking.{Link}
-use Rattle.slp_sockets.specs.Ports.{ServesAll, asker_of}
+use Rattle.slp_sockets.specs.Ports.{ServesRound, asker_of}
 use Rattle.slp_sockets.specs.Serving.{Steps, Settles}
 use Rattle.slp_sockets.specs.Streaming.{Talk, Goes}
 use Rattle.slp_sockets.specs.declared.connection.Next.{Next}
@@ -74,13 +74,13 @@ abbrev pub rested : ℕ → Link → ℕ → Seat
 rested now end known = record { link = record end { moved = false }; moved = if end.moved then now else known }
 
 module _ {S : Type 0} (steps : Steps S) (settles : Settles S) where
-  -- a connection takes at most 16 steps
+  -- a connection takes at most 16 steps, of which one at most serves a message
   pub record TakesSteps (before : Link) (a : S) (told : Result Next LoopFault) (end : Link) (b : S) : Type 0 where
     pub begun : Talk S
     pub ended : Talk S
     pub link : begun.link ≡ before
     pub from : begun.server ≡ a
-    pub goes : Goes steps settles 16 begun told ended
+    pub goes : Goes steps settles 16 false begun told ended
     pub is : end ≡ ended.link
     pub to : b ≡ ended.server
 
@@ -109,9 +109,9 @@ module _ {S : Type 0} (steps : Steps S) (settles : Settles S) where
   abbrev pub IsSettled : Tended S → Tended S → Type 0
   IsSettled before after = settles before.server after.server × (after.seats ≡ before.seats)
 
-  -- datagrams are served in rounds, until there were enough or no more are to be received now
+  -- datagrams are served in a round, until there were enough or no more are to be received now
   abbrev pub IsByDatagrams : Tended S → Tended S → Type 0
-  IsByDatagrams before after = ServesAll steps settles before.server after.server × (after.seats ≡ before.seats)
+  IsByDatagrams before after = ServesRound steps settles before.server after.server × (after.seats ≡ before.seats)
 
   -- the same, if there were any that could not be received at the last turn
   abbrev pub ReceivesAgain : Tended S → Tended S → Type 0

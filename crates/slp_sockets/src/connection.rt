@@ -1,10 +1,13 @@
-ghost use Rattle.std.specs.Prelude.{◌≡◌, ◌≤◌, ℕ, List, [], ◌++◌, true, false, None, Some, Ok, length, drop, IfOk, IfSome, IfNone, MatchResult, OnOk, OnErr};
-ghost use Rattle.slp_sockets.specs.Linking.{Link, unread, unwritten, ending_next, next_read, next_written};
-ghost use Rattle.slp_sockets.specs.Reading.{AllServed, SomeServed, Reads, Took, Lacked, moves, stage_by};
+ghost use Rattle.std.specs.Prelude.{◌≡◌, ◌≢◌, ◌⊎◌, ◌≤◌, ℕ, Option, List, [], ◌++◌, true, false, None, Some, Ok, length, drop, IfOk, IfSome, IfNone, MatchOption, MatchResult};
+ghost use Rattle.slp_sockets.specs.Linking.{Link, unread, unwritten, ending_next, has_message, next_written};
+ghost use Rattle.slp_sockets.specs.Reading.{Reads, ReadsBy, Takes};
 ghost use Rattle.slp_sockets.specs.Serving.{IsServed};
 ghost use Rattle.slp_sockets.specs.Writing.{Wrote, Writes};
-ghost use Rattle.slp_sockets.specs.declared.connection.Stage.TheVariants.{Reading as Begun};
-ghost use Rattle.slp_stream.specs.Cutting.{front_of};
+ghost use Rattle.slp_sockets.specs.declared.connection.InFront.TheVariants as front;
+ghost use Rattle.slp_sockets.specs.declared.connection.Next.TheVariants.{More as Going};
+ghost use Rattle.slp_sockets.specs.declared.connection.Stage.TheVariants.{Reading as Begun, Failed as Broken};
+ghost use Rattle.slp_sockets.specs.declared.fault.LoopFault.TheVariants.{NoMemory as Wanted};
+ghost use Rattle.slp_stream.specs.Cutting.{Wanting, front_of};
 
 use crate::fault::LoopFault;
 use crate::serve::{Serve, Settled};
@@ -91,34 +94,37 @@ fn serve_one<S: Serve>(
     }
 }
 
-// Serves each whole message that waits in the framer, notes that there was one, and answers how far the connection is then.
-fn serve_whole<S: Serve>(
+// What stood in front of what came.
+#[derive(Clone, Copy, PartialEq, Eq)]
+enum InFront {
+    Nothing,
+    Message,
+    // A length that no message has.
+    Fault,
+}
+
+// Serves the whole message in front of what came, if there is one, and answers what stood there.
+fn serve_front<S: Serve>(
     server: &mut S,
     asker: Addr,
     framer: &mut Framer,
     output: &mut Vec<u8>,
-    moved: &mut bool,
-) -> Result<Stage, AllocError>
+) -> Result<InFront, AllocError>
     requires going { framer.old.refused ≡ None }
     requires limit { framer.old.limit ≡ 65535 }
-    ensures ok { OnOk result (AllServed S.steps asker framer.old.waiting framer.new.waiting output.old.items server.old output.new.items server.new) }
-    ensures err { OnErr result (SomeServed S.steps asker framer.old.waiting output.old.items server.old output.new.items server.new) }
-    ensures stage { IfOk result (λ stage. stage ≡ stage_by (front_of 65535 framer.new.waiting)) }
-    ensures going { IfOk result (λ stage. stage ≡ Begun → framer.new.refused ≡ None) }
+    ensures takes { Takes S.steps (front_of 65535 framer.old.waiting) asker framer.old.waiting output.old.items server.old result framer.new.waiting output.new.items server.new }
+    ensures going { IfOk result (λ told. told ≡ front.Fault ⊎ (framer.new.refused ≡ None)) }
     ensures limit { framer.new.limit ≡ 65535 }
-    ensures moved { OnOk result (moved.new ≡ moves moved.old framer.old.waiting framer.new.waiting) }
 {
-    let mut answer = Answer::new(*output.allocator());
-    while let Some(next) = framer.next() {
-        match next {
-            Ok(message) => {
-                *moved = true;
-                serve_one(server, asker, message, &mut answer, output)?;
-            }
-            Err(_) => return Ok(Stage::Ending),
+    match framer.next() {
+        None => Ok(InFront::Nothing),
+        Some(Ok(message)) => {
+            let mut answer = Answer::new(*output.allocator());
+            serve_one(server, asker, message, &mut answer, output)?;
+            Ok(InFront::Message)
         }
+        Some(Err(_)) => Ok(InFront::Fault),
     }
-    Ok(Stage::Reading)
 }
 
 impl Connection {
@@ -173,17 +179,6 @@ impl Connection {
         }
     }
 
-    // What is answered after bytes were read.
-    fn after_read(&self) -> Next
-        ensures { result ≡ next_read self.now.stage self.now.waiting }
-    {
-        match self.stage {
-            Stage::Reading => Next::More,
-            Stage::Ending => self.ending(),
-            Stage::Failed => Next::Closed,
-        }
-    }
-
     // What is answered with no write.
     fn unwritten(&self) -> Option<Next>
         ensures { result ≡ unwritten self.now }
@@ -210,36 +205,52 @@ impl Connection {
         self.written = 0;
     }
 
-    // Takes bytes that were read, and serves what they complete.
-    fn take<S: Serve>(&mut self, piece: &[u8], server: &mut S) -> Result<Next, LoopFault>
+    /// Whether a whole message waits, which is served next.
+    pub fn has_message(&self) -> bool
+        ensures { result ≡ has_message self.now }
+    {
+        matches!(self.stage, Stage::Reading) && self.framer.has_whole()
+    }
+
+    // Serves the message in front, if it is whole. A bad length there is the end. What is answered then; nothing where more bytes are wanted.
+    fn take_front<S: Serve>(&mut self, server: &mut S) -> Option<Result<Next, LoopFault>>
         requires open { self.old.stage ≡ Begun }
-        ensures { MatchResult result (λ next. Took S.steps piece.now self.old server.old next self.new server.new) (λ fault. Lacked S.steps piece.now self.old server.old fault self.new server.new) }
+        ensures { MatchOption result ((front_of 65535 self.old.unserved ≡ Wanting) × (self.new ≡ self.old) × (server.new ≡ server.old))
+            (λ told. (front_of 65535 self.old.unserved ≢ Wanting) × ((left : Option (List ℕ)) → ReadsBy S.steps (front_of 65535 self.old.unserved) left left self.old server.old told self.new server.new)) }
     {
         self.close_up();
-        if self.framer.feed(piece).is_err() {
-            self.stage = Stage::Failed;
-            return Err(LoopFault::NoMemory);
-        }
-        let served = serve_whole(
-            server,
-            self.asker,
-            &mut self.framer,
-            &mut self.output,
-            &mut self.moved,
-        );
-        match served {
-            Ok(stage) => {
-                self.stage = stage;
-                Ok(self.after_read())
+        match serve_front(server, self.asker, &mut self.framer, &mut self.output) {
+            Ok(InFront::Nothing) => None,
+            Ok(InFront::Message) => {
+                self.moved = true;
+                Some(Ok(Next::More))
+            }
+            Ok(InFront::Fault) => {
+                self.stage = Stage::Ending;
+                Some(Ok(self.ending()))
             }
             Err(_) => {
+                self.moved = true;
                 self.stage = Stage::Failed;
-                Err(LoopFault::NoMemory)
+                Some(Err(LoopFault::NoMemory))
             }
         }
     }
 
-    /// Reads once, at most, and serves each message that is whole then. An `Err` fails the connection:
+    // Takes bytes that were read.
+    fn take(&mut self, piece: &[u8]) -> Result<Next, LoopFault>
+        requires open { self.old.stage ≡ Begun }
+        ensures { MatchResult result (λ next. (next ≡ Going) × (self.new ≡ record self.old { unserved = self.old.unserved ++ piece.now }))
+            (λ fault. (fault ≡ Wanted) × (self.new ≡ record self.old { stage = Broken })) }
+    {
+        if self.framer.feed(piece).is_err() {
+            self.stage = Stage::Failed;
+            return Err(LoopFault::NoMemory);
+        }
+        Ok(Next::More)
+    }
+
+    /// Serves the message in front, where it is whole, and else reads once, at most. An `Err` fails the connection:
     /// from then on each call answers `Closed`.
     pub fn on_readable<R: Read, S: Serve>(
         &mut self,
@@ -252,13 +263,16 @@ impl Connection {
         if let Some(next) = self.unread() {
             return Ok(next);
         }
+        if let Some(told) = self.take_front(server) {
+            return told;
+        }
         let mut chunk = [0; CHUNK];
         match reader.read(&mut chunk) {
             Ok(0) => {
                 self.stage = Stage::Ending;
                 Ok(self.ending())
             }
-            Ok(count) => self.take(&chunk[..count], server),
+            Ok(count) => self.take(&chunk[..count]),
             Err(e) => match e.kind() {
                 ErrorKind::WouldBlock => Ok(Next::Blocked),
                 ErrorKind::Interrupted => Ok(Next::More),

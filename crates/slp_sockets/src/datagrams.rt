@@ -1,7 +1,7 @@
 //! The datagrams of a loop: they are received, served and answered together.
 ghost use Rattle.std.specs.Prelude.{◌≡◌, ◌⊎◌, ◌≤◌, ℕ, [], ◌++◌, take, map, length, List, Option, IfErr, IfOk};
 ghost use Rattle.std.specs.declared.io.Error.{Error};
-ghost use Rattle.slp_sockets.specs.Ports.{Happening, Came, Left, Runs, ServedFor, AreAnswered, IsRound, Serves, ServesAll, Says, IsThrough, owed, pausing, in_all};
+ghost use Rattle.slp_sockets.specs.Ports.{Happening, Came, Left, Runs, ServedFor, AreAnswered, IsRound, ServesRound, Says, IsThrough, owed, pausing};
 ghost use Rattle.slp_sockets.specs.Ports as spec;
 ghost use Rattle.slp_sockets.specs.Exchanging.{datagram, datagrams, back, dues, all_dues, received_into, Stopped};
 ghost use Rattle.slp_sockets.specs.declared.fault.LoopFault.TheVariants.{Io as Failing};
@@ -25,13 +25,9 @@ pub const DATAGRAMS: Token = Token(0xffff_ffff_ffff_fffe);
 /// The bytes that one datagram may take back.
 const LONGEST_REPLY: usize = 1_400;
 
-/// How many datagrams are received before the first is served, and served before the first answer is
-/// sent: more of them are answered a second so than one by one.
+/// How many datagrams one event may bring. They are received before the first is served, and served before the first answer is
+/// sent: more of them are answered a second so than one by one. What is left is reported again, so that the streams get their turn.
 const TOGETHER: usize = 16;
-
-/// How many times so many one event may bring: half of what a socket's buffer mostly holds. What is left is
-/// reported again, so that the streams get their turn.
-const ROUNDS: usize = 8;
 
 // What a socket has after a failed receive, unless the socket itself is of no use any more.
 fn rest_after(error: &io::Error) -> Result<Rest, LoopFault>
@@ -161,16 +157,6 @@ fn serve_round<P: Port, S: Serve>(
     told
 }
 
-// Whether no more are to be received now.
-fn is_over(told: Result<Rest, LoopFault>) -> bool
-    ensures { result ≡ spec.is_over told }
-{
-    match told {
-        Ok(Rest::More) => false,
-        Ok(Rest::Nothing | Rest::Later) | Err(_) => true,
-    }
-}
-
 /// A socket of datagrams, with what serving takes. Contracts see the socket.
 #[derive(Drop)]
 pub struct Datagrams<P: Port + Drop> {
@@ -205,17 +191,11 @@ impl<P: Port + Drop> Datagrams<P> {
         })
     }
 
-    /// Serves what has come, a bounded number at most: what the socket has then, or `Io` where the socket itself failed.
+    /// Serves what has come, 16 datagrams at most: what the socket has then, or `Io` where the socket itself failed.
     pub fn serve<S: Serve>(&mut self, server: &mut S) -> Result<Rest, LoopFault>
-        ensures { (rounds : List (List Happening)) × Runs P.may self.old (in_all rounds) self.new × Serves S.steps S.settles server.old rounds server.new × IsThrough 128 result (in_all rounds) }
+        ensures { (hs : List Happening) × Runs P.may self.old hs self.new × IsRound S.steps S.settles server.old hs server.new × IsThrough 16 result hs }
     {
-        for _ in 0..ROUNDS {
-            let told = serve_round(self.exchanges.as_mut_slice(), &mut self.port, server);
-            if is_over(told) {
-                return told;
-            }
-        }
-        Ok(Rest::More)
+        serve_round(self.exchanges.as_mut_slice(), &mut self.port, server)
     }
 }
 
@@ -244,7 +224,7 @@ impl Datagrams<UdpSocket> {
         server: &mut S,
     ) -> Result<(), LoopFault>
         ensures fault { IfErr result (λ e. e ≡ Failing) }
-        ensures served { ServesAll S.steps S.settles server.old server.new ⊎ (server.new ≡ server.old) }
+        ensures served { ServesRound S.steps S.settles server.old server.new ⊎ (server.new ≡ server.old) }
     {
         if !self.receives_again {
             return Ok(());

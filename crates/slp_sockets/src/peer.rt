@@ -1,5 +1,5 @@
 //! A stream of a loop. Nothing else reads it, or writes to it.
-ghost use Rattle.std.specs.Prelude.{◌≡◌, true, Result};
+ghost use Rattle.std.specs.Prelude.{◌≡◌, true, false, Result};
 ghost use Rattle.slp_sockets.specs.Linking.{Link};
 ghost use Rattle.slp_sockets.specs.Sitting.{seat};
 ghost use Rattle.slp_sockets.specs.Streaming.{Advances, Goes};
@@ -17,7 +17,7 @@ use mio::{Interest, Registry, Token};
 use std::alloc::Global;
 use std::io::{self, Read, Write};
 
-/// How many steps of a stream one event may cause. What is left is reported again, so that no stream keeps the others from their turn.
+/// How many steps of a stream one event may cause, of which one serves a message at most. What is left is reported again, so that no stream keeps the others from their turn.
 const STEPS_AT_ONCE: usize = 16;
 
 /// What a stream is waited for: that it can be read, or written to.
@@ -39,17 +39,23 @@ fn end_of(read: Next, written: Next) -> Option<Next>
     }
 }
 
-// Reads, serves and writes until the stream is blocked. `More` where it is not yet. What was told of the messages is out before
-// their replies are written.
+// Reads and writes until the stream is blocked, and serves one message at most. `More` where it is not blocked yet, or another message waits. What was told of the message is out
+// before its reply is written.
 fn take_steps<T: Read + Write, S: Serve>(
     connection: &mut Connection,
     stream: &mut T,
     server: &mut S,
 ) -> Result<Next, LoopFault>
-    ensures { Goes S.steps S.settles 16 (record { brings = T.remaining stream.old; taken = T.contents stream.old; link = connection.old; server = server.old })
+    ensures { Goes S.steps S.settles 16 false (record { brings = T.remaining stream.old; taken = T.contents stream.old; link = connection.old; server = server.old })
         result (record { brings = T.remaining stream.new; taken = T.contents stream.new; link = connection.new; server = server.new }) }
 {
+    let mut has_served = false;
     for _ in 0..STEPS_AT_ONCE {
+        let is_next = connection.has_message();
+        if is_next & has_served {
+            return Ok(Next::More);
+        }
+        has_served = is_next | has_served;
         let read = connection.on_readable(stream, server)?;
         let settled = settle(server);
         let written = connection.on_writable(stream, settled)?;

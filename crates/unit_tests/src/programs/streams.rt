@@ -120,12 +120,13 @@ fn pieces_come_and_go(rt: HostRuntime) -> Result<(), Fail> {
 }
 
 #[test]
-fn all_is_written_at_once_that_is_taken(rt: HostRuntime) -> Result<(), Fail> {
+fn a_reply_is_written_at_once_before_the_next_message_is_served(rt: HostRuntime) -> Result<(), Fail> {
     let requests = numbered(rt.alloc(), &REQUEST, 3)?;
     let mut from = source(requests.as_slice(), 144);
     let mut to = sink(rt.alloc(), 100);
     let holds = answers(rt.alloc(), &mut from, &mut to, &[Ok(Next::Closed)]);
-    assert_holds(&rt, holds && to.calls == 1, "one write");
+    assert_holds(&rt, holds && to.calls == 3, "a write for each");
+    assert_holds(&rt, from.calls == 2, "one read, and one that meets the end");
     Ok(())
 }
 
