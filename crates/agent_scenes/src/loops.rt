@@ -34,21 +34,32 @@ where
         }
     }
 
+    // Asks the second loop, once the first is inside its entry, and has that go on then.
+    fn ask_second(&mut self, message: &[u8], out: &mut Vec<u8>) -> io::Result<()> {
+        self.props.meeting.wait_for_first(self.rt);
+        let second = self.send_to_loop(2, message)?;
+        self.reply_of(&second, out)?;
+        self.props.meeting.end();
+        Ok(())
+    }
+
+    // Asks both loops the same.
+    fn ask_both(&mut self, message: &[u8], out: &mut Vec<u8>) -> io::Result<()> {
+        let first = self.send_to_loop(1, message)?;
+        self.ask_second(message, out)?;
+        self.reply_of(&first, out)
+    }
+
     /// The first loop stays in its entry until the second has answered the same.
     pub(crate) fn two_loops_at_once(&mut self, text: &str, out: &mut Vec<u8>) -> io::Result<()> {
         let message = self.message(text)?;
         self.props.meeting.call();
-        let first = self.send_to_loop(1, message.as_slice())?;
-        self.props.meeting.wait_for_first(self.rt);
-        let second = self.send_to_loop(2, message.as_slice())?;
-        self.reply_of(&second, out)?;
-        self.props.meeting.end();
-        self.reply_of(&first, out)?;
-        let word = if self.props.meeting.were_both_inside() {
-            "yes"
+        self.ask_both(message.as_slice(), out)?;
+        let told = if self.props.meeting.were_both_inside() {
+            "# both were inside at once: yes\n"
         } else {
-            "no"
+            "# both were inside at once: no\n"
         };
-        writeln!(out, "# both were inside at once: {word}")
+        out.write_all(told.as_bytes())
     }
 }

@@ -174,14 +174,27 @@ where
         }
     }
 
-    // Writes the configuration of an agent in one scope, at one address, with a file of rules where one is named.
-    fn write_site(&mut self, rules: &str) -> io::Result<()> {
+    // A text with the agent's port for `PORT`.
+    fn with_port(&self, text: &str) -> io::Result<String> {
         let port = format!(in self.alloc; "{}", self.place.port)?;
-        let mut text = SITE.replace(self.alloc, "PORT", port.as_str())?;
+        Ok(text.replace(self.alloc, "PORT", port.as_str())?)
+    }
+
+    // Writes the configuration of an agent in one scope, at one address, with a file of rules where one is named.
+    fn write_site(&self, rules: &str) -> io::Result<()> {
+        let mut text = self.with_port(SITE)?;
         if !rules.is_empty() {
             writeln!(text, "rules = \"{rules}\"")?;
         }
         fs::write(self.rt, CONFIG, text.as_str())
+    }
+
+    // Appends a line to the text of a file.
+    fn add_line(&self, text: &mut String, line: &str) -> io::Result<()> {
+        let line = self.with_port(line)?;
+        text.push_str(line.as_str())?;
+        text.push_str("\n")?;
+        Ok(())
     }
 
     // Takes a line of a file, or its end.
@@ -189,10 +202,7 @@ where
         if line == "." {
             return fs::write(self.rt, block.name.as_str(), block.text.as_str());
         }
-        let port = format!(in self.alloc; "{}", self.place.port)?;
-        let line = line.replace(self.alloc, "PORT", port.as_str())?;
-        block.text.push_str(line.as_str())?;
-        block.text.push_str("\n")?;
+        self.add_line(&mut block.text, line)?;
         self.block = Some(block);
         Ok(())
     }
@@ -420,14 +430,29 @@ where
         writeln!(out, "= {status}{late}")
     }
 
+    // Prints the row that failed itself, if one did.
+    fn print_fault(&self, out: &mut Vec<u8>) -> io::Result<()> {
+        match &self.fault {
+            Some(fault) => writeln!(out, "(a row failed: {fault})"),
+            None => Ok(()),
+        }
+    }
+
+    // Prints how the scene ended.
+    fn print_ending(&mut self, status: Option<u8>, out: &mut Vec<u8>) -> io::Result<()> {
+        self.print_fault(out)?;
+        match status {
+            Some(status) => self.print_end(status, out),
+            None => Ok(()),
+        }
+    }
+
     /// Prints how an agent ended, if there was one, and answers how long the next scene waits.
     pub fn end(mut self, status: Option<u8>, out: &mut Vec<u8>) -> io::Result<u64> {
-        if let Some(fault) = self.fault.take() {
-            writeln!(out, "(a row failed: {fault})")?;
-        }
-        if let Some(status) = status {
-            self.print_end(status, out)?;
-        }
-        Ok(self.patience)
+        let told = self.print_ending(status, out);
+        let patience = self.patience;
+        drop(self);
+        told?;
+        Ok(patience)
     }
 }

@@ -7,7 +7,7 @@ use crate::words::{cut, number_of};
 use std::fs;
 use std::fs::File;
 use std::io::{self, BufRead, ErrorKind, Read, Write};
-use std::net::{Net, TcpListener, TcpStream};
+use std::net::{Net, TcpListener, TcpStream, UdpSocket};
 use std::rt::Files;
 use std::sync::Wait;
 use std::thread::Threads;
@@ -56,14 +56,20 @@ where
         let message = self.message(text)?;
         let socket = socket(self.rt, self.place.from, QUIET)?;
         socket.send_to(message.as_slice(), self.peer())?;
+        self.print_held(&socket, out)?;
+        self.held = Some(socket);
+        Ok(())
+    }
+
+    // Prints where the agent does not wait at the valve, and where a reply came all the same.
+    fn print_held(&self, socket: &UdpSocket, out: &mut Vec<u8>) -> io::Result<()> {
         if !self.props.valve.is_reached(self.rt) {
             out.write_all(b"(not held)\n")?;
         }
-        if receive(self.alloc, &socket).is_ok() {
-            out.write_all(b"(answered)\n")?;
+        match receive(self.alloc, socket) {
+            Ok(_) => out.write_all(b"(answered)\n"),
+            Err(_) => Ok(()),
         }
-        self.held = Some(socket);
-        Ok(())
     }
 
     // Opens the valve, and prints the reply to the datagram that was held.
@@ -147,15 +153,20 @@ where
         Ok(())
     }
 
+    // Opens a stream, and writes a message so many times at once, numbered from a first one on.
+    fn send_on_stream(&mut self, message: &mut [u8], numbers: (u16, u16)) -> io::Result<()> {
+        let stream = stream(self.rt, self.peer(), self.wait())?;
+        let sent = send_messages(self.alloc, stream, message, numbers)?;
+        self.sent.push(sent)?;
+        Ok(())
+    }
+
     // Opens so many streams, and writes a message on each.
     pub(super) fn streams(&mut self, text: &str) -> io::Result<()> {
         let (count, text) = cut(text);
         let mut message = self.message(text)?;
         for xid in 0..number_of(count, 1_000) {
-            let stream = stream(self.rt, self.peer(), self.wait())?;
-            let numbers = (xid as u16, 1);
-            let sent = send_messages(self.alloc, stream, message.as_mut_slice(), numbers)?;
-            self.sent.push(sent)?;
+            self.send_on_stream(message.as_mut_slice(), (xid as u16, 1))?;
         }
         Ok(())
     }
@@ -164,11 +175,8 @@ where
     pub(super) fn messages(&mut self, text: &str) -> io::Result<()> {
         let (count, text) = cut(text);
         let mut message = self.message(text)?;
-        let stream = stream(self.rt, self.peer(), self.wait())?;
         let numbers = (0, number_of(count, 60_000) as u16);
-        let sent = send_messages(self.alloc, stream, message.as_mut_slice(), numbers)?;
-        self.sent.push(sent)?;
-        Ok(())
+        self.send_on_stream(message.as_mut_slice(), numbers)
     }
 
     // Waits for the replies to what was sent at once, and prints how many came in order.

@@ -16,7 +16,16 @@ use std::thread::{Threads, join};
 use std::time::{Clock, Duration};
 use tool_program::tool_run;
 
-impl<R> Scene<'_, R>
+/// What is called with a directory that is none: it, the words of the tool, and the two ends of the tool's input.
+#[derive(Drop)]
+struct Called {
+    fake: Fake,
+    words: Vec<String>,
+    ours: TcpStream,
+    theirs: TcpStream,
+}
+
+impl<'r, R> Scene<'r, R>
 where
     R: Net<Listener = TcpListener, Stream = TcpStream>
         + Clock
@@ -43,23 +52,33 @@ where
         }
     }
 
-    // Calls the tool, whose input begins with a line, and ends after so long. Once it had no answer it is not called any more.
-    fn call(&mut self, after: u64, words: &[String], out: &mut Vec<u8>) -> io::Result<()> {
-        if self.patience == 0 {
-            return out.write_all(b"(not called)\n");
-        }
-        let (mut ours, theirs) = pair(self.rt)?;
-        ours.write_all(b"a\n")?;
-        theirs.set_read_timeout(Some(Duration::from_millis(after.max(1))))?;
-        let mut printed = Vec::new(self.alloc);
-        let handed = Handed {
+    // A runtime whose clock runs, and which tells the seconds that rows set.
+    fn handed(&self) -> Handed<'r, R> {
+        Handed {
             rt: self.rt,
             moment: &self.props.steady,
             is_running: true,
             seconds: &self.props.seconds,
             asked: &self.props.asked,
-        };
-        let status = tool_run(&handed, self.alloc, words, theirs, &mut printed);
+        }
+    }
+
+    // The two ends of the tool's input, which begins with a line, and ends after so long.
+    fn input(&self, after: u64) -> io::Result<(TcpStream, TcpStream)> {
+        let (mut ours, theirs) = pair(self.rt)?;
+        ours.write_all(b"a\n")?;
+        theirs.set_read_timeout(Some(Duration::from_millis(after.max(1))))?;
+        Ok((ours, theirs))
+    }
+
+    // Calls the tool, whose input ends after so long. Once it had no answer it is not called any more.
+    fn call(&mut self, after: u64, words: &[String], out: &mut Vec<u8>) -> io::Result<()> {
+        if self.patience == 0 {
+            return out.write_all(b"(not called)\n");
+        }
+        let (_ours, theirs) = self.input(after)?;
+        let mut printed = Vec::new(self.alloc);
+        let status = tool_run(&self.handed(), self.alloc, words, theirs, &mut printed);
         self.note_status(status);
         self.print_call(status, printed.as_slice(), out)
     }
@@ -91,23 +110,32 @@ where
         self.tool(number_of(after, 10_000), words.as_str(), out)
     }
 
+    // What is called with a directory that is none, which is asked with these words.
+    fn called(&self, line: &str) -> io::Result<Called> {
+        let fake = Fake::new(self.rt)?;
+        let words = self.words(Ipv4Addr::LOCALHOST, fake.port()?, line)?;
+        let (ours, theirs) = pair(self.rt)?;
+        Ok(Called {
+            fake,
+            words,
+            ours,
+            theirs,
+        })
+    }
+
     // Calls the tool with a directory that answers what the rows before said.
     pub(super) fn serve(&mut self, line: &str, out: &mut Vec<u8>) -> io::Result<()> {
         if self.patience == 0 {
             return out.write_all(b"(not called)\n");
         }
-        let mut fake = Fake::new(self.rt)?;
-        let words = self.words(Ipv4Addr::LOCALHOST, fake.port()?, line)?;
-        let (_ours, theirs) = pair(self.rt)?;
+        let Called {
+            mut fake,
+            words,
+            ours: _ours,
+            theirs,
+        } = self.called(line)?;
         let mut printed = Vec::new(self.alloc);
-        let (rt, alloc) = (self.rt, self.alloc);
-        let handed = Handed {
-            rt,
-            moment: &self.props.steady,
-            is_running: true,
-            seconds: &self.props.seconds,
-            asked: &self.props.asked,
-        };
+        let (rt, alloc, handed) = (self.rt, self.alloc, self.handed());
         let answers = &mut self.answers;
         let (requests, status) = join(
             rt,
@@ -116,10 +144,21 @@ where
         );
         self.answers = Answers::none(self.alloc);
         self.note_status(status);
+        self.print_served(&requests, status, printed.as_slice(), out)
+    }
+
+    // Prints what a directory was asked, where that is known, and what the tool printed.
+    fn print_served(
+        &self,
+        requests: &io::Result<Vec<Vec<u8>>>,
+        status: u8,
+        printed: &[u8],
+        out: &mut Vec<u8>,
+    ) -> io::Result<()> {
         if let Ok(requests) = requests {
             self.print_requests(requests.as_slice(), out)?;
         }
-        self.print_call(status, printed.as_slice(), out)
+        self.print_call(status, printed, out)
     }
 
     fn print_requests(&self, requests: &[Vec<u8>], out: &mut Vec<u8>) -> io::Result<()> {
@@ -133,9 +172,12 @@ where
 
     // Calls the tool with a directory that is silent, by a clock that is handed in.
     pub(super) fn silent(&self, line: &str, out: &mut Vec<u8>) -> io::Result<()> {
-        let fake = Fake::new(self.rt)?;
-        let words = self.words(Ipv4Addr::LOCALHOST, fake.port()?, line)?;
-        let (_ours, theirs) = pair(self.rt)?;
+        let Called {
+            fake,
+            words,
+            ours: _ours,
+            theirs,
+        } = self.called(line)?;
         let moment = AtomicU64::new(0);
         let handed = Handed {
             rt: self.rt,
@@ -150,7 +192,18 @@ where
             || fake.stay_silent(&moment, &mut moments).is_ok(),
             || tool_run(&handed, self.alloc, words.as_slice(), theirs, &mut printed),
         );
-        out.write_all(moments.as_slice())?;
-        self.print_call(status, printed.as_slice(), out)
+        self.print_silent(moments.as_slice(), status, printed.as_slice(), out)
+    }
+
+    // Prints at which moments a directory was asked, and what the tool printed.
+    fn print_silent(
+        &self,
+        moments: &[u8],
+        status: u8,
+        printed: &[u8],
+        out: &mut Vec<u8>,
+    ) -> io::Result<()> {
+        out.write_all(moments)?;
+        self.print_call(status, printed, out)
     }
 }

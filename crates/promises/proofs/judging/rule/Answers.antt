@@ -1,4 +1,0 @@
-use Rattle.promises.proofs.judging.rule.Goals as goal
-
-pub returns : goal.returns
-returns g c = c.rule-told.ensures

@@ -1,4 +1,0 @@
-use Rattle.promises.proofs.messages.read_question.Goals as goal
-
-pub returns : goal.returns
-returns c = c.read_question-told.ensures

@@ -1,4 +1,0 @@
-use Rattle.promises.proofs.questions.now.Goals as goal
-
-pub returns : goal.returns
-returns g c = c.now-told.ensures
