@@ -1,5 +1,5 @@
 //! Which keys of a configuration are at fault.
-ghost use Rattle.std.specs.Prelude.{◌≡◌, ◌≤◌, OnOk, flat_map, length};
+ghost use Rattle.std.specs.Prelude.{◌≡◌, OnOk, flat_map};
 ghost use Rattle.std.specs.Io.KnownBytes.{Appends};
 ghost use Rattle.toml.specs.Errors.{IsMemory, span_start};
 ghost use Rattle.toml.specs.View.{table_view, view};

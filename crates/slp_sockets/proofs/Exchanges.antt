@@ -1,5 +1,5 @@
 -- The exchanges of a loop, one after the other.
-use Rattle.std.proofs.Common.{◌≡◌, ◌≤◌, ◌<◌, ℕ, ◌+◌, ◌*◌, true, false, List, [], ◌∷◌, ◌++◌, map, take, drop, set, length, get_or, Option, Some, None, Result, Ok, Err, refl, sym, ap, ◌∙◌, subst, arith, length-drop}
+use Rattle.std.proofs.Common.{◌≡◌, ◌≤◌, ◌<◌, ℕ, ◌+◌, List, [], ◌∷◌, ◌++◌, map, take, drop, set, length, get_or, Option, Some, None, Result, Ok, refl, sym, ap, ◌∙◌, subst, arith, length-drop}
 use Rattle.std.proofs.lemmas.List.{append-nil, map-append, length-map, map_more, take_more, take_more_set, take-set, take_all, length-take-le, drop_more, drop-set-lt}
 use Rattle.std.proofs.lemmas.Grind.{flat_map-append}
 use Rattle.std.specs.declared.io.Error.{Error}
@@ -8,7 +8,7 @@ use Rattle.slp_sockets.specs.Ports.{Datagram, Happening, Came, Paused, Left, Por
 use Rattle.slp_sockets.specs.Serving.{Steps, Settles}
 use Rattle.slp_sockets.specs.declared.exchange.Exchange.{Exchange}
 use Rattle.slp_sockets.specs.declared.exchange.Rest.{Rest}
-use Rattle.slp_sockets.specs.declared.exchange.Rest.TheVariants.{Nothing, More, Later}
+use Rattle.slp_sockets.specs.declared.exchange.Rest.TheVariants.{More}
 use Rattle.slp_sockets.specs.declared.fault.LoopFault.{LoopFault}
 use Rattle.slp_sockets.proofs.Ports.{runs_on, runs_one, answered_on, answered_one, through}
 

@@ -3,7 +3,7 @@ use Rattle.std.proofs.Common.{◌≡◌, ◌≤◌, ℕ, ◌+◌, List, [], ◌�
 use Rattle.std.proofs.lemmas.List.{append-nil, append_assoc}
 use Rattle.std.specs.declared.io.Error.{Error}
 use Rattle.slp_sockets.specs.Exchanging.{Stopped}
-use Rattle.slp_sockets.specs.Ports.{Datagram, Happening, Came, Paused, Left, Ports, Runs, ServedFor, AreAnswered, Says, GoOnTo, NoPause, IsEnough, IsThrough, IsPausedBy, asker_of, owed, pausing, pause_after, effort}
+use Rattle.slp_sockets.specs.Ports.{Datagram, Happening, Came, Paused, Left, Ports, Runs, ServedFor, AreAnswered, Says, GoOnTo, NoPause, IsEnough, IsThrough, asker_of, owed, pausing, pause_after, effort}
 use Rattle.slp_sockets.specs.Serving.{Steps}
 use Rattle.slp_sockets.specs.declared.exchange.Rest.{Rest}
 use Rattle.slp_sockets.specs.declared.exchange.Rest.TheVariants.{Nothing, More, Later}

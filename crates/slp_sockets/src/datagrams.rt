@@ -1,5 +1,5 @@
 //! The datagrams of a loop: they are received, served and answered together.
-ghost use Rattle.std.specs.Prelude.{◌≡◌, ◌⊎◌, ◌≤◌, ℕ, [], ◌++◌, take, map, length, List, Option, IfErr, IfOk};
+ghost use Rattle.std.specs.Prelude.{◌≡◌, ◌⊎◌, ◌≤◌, ◌++◌, take, map, length, List, Option, IfErr, IfOk};
 ghost use Rattle.std.specs.declared.io.Error.{Error};
 ghost use Rattle.slp_sockets.specs.Ports.{Happening, Came, Left, Runs, ServedFor, AreAnswered, IsRound, ServesRound, Says, IsThrough, owed, pausing};
 ghost use Rattle.slp_sockets.specs.Ports as spec;

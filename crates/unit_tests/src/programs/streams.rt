@@ -120,7 +120,9 @@ fn pieces_come_and_go(rt: HostRuntime) -> Result<(), Fail> {
 }
 
 #[test]
-fn a_reply_is_written_at_once_before_the_next_message_is_served(rt: HostRuntime) -> Result<(), Fail> {
+fn a_reply_is_written_at_once_before_the_next_message_is_served(
+    rt: HostRuntime,
+) -> Result<(), Fail> {
     let requests = numbered(rt.alloc(), &REQUEST, 3)?;
     let mut from = source(requests.as_slice(), 144);
     let mut to = sink(rt.alloc(), 100);
