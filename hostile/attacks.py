@@ -5,6 +5,7 @@ import multiprocessing.connection
 import random
 import socket
 import struct
+import threading
 import time
 
 from messages import LONGEST, Breaker, attributes, bombs, code_of, registration, services, types
@@ -14,6 +15,7 @@ WINDOW, WEIGHT, OVERHEAD = 64, 49152, 768  # what is sent before a question has 
 LIVE = 32  # streams of a sender that are open at once
 RESETTING = struct.pack("ii", 1, 0)
 QUESTION, NOWHERE = services("service:printer"), types("nowhere")
+PIECE, PIECE_WAITS = 85, 4  # questions in one piece of a stream, and for how many of them a datagram may wait
 
 
 class Told:
@@ -172,6 +174,45 @@ def explode(server, bounds, say):
             told.lost.append(f"the bomb {name!r} and what it needs brought codes {codes}")
         if sum(waits) > bound:
             told.lost.append(f"the bomb {name!r} took {sum(waits):.1f} s, and may take {bound}")
+    return told
+
+
+def measured(stream, question):
+    """How long one question on a stream takes, the shortest of five."""
+    waits = []
+    for _ in range(5):
+        began = time.monotonic()
+        stream.sendall(question)
+        take(stream)
+        waits.append(time.monotonic() - began)
+    return min(waits)
+
+
+def in_one_piece(server, say):
+    """A long question many times in one piece of a stream: how long datagrams to the same address wait, who may wait for some of them, and not for all."""
+    told, waits = Told(), []
+    question = services("piece", predicate="(|" + "".join(f"(c={number})" for number in range(500)) + ")")
+    with server.stream("127.0.2.1") as stream, server.datagrams("127.0.3.9") as asker:
+        for number in range(800):
+            stream.sendall(registration(f"piece:{number}", "piece", attrs="(a=1),(b=2)", lifetime=600))
+            if told.reply(take(stream)) != 0:
+                break
+        alone = measured(stream, question)
+        bound = PIECE_WAITS * alone + 0.05
+        reader = threading.Thread(target=lambda: [told.reply(take(stream)) for _ in range(PIECE)])
+        reader.start()
+        stream.sendall(question * PIECE)
+        while reader.is_alive():
+            began = time.monotonic()
+            if ask(asker, NOWHERE)[0] is None:
+                told.lost.append("beside many questions in one piece a datagram was not answered")
+                break
+            waits.append(time.monotonic() - began)
+        reader.join()
+    told.sent["questions in one piece"] += PIECE
+    say(f"  {PIECE} questions of {alone * 1000:.1f} ms in one piece: the longest of {len(waits):,} datagrams beside them waited {max(waits) * 1000:.1f} ms")
+    if max(waits) > bound:
+        told.lost.append(f"beside {PIECE} questions in one piece a datagram waited {max(waits):.3f} s, and may wait {bound:.3f}")
     return told
 
 
