@@ -50,10 +50,10 @@ impl<'r, 's, J: Naming, R: Wait + Clock> Sweeping<'r, 's, J, R> {
 }
 
 impl<'r, 's, J: Naming, R: Wait + Clock> Watch for Sweeping<'r, 's, J, R> {
-    ghost use Rattle.std.specs.Prelude.{⊤};
+    ghost use Rattle.agent_program.specs.Turns.{Moves};
 
     // No clause follows a flag, a clock or what lies under a lock.
-    ghost may = { λ before deed after. ⊤ };
+    ghost may = { λ before deed after. Moves deed before.sweeper after.sweeper after.clock };
 
     fn is_over(&mut self, stop: &AtomicBool) -> bool {
         stop.load(Ordering::SeqCst)
