@@ -209,10 +209,11 @@ def in_one_piece(server, say):
                 break
             waits.append(time.monotonic() - began)
         reader.join()
+    longest = max(waits, default=0.0)
     told.sent["questions in one piece"] += PIECE
-    say(f"  {PIECE} questions of {alone * 1000:.1f} ms in one piece: the longest of {len(waits):,} datagrams beside them waited {max(waits) * 1000:.1f} ms")
-    if max(waits) > bound:
-        told.lost.append(f"beside {PIECE} questions in one piece a datagram waited {max(waits):.3f} s, and may wait {bound:.3f}")
+    say(f"  {PIECE} questions of {alone * 1000:.1f} ms in one piece: the longest of {len(waits):,} datagrams beside them waited {longest * 1000:.1f} ms")
+    if longest > bound:
+        told.lost.append(f"beside {PIECE} questions in one piece a datagram waited {longest:.3f} s, and may wait {bound:.3f}")
     return told
 
 
