@@ -52,7 +52,7 @@ impl<'r, 's, J: Naming, R: Wait + Clock> Sweeping<'r, 's, J, R> {
 impl<'r, 's, J: Naming, R: Wait + Clock> Watch for Sweeping<'r, 's, J, R> {
     ghost use Rattle.agent_program.specs.Turns.{Moves};
 
-    // No clause follows a flag, a clock or what lies under a lock.
+    // Nothing is said of the flag, of how long a nap lasts, or of what lies under the lock.
     ghost may = { λ before deed after. Moves deed before.sweeper after.sweeper after.clock };
 
     fn is_over(&mut self, stop: &AtomicBool) -> bool {

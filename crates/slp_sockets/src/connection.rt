@@ -21,10 +21,10 @@ use std::marker::Model;
 /// No message on a stream is longer, and no answer.
 pub const LONGEST_ON_STREAM: usize = 65_535;
 
-/// While more bytes wait to be written, nothing is read.
+/// While more bytes wait to be written, nothing is read, and no message is served.
 const MOST_WAITING: usize = 131_072;
 
-/// The bytes that one read asks for. What one peer can make wait by one read grows with it.
+/// The bytes that one read asks for: so many may wait behind a message that was begun.
 const CHUNK: usize = 4_096;
 
 /// What a loop does next.
