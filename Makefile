@@ -52,6 +52,8 @@ root := $(DESTDIR)$(prefix)
 tools := slpctl slpstat slp
 pages := $(wildcard docs/man/*.[1578])
 page_of = $(root)/share/man/man$(subst .,,$(suffix $(1)))/$(notdir $(1))
+# the page that make/codes writes
+codes := $(call page_of,slp-codes.7)
 completions := $(root)/share/bash-completion/completions
 completed := slptool slpda slpcheck slpctl slpstat slp
 units := $(root)/lib/systemd/system
@@ -66,6 +68,7 @@ install:
 	install -d $(root)/bin $(completions) $(units) $(examples) $(etc)
 	install -m 755 $(addprefix bin/,$(programs)) $(addprefix contrib/,$(tools)) $(root)/bin
 	$(foreach page,$(pages),install -D -m 644 $(page) $(call page_of,$(page)) &&) true
+	install -d $(dir $(codes)) && make/codes > $(codes) && chmod 644 $(codes)
 	install -m 644 contrib/slptool.bash $(completions)/slptool
 	$(foreach name,$(filter-out slptool,$(completed)),ln -sf slptool $(completions)/$(name) &&) true
 	sed 's|/usr/local/bin/|$(prefix)/bin/|g' examples/systemd/slpda.service > $(units)/slpda.service
@@ -78,7 +81,7 @@ install:
 	@echo "Then: slpctl check; systemctl daemon-reload; systemctl enable --now slpda.socket slpda.service"
 
 uninstall:
-	rm -f $(addprefix $(root)/bin/,$(programs) $(tools)) $(foreach page,$(pages),$(call page_of,$(page)))
+	rm -f $(addprefix $(root)/bin/,$(programs) $(tools)) $(foreach page,$(pages),$(call page_of,$(page))) $(codes)
 	rm -f $(addprefix $(completions)/,$(completed)) $(addprefix $(units)/,slpda.service slpda.socket)
 	rm -f $(addprefix $(examples)/,$(site) closed.toml one-scope.toml)
 	@rmdir $(examples) $(dir $(examples)) 2> /dev/null || true
