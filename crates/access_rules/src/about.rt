@@ -1,6 +1,6 @@
 //! What of the rules and hide tables is about one asker.
 ghost use Rattle.std.specs.Prelude.{◌≡◌, ℕ, List, length, nat_eq};
-ghost use Rattle.access_rules.specs.Deciding.{deciding, deed_in, hides_in, is_hidden, is_hidden_from, part_in, IsPart, SeeAlike};
+ghost use Rattle.access_rules.specs.Deciding.{deciding, deed_in, hides_in, is_hidden, is_hidden_from, number, part_in, IsPart, SeeAlike};
 
 use crate::hide::{FittingHides, Hide, fitting, some_hides};
 use crate::rule::{Action, Deed, Rule, is_from};
@@ -81,6 +81,13 @@ impl Rules {
 }
 
 impl<'a> RulesAbout<'a> {
+    /// How many rules there are, with those of others that lie between. Takes no memory.
+    pub fn len(&self) -> usize
+        ensures { result ≡ number (part_in self.now) }
+    {
+        self.rules.len()
+    }
+
     /// Whether nothing is hidden, whatever is asked. Takes no memory.
     pub fn hide_nothing(&self) -> bool
         ensures { result ≡ nat_eq (length (hides_in (part_in self.now))) 0 }

@@ -231,7 +231,7 @@ module _ (o : Opening) (h : History) (legal : IsLegal o h) (c : Call) (datagram 
   held = held-after o h
 
   abbrev viewer : List (List ℕ) → Viewer
-  viewer scopes = record { asker = c.asker; moment = max c.moment s.clock; rules = record { ref_ptr = (0, 0); now = s.rules }; about = record { rules = record { ref_ptr = (0, 0); now = s.rules.rules }; hides = record { ref_ptr = (0, 0); now = s.rules.hides } }; asked = asked_scopes s.site scopes; alike = see_alike c.asker s.rules s.rules (whole_part (λ r. is_rule_about r c.asker) s.rules.rules) (whole_part (λ h. is_hide_about h c.asker) s.rules.hides) }
+  viewer scopes = record { asker = c.asker; moment = max c.moment s.clock; rules = record { ref_ptr = (0, 0); now = s.rules }; about = record { rules = record { ref_ptr = (0, 0); now = s.rules.rules }; hides = record { ref_ptr = (0, 0); now = s.rules.hides } }; asked = asked_scopes s.site scopes; asks_much = false; alike = see_alike c.asker s.rules s.rules (whole_part (λ r. is_rule_about r c.asker) s.rules.rules) (whole_part (λ h. is_hide_about h c.asker) s.rules.hides) }
 
   views : (scopes : List (List ℕ)) → IsViewerOf s c.moment c.asker scopes (viewer scopes)
   views scopes = record { rules = refl; asked = refl; asks = refl; acts = refl }

@@ -1,6 +1,7 @@
 -- Entries, and what is shown of them.
-use Rattle.std.proofs.Common.{◌≡◌, ◌<◌, ◌+◌, ℕ, Bool, true, false, cond, not, List, [], ◌∷◌, ◌++◌, length, get_or, map, Option, Some, None, refl, sym, ap, subst, ◌∙◌, arith, inl, inr}
-use Rattle.std.specs.Prelude.{◌&&◌, ◌||◌, nat_eq, filter, flat_map, is_some, slice_get, Contains, IfSome, IsTrue, MatchOption}
+use Rattle.std.proofs.Common.{◌≡◌, ◌<◌, ◌+◌, ℕ, Bool, true, false, cond, not, List, [], ◌∷◌, ◌++◌, drop, length, get_or, map, Option, Some, None, refl, sym, ap, subst, ◌∙◌, arith, eqb-true, inl, inr}
+use Rattle.std.specs.Prelude.{◌&&◌, ◌||◌, ◌==◌, nat_eq, filter, flat_map, is_some, slice_get, Contains, IsTrue, MatchOption}
+use Rattle.std.proofs.lemmas.Bool.{and_parts}
 use Rattle.std.proofs.lemmas.Bool.Decides.{nat_tests}
 use Rattle.std.proofs.lemmas.List.{nil_from_length}
 use Rattle.std.proofs.lemmas.List.Elements.{Contains-append_cases}
@@ -11,19 +12,20 @@ use Rattle.attr_list.specs.Lists.{Attributes, attributes_of}
 use Rattle.attr_list.specs.Maps.{elements_in, joined_attributes, kept_attributes, selected_attributes}
 use Rattle.attr_list.proofs.Combined.{same_attributes}
 use Rattle.attr_list.proofs.KeptAttributes.{get-kept, joined-kept, kept-all, kept-twice}
-use Rattle.slp_text.proofs.KeySets.{member_cases}
+use Rattle.slp_text.proofs.KeySets.{bytes_same, member_cases}
 use Rattle.slp_tags.specs.Tags.{Part, selects}
-use Rattle.slp_text.specs.Words.{bytes_eq, IsAscending}
-use Rattle.access_rules.specs.Deciding.{Deed, deed, hides_in, is_hidden, is_hidden_by, is_hidden_from, part_in, some_hides}
+use Rattle.slp_text.specs.Words.{bytes_eq, texts_eq, IsAscending}
+use Rattle.access_rules.specs.Deciding.{Deed, deciding, deed, hides_in, is_hidden, is_hidden_by, is_hidden_from, part_in, some_hides}
 use Rattle.access_rules.specs.declared.hide.FittingHides.{FittingHides}
 use Rattle.access_rules.specs.declared.rule.Action.TheVariants.{See}
 use Rattle.registry_core.specs.Entries.{outlives}
 use Rattle.registry_core.specs.declared.entry.Entry.{Entry}
+use Rattle.directory_judge.proofs.SameTexts.{texts_same}
 use Rattle.directory_questions.specs.Items.{AreInOrder, AreJoined, IsElsewhere}
 use Rattle.directory_questions.specs.Sights.{is_left_in, is_open_in, is_shown}
 use Rattle.directory_questions.specs.declared.query.AttrQuery.{AttrQuery}
 use Rattle.directory_state.specs.Deadlines.{UrlDeadline, with_deadline}
-use Rattle.directory_state.specs.Searches.{deadlines_with, is_allowed, is_seen, open_scopes, seen_of, shown_elements, shows_in, AreSeenBy, IsFirst, IsIn, IsInAnd, IsSeenFrom, IsSight, ShowsAll}
+use Rattle.directory_state.specs.Searches.{are_alike, deadlines_with, is_allowed, is_seen, open_scopes, seen_of, shown_elements, shows_in, AreSeenBy, IsFirst, IsFirstOpen, IsIn, IsInAnd, IsSeenFrom, IsSight, ShowsAll}
 use Rattle.directory_state.specs.declared.shown.Sight.{Sight}
 use Rattle.directory_state.specs.declared.viewer.Seen.{Seen}
 use Rattle.directory_state.specs.declared.asked.Viewer.{Viewer}
@@ -59,13 +61,29 @@ module _ (v : Viewer) (e : Entry) where
   none-left tag place within is = turn tag place false within is
 
 -- where an entry that lives is found to be open first, it is seen; where nowhere, it is not
-pub seen-from : (v : Viewer) (e : Entry) (o : Option ℕ) → outlives v.moment e ≡ true → MatchOption o (open_scopes v e 0 ≡ []) (λ place. open_scopes v e 0 ≡ get_or v.asked place [] ∷ open_scopes v e (place + 1))
-    → IfSome o (λ place. place < length v.asked) → MatchOption o (is_seen v e ≡ false) (IsSeenFrom v e)
-seen-from v e None lives none _ = ap (λ b. b && is_allowed v.rules.now v.asker v.asked e) lives ∙ any-none (is_open_in v.rules.now v.asker e) v.asked none
-seen-from v e (Some place) lives first within = (
-  ap (λ b. b && is_allowed v.rules.now v.asker v.asked e) lives ∙ any-some (is_open_in v.rules.now v.asker e) v.asked (get_or v.asked place []) (open_scopes v e (place + 1)) first,
-  record { within = within; first = first },
+pub seen-from : (v : Viewer) (e : Entry) (o : Option ℕ) → outlives v.moment e ≡ true → IsFirstOpen v e o → MatchOption o (is_seen v e ≡ false) (IsSeenFrom v e)
+seen-from v e None lives none = ap (λ b. b && is_allowed v.rules.now v.asker v.asked e) lives ∙ any-none (is_open_in v.rules.now v.asker e) v.asked none
+seen-from v e (Some place) lives first = (
+  ap (λ b. b && is_allowed v.rules.now v.asker v.asked e) lives ∙ any-some (is_open_in v.rules.now v.asker e) v.asked (get_or v.asked place []) (open_scopes v e (place + 1)) first.first,
+  first,
 )
+
+-- entries alike are open in the same scopes
+open-alike : (v : Viewer) (e f : Entry) → are_alike e f ≡ true → (from : ℕ) → open_scopes v e from ≡ open_scopes v f from
+open-alike v e f alike from =
+    let open_of : List ℕ → List (List ℕ) → ℕ → List (List ℕ) =
+        λ kind scopes owner. filter (λ s. list_any (λ k. bytes_eq k s) scopes && (deciding v.rules.now (deed v.asker See kind owner) s).allow) (drop from v.asked) in
+    let scopes = and_parts (e.owner == f.owner && bytes_eq e.kind f.kind) (texts_eq e.scopes f.scopes) alike in
+    let kinds = and_parts (e.owner == f.owner) (bytes_eq e.kind f.kind) scopes.0 in
+    ap (λ kind. open_of kind e.scopes e.owner) (bytes_same e.kind f.kind kinds.1) ∙ ap (λ names. open_of f.kind names e.owner) (texts_same e.scopes f.scopes scopes.1)
+    ∙ ap (open_of f.kind f.scopes) (eqb-true e.owner f.owner kinds.0)
+
+pub first-alike : (v : Viewer) (e f : Entry) (o : Option ℕ) → are_alike e f ≡ true → IsFirstOpen v e o → IsFirstOpen v f o
+first-alike v e f None alike none = sym (open-alike v e f alike 0) ∙ none
+first-alike v e f (Some place) alike first = record {
+  within = first.within;
+  first = sym (open-alike v e f alike 0) ∙ first.first ∙ ap (λ ss. get_or v.asked place [] ∷ ss) (open-alike v e f alike (place + 1));
+}
 
 -- it is seen where such a scope is found
 pub seen-some : (v : Viewer) (e : Entry) (o : Option ℕ) → MatchOption o (is_seen v e ≡ false) (IsSeenFrom v e) → is_seen v e ≡ is_some o

@@ -1,5 +1,5 @@
 -- How what answers a question is found: each entry that is seen joins a list of URLs with their latest deadlines, which is cut to its room.
-use Rattle.std.specs.Prelude.{◌≡◌, ℕ, ◌+◌, ◌-◌, ◌<◌, ◌≤◌, Bool, true, ◌&&◌, nat_le, min, if◌then◌else◌, List, [], ◌∷◌, drop, get_or, length, map, filter, Contains, vec_items, Option, Some, None, IfSome, IsTrue}
+use Rattle.std.specs.Prelude.{◌≡◌, ℕ, ◌+◌, ◌-◌, ◌<◌, ◌≤◌, ◌==◌, Bool, true, ◌&&◌, nat_le, min, if◌then◌else◌, List, [], ◌∷◌, drop, get_or, length, map, filter, Contains, vec_items, Option, Some, None, IfSome, IsTrue, MatchOption}
 use Rattle.access_rules.specs.Deciding.{SiteRules, deed, is_hidden, is_hidden_by}
 use Rattle.access_rules.specs.declared.rule.Action.TheVariants.{See}
 use Rattle.attr_list.specs.Elements.{Element}
@@ -17,12 +17,13 @@ use Rattle.directory_state.specs.Deadlines.{UrlDeadline, with_deadline, total_co
 use Rattle.std.specs.List.{AllByRecursion, list_any}
 use Rattle.std.specs.Borrow.{Bor}
 use Rattle.std.specs.Ordering.{is_le}
-use Rattle.slp_text.specs.Words.{bytes_cmp, bytes_eq, IsAscending}
+use Rattle.slp_text.specs.Words.{bytes_cmp, bytes_eq, texts_eq, IsAscending}
 use Rattle.directory_state.specs.declared.search.Shortlist.{Shortlist}
 use Rattle.directory_state.specs.declared.search.Room.{Room}
 use Rattle.directory_state.specs.declared.search.Search.{Search}
 use Rattle.directory_state.specs.declared.search.Spoken.{Spoken}
 use Rattle.directory_state.specs.declared.shown.Sight.{Sight}
+use Rattle.directory_state.specs.declared.viewer.Look.{Look}
 use Rattle.directory_state.specs.declared.viewer.Seen.{Seen}
 use Rattle.directory_state.specs.declared.viewer.SeenEntries.{SeenEntries}
 use Rattle.directory_state.specs.declared.asked.Viewer.{Viewer}
@@ -58,6 +59,18 @@ shows_in v e tag s = is_open_in v.rules.now v.asker e s && is_left_in v.rules.no
 pub record IsFirst (v : Viewer) (e : Entry) (place : ℕ) : Type 0 where
   pub within : place < length v.asked
   pub first : open_scopes v e 0 ≡ get_or v.asked place [] ∷ open_scopes v e (place + 1)
+
+-- in which of those that are asked for it is open first: in none, or in the scope at this place
+abbrev pub IsFirstOpen : Viewer → Entry → Option ℕ → Type 0
+IsFirstOpen v e first = MatchOption first (open_scopes v e 0 ≡ []) (IsFirst v e)
+
+-- a look says so of its entry
+abbrev pub IsLook : Viewer → Look → Type 0
+IsLook v l = IsFirstOpen v l.entry.now l.first
+
+-- two entries have the same registrant, type and scopes
+abbrev pub are_alike : Entry → Entry → Bool
+are_alike e f = (e.owner == f.owner) && bytes_eq e.kind f.kind && texts_eq e.scopes f.scopes
 
 -- it is seen, and open first in the scope at this place
 abbrev pub IsSeenFrom : Viewer → Entry → ℕ → Type 0

@@ -34,6 +34,10 @@ use std::alloc::Global;
 use std::marker::Model;
 use std::sync::Arc;
 
+/// So many rules, each once for each scope, are asked again for every entry: that takes no longer than to see whether the entry is as the
+/// last one was.
+const FEW_LOOKS: usize = 16;
+
 /// A registry with its rules, its site and its clock: the greatest moment of all changes, in seconds.
 #[derive(Drop)]
 pub struct Directory<R: Registry> {
@@ -208,12 +212,15 @@ impl<R: Registry> Directory<R> {
         if asked.is_empty() {
             return None;
         }
+        let about = self.rules.about(asker);
+        let asks_much = about.len().saturating_mul(asked.len()) > FEW_LOOKS;
         Some(Viewer {
             asker,
             moment: u64::from(self.now(moment)),
             rules: &self.rules,
-            about: self.rules.about(asker),
+            about,
             asked,
+            asks_much,
         })
     }
 

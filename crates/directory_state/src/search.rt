@@ -7,14 +7,14 @@ ghost use Rattle.directory_questions.specs.Calls.{Opening, standpoint};
 ghost use Rattle.directory_questions.specs.Verdicts.{IsLegal};
 ghost use Rattle.directory_state.specs.Folds.{Fold};
 ghost use Rattle.directory_state.specs.Deadlines.{UrlDeadline, with_deadline, total_cost};
-ghost use Rattle.directory_state.specs.Searches.{deadlines_with, is_found, is_seen, joined, spoken_of, item_at, cost_in, bytes_in, cut_in, seen_of, shortlist_with, IsBound, IsCounted, IsFirst, IsSmall, IsKept};
+ghost use Rattle.directory_state.specs.Searches.{deadlines_with, is_found, is_seen, joined, spoken_of, item_at, cost_in, bytes_in, cut_in, seen_of, shortlist_with, IsBound, IsCounted, IsFirst, IsLook, IsSmall, IsKept};
 ghost use Rattle.directory_questions.specs.Items.{is_wanted, AreServices, IsForeign, IsOpenNow};
 ghost use Rattle.directory_state.specs.Fronts.{IsFront, items_in};
 
 use crate::asked::Viewer;
 use crate::deadlines::Deadlines;
 use crate::directory::Directory;
-use crate::viewer::Seen;
+use crate::viewer::{Look, Seen};
 use addresses::Addr;
 use directory_questions::{QueryFault, ServiceQuery};
 use registry_core::{Entry, Registry};
@@ -169,21 +169,24 @@ impl<'a> Shortlist<'a> {
         }
     }
 
-    // An entry is looked at, once for all scopes. The rules are asked where it may be kept. What was seen before,
-    // by its language, is counted while nothing is kept.
+    // An entry is looked at, once for all scopes. The rules are asked where it may be kept, and the last look was at another kind of entry. What
+    // was seen before, by its language, is counted while nothing is kept.
     fn look(
         &mut self,
         entry: &'a Entry,
         question: &Search<'_>,
         before: Spoken,
+        last: &mut Option<Look<'a>>,
     ) -> Result<Spoken, NoMemory>
-        requires { IsKept self.old }
+        requires kept { IsKept self.old }
+        requires last { IfSome last.old (IsLook question.now.viewer) }
+        ensures last { IfSome last.new (IsLook question.now.viewer) }
         ensures room { self.new.room ≡ self.old.room }
         ensures kept { IfOk result (λ _. IsKept self.new) }
         ensures found { IfOk result (λ _. self.new.latest ≡ cut_in self.old.room (deadlines_with (filter (is_found question.now) (entry.now ∷ [])) self.old.latest)) }
         ensures spoken { IfOk result (λ s. self.new.latest ≡ [] → s ≡ joined before (spoken_of question.now.query.now (filter (is_seen question.now.viewer) (entry.now ∷ [])))) }
     {
-        let Some(first) = question.viewer.sees(entry) else {
+        let Some(first) = question.viewer.sees(entry, last) else {
             return Ok(before);
         };
         if question.wants(Seen { entry, first }) {
@@ -246,9 +249,10 @@ impl<'a> Shortlist<'a> {
         ensures listing { IfOk result (λ _. IsListing (is_kind (Some question.now.query.now.kind)) (R.contents registry.now) (R.rest_of_kind registry.now (Some question.now.query.now.kind) 0)) }
     {
         let mut spoken = Spoken::Nothing;
+        let mut last = None;
         let mut from = 0;
         while let Some((entry, next)) = self.next(registry, question, from) {
-            spoken = self.look(entry, question, spoken)?;
+            spoken = self.look(entry, question, spoken, &mut last)?;
             from = next;
         }
         Ok(spoken)

@@ -1,12 +1,12 @@
 //! What is open to who asks.
 ghost use Rattle.std.specs.declared.cmp.Ordering.TheVariants.{Equal, Less};
-ghost use Rattle.std.specs.Prelude.{◌≡◌, ◌≤◌, ◌∷◌, [], ◌++◌, false, filter, IfOk, Contains, IsTrue, MatchOption, None, Some};
+ghost use Rattle.std.specs.Prelude.{◌≡◌, ◌≤◌, ◌∷◌, [], ◌++◌, false, filter, IfOk, Contains, IfSome, IsTrue, MatchOption, None, Some};
 ghost use Rattle.access_rules.specs.Deciding.{deed, deed_in};
 ghost use Rattle.access_rules.specs.declared.rule.Action.TheVariants.{See};
 ghost use Rattle.registry_core.specs.declared.entry.Entry as spec;
 ghost use Rattle.registry_core.specs.Entries.{is_kind, IsListing, Passes};
 ghost use Rattle.directory_questions.specs.Sights.{is_open_in};
-ghost use Rattle.directory_state.specs.Searches.{entries_in, entries_lent, is_seen, rest_about, AreByKind, AreFoundIn, AreSeenBy, HasEachKind, IsSeenFrom};
+ghost use Rattle.directory_state.specs.Searches.{are_alike, entries_in, entries_lent, is_seen, rest_about, AreByKind, AreFoundIn, AreSeenBy, HasEachKind, IsFirstOpen, IsLook, IsSeenFrom};
 ghost use Rattle.directory_questions.specs.Items.{is_target};
 
 use crate::asked::Viewer;
@@ -25,6 +25,13 @@ pub struct Seen<'a> {
     pub first: usize,
 }
 
+/// What was found of an entry when its scopes were asked: the place of the first in which it is open, of those that are asked for, if it is in one.
+#[derive(Clone, Copy)]
+pub struct Look<'a> {
+    entry: &'a Entry,
+    first: Option<usize>,
+}
+
 /// Entries that are open to who asks, and what shows what of them.
 #[derive(Drop)]
 pub struct SeenEntries<'a> {
@@ -40,6 +47,15 @@ const AT_ONCE: usize = 64;
 pub struct KindEntries<'a> {
     pub entries: Vec<&'a Entry>,
     pub are_ordered: bool,
+}
+
+// Whether two entries have the same type, scopes and registrant: the rules say the same of both.
+fn are_alike(entry: &Entry, other: &Entry) -> bool
+    ensures { result ≡ are_alike entry.now other.now }
+{
+    entry.owner == other.owner
+        && entry.kind.text() == other.kind.text()
+        && entry.scopes == other.scopes
 }
 
 // How the type of the last one that was found stands to that of an entry: before it, where there is none.
@@ -127,21 +143,58 @@ impl Viewer<'_> {
         entry.scopes.has(scope) && self.about.allow(&self.seeing(entry), scope)
     }
 
-    /// The place of the first scope in which an entry is open, of those that are asked for, where it is seen: it is live, and open to the
-    /// asker in one of them. Each of these is asked once, up to that one. Takes no memory.
+    // The place of the first scope in which an entry is open, of those that are asked for. Each of these is asked once, up to that one.
     #[inline(always)]
-    pub fn sees(&self, entry: &Entry) -> Option<usize>
-        ensures { MatchOption result (is_seen self.now entry.now ≡ false) (IsSeenFrom self.now entry.now) }
+    fn first_open(&self, entry: &Entry) -> Option<usize>
+        ensures { IsFirstOpen self.now entry.now result }
     {
-        if entry.deadline <= self.moment {
-            return None;
-        }
         for place in 0..self.asked.len() {
             if self.is_open_in(entry, self.asked.at(place)) {
                 return Some(place);
             }
         }
         None
+    }
+
+    // The same, as it was found of the last entry, where that was alike. A call of its own in the machine's code, so that the walk over entries
+    // keeps its registers where it is not made.
+    #[cold]
+    #[inline(never)]
+    fn first_open_as_last<'a>(
+        &self,
+        entry: &'a Entry,
+        last: &mut Option<Look<'a>>,
+    ) -> Option<usize>
+        requires { IfSome last.old (IsLook self.now) }
+        ensures last { IfSome last.new (IsLook self.now) }
+        ensures first { IsFirstOpen self.now entry.now result }
+    {
+        if let Some(look) = *last
+            && are_alike(look.entry, entry)
+        {
+            return look.first;
+        }
+        let first = self.first_open(entry);
+        *last = Some(Look { entry, first });
+        first
+    }
+
+    /// The place of the first scope in which an entry is open, of those that are asked for, where it is seen: it is live, and open to the
+    /// asker in one of them. The last look is kept, where that saves much: the scopes are asked once for a run of entries of one type,
+    /// with the same scopes and registrant. Takes no memory.
+    #[inline(always)]
+    pub fn sees<'a>(&self, entry: &'a Entry, last: &mut Option<Look<'a>>) -> Option<usize>
+        requires { IfSome last.old (IsLook self.now) }
+        ensures last { IfSome last.new (IsLook self.now) }
+        ensures seen { MatchOption result (is_seen self.now entry.now ≡ false) (IsSeenFrom self.now entry.now) }
+    {
+        if entry.deadline <= self.moment {
+            return None;
+        }
+        if self.asks_much {
+            return self.first_open_as_last(entry, last);
+        }
+        self.first_open(entry)
     }
 
     /// What is open of what a question is about.
@@ -155,9 +208,10 @@ impl Viewer<'_> {
         ensures seen { IfOk result (λ v. AreSeenBy self.now v.items) }
     {
         let mut found = Vec::new(alloc);
+        let mut last = None;
         let mut from = 0;
         while let Some((entry, next)) = next_about(registry, target, from) {
-            if let Some(first) = self.sees(entry) {
+            if let Some(first) = self.sees(entry, &mut last) {
                 found.push(Seen { entry, first })?;
             }
             from = next;
@@ -181,6 +235,7 @@ impl Viewer<'_> {
         let mut entries = Vec::with_capacity(alloc, AT_ONCE)?;
         let mut are_ordered = true;
         let mut repeats = false;
+        let mut last = None;
         let mut from = 0;
         while let Some((entry, next)) = registry.by_kind(None, from) {
             let order = last_to(&entries, entry);
@@ -190,7 +245,7 @@ impl Viewer<'_> {
                 continue;
             }
             from = next;
-            if self.sees(entry).is_none() {
+            if self.sees(entry, &mut last).is_none() {
                 continue;
             }
             are_ordered = still_ordered(are_ordered, order);

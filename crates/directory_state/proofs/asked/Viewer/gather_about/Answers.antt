@@ -10,5 +10,6 @@ loop-entry-preserved-in_ok-push g c =
     let v = c.args.self.now in
     let s : Seen = record { entry = c.in-Some.entry; first = c.in-Some-sees.first } in record {
       found = grind (arith, common_steps);
-      seen = subst (AreSeenBy v) (sym c.in_ok-push.ensures.items) (seen-push v c.loop-entry.found.items s c.loop-entry.invariant.seen c.in-Some-sees.ensures);
+      seen = subst (AreSeenBy v) (sym c.in_ok-push.ensures.items) (seen-push v c.loop-entry.found.items s c.loop-entry.invariant.seen c.in-Some-sees.ensures.seen);
+      last = c.in-Some-sees.ensures.last;
     }

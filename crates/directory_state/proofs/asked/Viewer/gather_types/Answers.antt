@@ -15,6 +15,7 @@ loop-entry-init g c =
     let all = filter (is_seen c.args.self.now) (g.R.Registry.rest_of_kind c.args.registry.now None 0) in record {
       each = subst (λ xs. HasEachKind all (entries_lent xs ++ all)) (sym c.in_ok-entries.ensures.items) (each-itself all);
       ordered = λ _. subst (λ xs. AreByKind (entries_lent xs)) (sym c.in_ok-entries.ensures.items) tt;
+      last = tt;
     }
 
 pub loop-entry-preserved-then-is_equal : goal.loop-entry-preserved-then-is_equal
@@ -31,6 +32,7 @@ loop-entry-preserved-then-is_equal g c =
           (subst (λ es. HasEachKind (filter seen (rest 0)) (found ++ filter seen es)) split c.loop-entry.invariant.each)
           (sym f.2, subst (λ k. AllByRecursion (λ x. x.kind ≡ k) passed.0) (sym f.2) passed.2) f.1;
       ordered = c.loop-entry.invariant.ordered;
+      last = c.loop-entry.invariant.last;
     }
 
 pub loop-entry-preserved : goal.loop-entry-preserved
@@ -40,7 +42,7 @@ loop-entry-preserved g c =
     let e : Entry = c.in-Some.entry.now in
     let found : List Entry = entries_lent c.loop-entry.entries.items in
     let pushed : entries_lent c.push.new.self.items ≡ found ++ e ∷ [] = ap entries_lent c.in_ok-push.ensures.items ∙ map-append (λ p. p.now) c.loop-entry.entries.items (c.in-Some.entry ∷ []) in
-    let is : seen e ≡ true = seen-some c.args.self.now e c.sees.result c.sees.ensures ∙ c.is_none.ensures ∙ ap not c.if-is_none.false in
+    let is : seen e ≡ true = seen-some c.args.self.now e c.sees.result c.sees.ensures.seen ∙ c.is_none.ensures ∙ ap not c.if-is_none.false in
     let next : filter seen (rest c.loop-entry.from) ≡ e ∷ filter seen (rest c.in-Some.next) = ap (filter seen) c.in-Some.ensures.next ∙ ap (λ b. cond b (e ∷ filter seen (rest c.in-Some.next)) (filter seen (rest c.in-Some.next))) is in
     let there : HasEachKind (filter seen (rest 0)) ((found ++ e ∷ []) ++ filter seen (rest c.in-Some.next)) =
     subst (HasEachKind (filter seen (rest 0))) (ap (λ xs. found ++ xs) next ∙ sym (append_assoc found (e ∷ []) (filter seen (rest c.in-Some.next)))) c.loop-entry.invariant.each in
@@ -54,4 +56,5 @@ loop-entry-preserved g c =
           let less = c.last_to-order.ensures.less both.1 in
           let after : AreByKind found → AreByKind (found ++ e ∷ []) = subst (λ es. AreByKind (entries_lent es) → AreByKind (entries_lent es ++ e ∷ [])) c.deref.ensures.value less in
           subst AreByKind (sym pushed) (after (c.loop-entry.invariant.ordered both.0));
+      last = c.sees.ensures.last;
     }

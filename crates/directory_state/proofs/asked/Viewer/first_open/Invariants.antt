@@ -1,6 +1,6 @@
 use Rattle.std.proofs.Common.{◌≡◌, drop, filter}
 use Rattle.directory_questions.specs.Sights.{is_open_in}
-use Rattle.directory_state.proofs.asked.Viewer.sees.Given as goal
+use Rattle.directory_state.proofs.asked.Viewer.first_open.Given as goal
 
 -- in none so far
 abbrev pub invariant-loop-place : goal.invariant-loop-place
