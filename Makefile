@@ -100,6 +100,7 @@ bench:
 	@bench/instructions bin/slpreplay
 	@make/build script_rows
 	@bench/views bin/script_rows
+	@bench/worst bin/slpreplay
 	@bench/server bin/slpda
 
 refusals:
