@@ -72,7 +72,7 @@ seen-from v e (Some place) lives first = (
 open-alike : (v : Viewer) (e f : Entry) → are_alike e f ≡ true → (from : ℕ) → open_scopes v e from ≡ open_scopes v f from
 open-alike v e f alike from =
     let open_of : List ℕ → List (List ℕ) → ℕ → List (List ℕ) =
-        λ kind scopes owner. filter (λ s. list_any (λ k. bytes_eq k s) scopes && (deciding v.rules.now (deed v.asker See kind owner) s).allow) (drop from v.asked) in
+    λ kind scopes owner. filter (λ s. list_any (λ k. bytes_eq k s) scopes && (deciding v.rules.now (deed v.asker See kind owner) s).allow) (drop from v.asked) in
     let scopes = and_parts (e.owner == f.owner && bytes_eq e.kind f.kind) (texts_eq e.scopes f.scopes) alike in
     let kinds = and_parts (e.owner == f.owner) (bytes_eq e.kind f.kind) scopes.0 in
     ap (λ kind. open_of kind e.scopes e.owner) (bytes_same e.kind f.kind kinds.1) ∙ ap (λ names. open_of f.kind names e.owner) (texts_same e.scopes f.scopes scopes.1)

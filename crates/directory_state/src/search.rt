@@ -169,8 +169,8 @@ impl<'a> Shortlist<'a> {
         }
     }
 
-    // An entry is looked at, once for all scopes. The rules are asked where it may be kept, and the last look was at another kind of entry. What
-    // was seen before, by its language, is counted while nothing is kept.
+    // An entry is looked at, once for all scopes. The rules are asked where it may be kept. What was seen before,
+    // by its language, is counted while nothing is kept.
     fn look(
         &mut self,
         entry: &'a Entry,

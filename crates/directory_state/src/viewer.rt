@@ -160,11 +160,7 @@ impl Viewer<'_> {
     // keeps its registers where it is not made.
     #[cold]
     #[inline(never)]
-    fn first_open_as_last<'a>(
-        &self,
-        entry: &'a Entry,
-        last: &mut Option<Look<'a>>,
-    ) -> Option<usize>
+    fn first_open_as_last<'a>(&self, entry: &'a Entry, last: &mut Option<Look<'a>>) -> Option<usize>
         requires { IfSome last.old (IsLook self.now) }
         ensures last { IfSome last.new (IsLook self.now) }
         ensures first { IsFirstOpen self.now entry.now result }
