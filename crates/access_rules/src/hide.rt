@@ -11,7 +11,6 @@ use slp_tags::TagList;
 use slp_text::{Key, Row, Text};
 
 /// A hide table of the rule file: tags that are not shown to these askers.
-#[derive(Drop)]
 pub struct Hide {
     pub name: Text,
     /// The askers from whom it hides.
@@ -24,6 +23,19 @@ pub struct Hide {
     pub tags: TagList,
     /// Whether it hides nothing of what the asker registered.
     pub spares_owner: bool,
+}
+
+impl Drop for Hide {
+    fn drop(self) {
+        let Hide {
+            name: _,
+            from: _,
+            kind: _,
+            scopes: _,
+            tags: _,
+            spares_owner: _,
+        } = self;
+    }
 }
 
 impl Hide {

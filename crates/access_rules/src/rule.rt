@@ -28,7 +28,6 @@ pub struct Deed<'a> {
 }
 
 /// A rule of the rule file.
-#[derive(Drop)]
 pub struct Rule {
     pub name: Text,
     /// The askers that it is about.
@@ -41,6 +40,20 @@ pub struct Rule {
     pub allow: bool,
     /// Whether it is about what the asker registered, and about nothing else.
     pub owner: bool,
+}
+
+impl Drop for Rule {
+    fn drop(self) {
+        let Rule {
+            name: _,
+            from: _,
+            action: _,
+            kind: _,
+            scopes: _,
+            allow: _,
+            owner: _,
+        } = self;
+    }
 }
 
 #[inline(always)]

@@ -15,10 +15,15 @@ pub struct Verdict {
 }
 
 /// Rules in their order, and what is hidden beside them.
-#[derive(Drop)]
 pub struct Rules {
     rules: Vec<Rule>,
     hides: Vec<Hide>,
+}
+
+impl Drop for Rules {
+    fn drop(self) {
+        let Rules { rules: _, hides: _ } = self;
+    }
 }
 
 impl Model for Rules {

@@ -10,16 +10,26 @@ use std::alloc::Global;
 use std::marker::Model;
 
 // A tag, and what it holds.
-#[derive(Drop)]
 pub struct Attribute {
     pub tag: Key,
     pub held: Held,
 }
 
+impl Drop for Attribute {
+    fn drop(self) {
+        let Attribute { tag: _, held: _ } = self;
+    }
+}
+
 /// Attributes, which contracts see as a finite map from the keys of their tags.
-#[derive(Drop)]
 pub struct Attrs {
     entries: Vec<Attribute>,
+}
+
+impl Drop for Attrs {
+    fn drop(self) {
+        let Attrs { entries: _ } = self;
+    }
 }
 
 impl Model for Attrs {

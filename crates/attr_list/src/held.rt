@@ -6,10 +6,18 @@ use slp_text::{NoMemory, Row};
 use std::alloc::Global;
 
 /// What a tag holds: nothing but that it is there, or one value at least.
-#[derive(Drop)]
 pub enum Held {
     Keyword,
     Values(Row<Value>),
+}
+
+impl Drop for Held {
+    fn drop(self) {
+        match self {
+            Held::Keyword => {}
+            Held::Values(_) => {}
+        }
+    }
 }
 
 // Equal values, in the same order.

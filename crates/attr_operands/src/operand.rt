@@ -8,12 +8,22 @@ use std::alloc::Global;
 use text_patterns::compare;
 
 /// What values are compared with, of a text its key.
-#[derive(Drop)]
 pub enum Operand {
     Bool(bool),
     Int(i32),
     Opaque(Row<u8>),
     Text(Key),
+}
+
+impl Drop for Operand {
+    fn drop(self) {
+        match self {
+            Operand::Bool(_) => {}
+            Operand::Int(_) => {}
+            Operand::Opaque(_) => {}
+            Operand::Text(_) => {}
+        }
+    }
 }
 
 impl Operand {

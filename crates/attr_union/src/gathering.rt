@@ -19,10 +19,15 @@ pub struct Piece<'a> {
 }
 
 // A tag, and all values that it has in the lists, in their order; a value may be there more than once.
-#[derive(Drop)]
 pub struct Joined<'a> {
     pub tag: LentTag<'a>,
     pub values: Vec<LentValue<'a>>,
+}
+
+impl<'a> Drop for Joined<'a> {
+    fn drop(self) {
+        let Joined { tag: _, values: _ } = self;
+    }
 }
 
 // Appends values, lent.

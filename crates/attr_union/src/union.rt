@@ -11,9 +11,14 @@ use std::marker::Model;
 
 /// Attributes of several lists, joined as the elements of one list are, which contracts see as a finite map. Their
 /// values are lent.
-#[derive(Drop)]
 pub struct AttrUnion<'a> {
     tags: Vec<Joined<'a>>,
+}
+
+impl<'a> Drop for AttrUnion<'a> {
+    fn drop(self) {
+        let AttrUnion { tags: _ } = self;
+    }
 }
 
 impl<'a> Model for AttrUnion<'a> {

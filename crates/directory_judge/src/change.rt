@@ -18,10 +18,15 @@ pub struct Placed {
 }
 
 /// What a withdrawal ends: the entries of a URL, in every language, of exactly these scopes.
-#[derive(Drop)]
 pub struct Withdrawn {
     pub url: Url,
     pub scopes: ScopeList,
+}
+
+impl Drop for Withdrawn {
+    fn drop(self) {
+        let Withdrawn { url: _, scopes: _ } = self;
+    }
 }
 
 /// A change of a directory, at its moment in seconds.

@@ -10,12 +10,22 @@ use std::sync::Arc;
 
 /// What stays the same while a directory runs: the scopes that it supports, how many entries it
 /// takes, the templates to which they conform, and its boot stamp.
-#[derive(Drop)]
 pub struct Site {
     scopes: ScopeList,
     capacity: usize,
     templates: Arc<Templates>,
     boot: u32,
+}
+
+impl Drop for Site {
+    fn drop(self) {
+        let Site {
+            scopes: _,
+            capacity: _,
+            templates: _,
+            boot: _,
+        } = self;
+    }
 }
 
 impl Model for Site {

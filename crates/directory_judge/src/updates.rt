@@ -19,7 +19,7 @@ use std::sync::Arc;
 // The entry that stands, with the attributes and the deadline that an update of it names.
 // A function of its own in the machine's code as well, so that the loop over the attributes keeps its registers.
 #[inline(never)]
-fn updated(alloc: Global, old: &Entry, named: Entry) -> Result<Arc<Entry>, NoMemory>
+fn updated(alloc: Global, old: &Entry, mut named: Entry) -> Result<Arc<Entry>, NoMemory>
     requires pair { pair_of named ≡ pair_of old.now }
     requires kind { named.kind ≡ old.now.kind }
     requires scopes { named.scopes ≡ old.now.scopes }
@@ -30,13 +30,9 @@ fn updated(alloc: Global, old: &Entry, named: Entry) -> Result<Arc<Entry>, NoMem
         Err(_) => return Err(NoMemory),
     };
     // What is named is moved, and is the same as what stands.
-    let owner = old.owner;
-    let entry = Entry {
-        attrs,
-        owner,
-        ..named
-    };
-    Ok(Arc::new(alloc, entry)?)
+    named.attrs = attrs;
+    named.owner = old.owner;
+    Ok(Arc::new(alloc, named)?)
 }
 
 impl<'a, R: Registry> Grounds<'a, R> {

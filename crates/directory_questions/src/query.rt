@@ -51,13 +51,22 @@ pub struct AttrQuery {
 }
 
 /// Whose types a type request asks for (RFC 2608, section 10.1).
-#[derive(Drop)]
 pub enum Authority {
     /// Those of every naming authority.
     All,
     /// Those without one.
     Unnamed,
     Named(Key),
+}
+
+impl Drop for Authority {
+    fn drop(self) {
+        match self {
+            Authority::All => {}
+            Authority::Unnamed => {}
+            Authority::Named(_) => {}
+        }
+    }
 }
 
 impl Authority {
@@ -84,12 +93,17 @@ pub struct TypeQuery {
 }
 
 /// Which directory agents are asked for (RFC 2608, section 11.2).
-#[derive(Drop)]
 pub struct AgentQuery {
     /// Their type.
     pub kind: ServiceType,
     /// None where the scopes or the predicate are not read.
     pub scopes: Option<ScopeList>,
+}
+
+impl Drop for AgentQuery {
+    fn drop(self) {
+        let AgentQuery { kind: _, scopes: _ } = self;
+    }
 }
 
 /// Why a question has no answer: an error code (RFC 2608, section 7).

@@ -39,12 +39,22 @@ use std::sync::Arc;
 const FEW_LOOKS: usize = 16;
 
 /// A registry with its rules, its site and its clock: the greatest moment of all changes, in seconds.
-#[derive(Drop)]
 pub struct Directory<R: Registry> {
     registry: R,
     rules: Arc<Rules>,
     site: Site,
     clock: u32,
+}
+
+impl<R: Registry + Drop> Drop for Directory<R> {
+    fn drop(self) {
+        let Directory {
+            registry: _,
+            rules: _,
+            site: _,
+            clock: _,
+        } = self;
+    }
 }
 
 impl<R: Registry> Model for Directory<R> {

@@ -10,10 +10,18 @@ use table_registry::SiteRegistry;
 pub type AgentDirectory = Directory<SiteRegistry>;
 
 /// A directory, and the history that it stands for.
-#[derive(Drop)]
 pub struct PublishedCopy {
     pub directory: AgentDirectory,
     pub trail: Trail,
+}
+
+impl Drop for PublishedCopy {
+    fn drop(self) {
+        let PublishedCopy {
+            directory: _,
+            trail: _,
+        } = self;
+    }
 }
 
 /// A change, and the history that ends in its event.

@@ -34,11 +34,19 @@ impl<J: Naming> Model for Note<J> {
 }
 
 /// What answers in one thread, without waiting. Contracts see it as all that it was asked, and where, the newest first.
-#[derive(Drop)]
 pub struct LoopView<J: Naming> {
     // It is there between any two calls.
     reader: Option<RuledReader<J>>,
     place: usize,
+}
+
+impl<J: Naming> Drop for LoopView<J> {
+    fn drop(self) {
+        let LoopView {
+            reader: _,
+            place: _,
+        } = self;
+    }
 }
 
 impl<J: Naming> Model for LoopView<J> {

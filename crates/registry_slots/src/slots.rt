@@ -18,13 +18,22 @@ use std::sync::Arc;
 const TURN: usize = 65_536;
 
 /// Slots for entries, in memory that was taken when they were made.
-#[derive(Drop)]
 pub struct Slots {
     slots: Vec<Option<Arc<Entry>>>,
     // By deadline, modulo `TURN`; the last chain has the slots with no entry.
     dues: Chains,
     // No deadline is below this.
     since: u64,
+}
+
+impl Drop for Slots {
+    fn drop(self) {
+        let Slots {
+            slots: _,
+            dues: _,
+            since: _,
+        } = self;
+    }
 }
 
 impl Model for Slots {

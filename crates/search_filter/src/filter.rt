@@ -14,9 +14,14 @@ use std::alloc::Global;
 use std::marker::Model;
 
 /// A search filter of at most 32 levels, which contracts see as its tree.
-#[derive(Drop)]
 pub struct Filter {
     tree: Tree,
+}
+
+impl Drop for Filter {
+    fn drop(self) {
+        let Filter { tree: _ } = self;
+    }
 }
 
 impl Model for Filter {

@@ -13,7 +13,6 @@ use slp_text::Key;
 use text_patterns::Pattern;
 
 // What is asked of the values of a tag.
-#[derive(Drop)]
 pub enum Condition {
     Present,
     Equal(Operand),
@@ -22,11 +21,31 @@ pub enum Condition {
     Like(Pattern),
 }
 
+impl Drop for Condition {
+    fn drop(self) {
+        match self {
+            Condition::Present => {}
+            Condition::Equal(_) => {}
+            Condition::AtLeast(_) => {}
+            Condition::AtMost(_) => {}
+            Condition::Like(_) => {}
+        }
+    }
+}
+
 // What is asked of a tag.
-#[derive(Drop)]
 pub struct Item {
     pub tag: Key,
     pub condition: Condition,
+}
+
+impl Drop for Item {
+    fn drop(self) {
+        let Item {
+            tag: _,
+            condition: _,
+        } = self;
+    }
 }
 
 impl Condition {

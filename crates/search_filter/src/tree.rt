@@ -8,12 +8,22 @@ use attr_list::Attrs;
 use slp_text::Key;
 
 // A filter as it was written.
-#[derive(Drop)]
 pub enum Tree {
     All(Vec<Tree>),
     Any(Vec<Tree>),
     Not(Box<Tree>),
     Item(Item),
+}
+
+impl Drop for Tree {
+    fn drop(self) {
+        match self {
+            Tree::All(_) => {}
+            Tree::Any(_) => {}
+            Tree::Not(_) => {}
+            Tree::Item(_) => {}
+        }
+    }
 }
 
 // Whether a filter holds on the attributes whose tags a test accepts, or its negation. The sign goes down the tree, in

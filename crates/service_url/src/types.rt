@@ -14,12 +14,21 @@ use std::marker::Model;
 
 /// A service type, folded, which contracts see as its bytes: `service:A`, `service:A:C`, or a name as
 /// `http` of another scheme (RFC 2609, section 2).
-#[derive(Drop)]
 pub struct ServiceType {
     text: String,
     // How many bytes its root has.
     root: usize,
     is_abstract: bool,
+}
+
+impl Drop for ServiceType {
+    fn drop(self) {
+        let ServiceType {
+            text: _,
+            root: _,
+            is_abstract: _,
+        } = self;
+    }
 }
 
 impl Model for ServiceType {

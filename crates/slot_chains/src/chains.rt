@@ -7,7 +7,6 @@ use std::marker::Model;
 
 /// Chains of nodes: a node stands in one chain, its home, or in none. Contracts see the links, and
 /// speak of them by `chain` and `rest`.
-#[derive(Drop)]
 pub struct Chains {
     // What follows a node, or a head: the head of the chain h comes h places after the nodes. A
     // chain ends with its own head, and a node in no chain follows itself.
@@ -15,6 +14,17 @@ pub struct Chains {
     prev: Vec<u32>,
     home: Vec<u32>,
     heads: usize,
+}
+
+impl Drop for Chains {
+    fn drop(self) {
+        let Chains {
+            next: _,
+            prev: _,
+            home: _,
+            heads: _,
+        } = self;
+    }
 }
 
 impl Model for Chains {

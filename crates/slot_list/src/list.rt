@@ -9,13 +9,23 @@ use std::marker::Model;
 const BLOCK: usize = 256;
 
 /// A list of slots' numbers, each below 65,536.
-#[derive(Drop)]
 pub struct SlotList {
     // Blocks of `BLOCK`, each full but the last. The numbers of a block begin at its turn, and go on at its front.
     numbers: Vec<u16>,
     turns: Vec<u8>,
     len: usize,
     room: usize,
+}
+
+impl Drop for SlotList {
+    fn drop(self) {
+        let SlotList {
+            numbers: _,
+            turns: _,
+            len: _,
+            room: _,
+        } = self;
+    }
 }
 
 impl Model for SlotList {

@@ -31,7 +31,6 @@ pub struct Shared<'r, 's, J: Naming, R: Wait, G: Gate, W: Write> {
 
 /// Serves messages: questions from what is published, without waiting for it, and changes under the writer's lock. The line of
 /// each that is judged goes to its log, whole and once: it waits there until the desk settles.
-#[derive(Drop)]
 pub struct Desk<'r, 's, J: Naming, R: Wait, M: Moments + Drop, G: Gate, L: Log + Drop> {
     rt: &'r R,
     alloc: Global,
@@ -44,6 +43,23 @@ pub struct Desk<'r, 's, J: Naming, R: Wait, M: Moments + Drop, G: Gate, L: Log +
     pub moments: M,
     /// Whether this desk sees what the last change that it answered published, and all that was published before. At first it is set.
     pub told: bool,
+}
+
+impl<'r, 's, J: Naming, R: Wait, M: Moments + Drop, G: Gate, L: Log + Drop> Drop
+    for Desk<'r, 's, J, R, M, G, L> {
+    fn drop(self) {
+        let Desk {
+            rt: _,
+            alloc: _,
+            view: _,
+            writer: _,
+            gate: _,
+            lines: _,
+            own: _,
+            moments: _,
+            told: _,
+        } = self;
+    }
 }
 
 // What came of a change, and how far its writer then was.

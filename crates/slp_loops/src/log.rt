@@ -52,10 +52,15 @@ impl<'r, 's, R: Wait, W: Write> Log for SharedOutput<'r, 's, R, W> {
 }
 
 /// Lines that wait for their log, at most 65,536 bytes of them. Contracts see the bytes and the log.
-#[derive(Drop)]
 pub struct Lines<L: Log + Drop> {
     waiting: Vec<u8>,
     log: L,
+}
+
+impl<L: Log + Drop> Drop for Lines<L> {
+    fn drop(self) {
+        let Lines { waiting: _, log: _ } = self;
+    }
 }
 
 impl<L: Log + Drop> Model for Lines<L> {

@@ -17,9 +17,14 @@ pub struct Flags {
 }
 
 /// A language tag of at most 64 printable characters of ASCII, as it was written. Contracts see its bytes.
-#[derive(Drop)]
 pub struct Tag {
     text: Text,
+}
+
+impl Drop for Tag {
+    fn drop(self) {
+        let Tag { text: _ } = self;
+    }
 }
 
 impl Model for Tag {
@@ -66,10 +71,19 @@ impl Tag {
 }
 
 /// What a message keeps of its header.
-#[derive(Drop)]
 pub struct Header {
     pub flags: Flags,
     /// The number by which a reply is matched to its request.
     pub xid: u16,
     pub language: Tag,
+}
+
+impl Drop for Header {
+    fn drop(self) {
+        let Header {
+            flags: _,
+            xid: _,
+            language: _,
+        } = self;
+    }
 }

@@ -5,21 +5,39 @@ use slp_text::{Row, Text};
 use std::marker::Model;
 
 /// A URL and how long it is registered (RFC 2608, section 4.3).
-#[derive(Drop)]
 pub struct UrlEntry {
     /// In seconds.
     pub lifetime: u16,
     pub url: Text,
 }
 
+impl Drop for UrlEntry {
+    fn drop(self) {
+        let UrlEntry {
+            lifetime: _,
+            url: _,
+        } = self;
+    }
+}
+
 /// SrvRqst, function 1 (RFC 2608, section 8.1).
-#[derive(Drop)]
 pub struct ServiceRequest {
     /// The addresses of those who answered already, joined by commas.
     pub responders: Text,
     pub kind: Text,
     pub scopes: Text,
     pub predicate: Text,
+}
+
+impl Drop for ServiceRequest {
+    fn drop(self) {
+        let ServiceRequest {
+            responders: _,
+            kind: _,
+            scopes: _,
+            predicate: _,
+        } = self;
+    }
 }
 
 /// An error code that is not 0 (RFC 2608, section 7). Contracts see the number.
@@ -64,7 +82,6 @@ pub enum ServiceReply {
 }
 
 /// SrvReg, function 3 (RFC 2608, section 8.3).
-#[derive(Drop)]
 pub struct Registration {
     pub entry: UrlEntry,
     pub kind: Text,
@@ -72,8 +89,18 @@ pub struct Registration {
     pub attributes: Text,
 }
 
+impl Drop for Registration {
+    fn drop(self) {
+        let Registration {
+            entry: _,
+            kind: _,
+            scopes: _,
+            attributes: _,
+        } = self;
+    }
+}
+
 /// SrvDeReg, function 4 (RFC 2608, section 10.6).
-#[derive(Drop)]
 pub struct Withdrawal {
     pub scopes: Text,
     pub entry: UrlEntry,
@@ -81,8 +108,17 @@ pub struct Withdrawal {
     pub tags: Text,
 }
 
+impl Drop for Withdrawal {
+    fn drop(self) {
+        let Withdrawal {
+            scopes: _,
+            entry: _,
+            tags: _,
+        } = self;
+    }
+}
+
 /// AttrRqst, function 6 (RFC 2608, section 10.3).
-#[derive(Drop)]
 pub struct AttributeRequest {
     /// The addresses of those who answered already, joined by commas.
     pub responders: Text,
@@ -91,6 +127,17 @@ pub struct AttributeRequest {
     pub scopes: Text,
     /// The tags that are asked for; where there is none, all are.
     pub tags: Text,
+}
+
+impl Drop for AttributeRequest {
+    fn drop(self) {
+        let AttributeRequest {
+            responders: _,
+            subject: _,
+            scopes: _,
+            tags: _,
+        } = self;
+    }
 }
 
 /// AttrRply, function 7 (RFC 2608, section 10.4). After an error code nothing is kept.
@@ -121,7 +168,6 @@ pub enum DirectoryAdvert {
 }
 
 /// Whose service types are asked for (RFC 2608, section 10.1).
-#[derive(Drop)]
 pub enum Authority {
     /// Those of every naming authority.
     All,
@@ -129,13 +175,31 @@ pub enum Authority {
     Named(Text),
 }
 
+impl Drop for Authority {
+    fn drop(self) {
+        match self {
+            Authority::All => {}
+            Authority::Named(_) => {}
+        }
+    }
+}
+
 /// SrvTypeRqst, function 9 (RFC 2608, section 10.1).
-#[derive(Drop)]
 pub struct TypeRequest {
     /// The addresses of those who answered already, joined by commas.
     pub responders: Text,
     pub authority: Authority,
     pub scopes: Text,
+}
+
+impl Drop for TypeRequest {
+    fn drop(self) {
+        let TypeRequest {
+            responders: _,
+            authority: _,
+            scopes: _,
+        } = self;
+    }
 }
 
 /// SrvTypeRply, function 10 (RFC 2608, section 10.2). After an error code nothing is kept.
@@ -147,11 +211,20 @@ pub enum TypeReply {
 }
 
 /// SAAdvert, function 11 (RFC 2608, section 8.6).
-#[derive(Drop)]
 pub struct ServiceAgent {
     pub url: Text,
     pub scopes: Text,
     pub attributes: Text,
+}
+
+impl Drop for ServiceAgent {
+    fn drop(self) {
+        let ServiceAgent {
+            url: _,
+            scopes: _,
+            attributes: _,
+        } = self;
+    }
 }
 
 /// A message (RFC 2608, section 8) with what its header keeps. Texts are as they were written.

@@ -27,9 +27,14 @@ use std::cmp::Ordering;
 use std::marker::Model;
 
 /// A set of scopes, which contracts see as the list of their keys in key order.
-#[derive(Drop)]
 pub struct ScopeList {
     keys: Vec<Key>,
+}
+
+impl Drop for ScopeList {
+    fn drop(self) {
+        let ScopeList { keys: _ } = self;
+    }
 }
 
 impl Model for ScopeList {
@@ -312,7 +317,7 @@ impl ScopeList {
         ensures { result ≡ common_keys other.now self }
     {
         let others = &other.keys;
-        let mut keys = self.keys;
+        let ScopeList { mut keys } = self;
         keys.retain(|k| others.contains(k));
         ScopeList { keys }
     }

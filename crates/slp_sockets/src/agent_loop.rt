@@ -80,13 +80,24 @@ fn is_lost(told: Result<(), LoopFault>) -> bool
 }
 
 /// Serves the datagrams and the streams of one address.
-#[derive(Drop)]
 pub struct AgentLoop<S: Serve + Drop> {
     poll: Poll,
     events: Events,
     datagrams: Datagrams<UdpSocket>,
     streams: Streams,
     server: S,
+}
+
+impl<S: Serve + Drop> Drop for AgentLoop<S> {
+    fn drop(self) {
+        let AgentLoop {
+            poll: _,
+            events: _,
+            datagrams: _,
+            streams: _,
+            server: _,
+        } = self;
+    }
 }
 
 impl<S: Serve + Drop> Model for AgentLoop<S> {

@@ -49,7 +49,6 @@ pub(crate) enum Stage {
 }
 
 /// One stream: what came and is not served yet, and what is to be written.
-#[derive(Drop)]
 pub struct Connection {
     alloc: Global,
     asker: Addr,
@@ -60,6 +59,20 @@ pub struct Connection {
     stage: Stage,
     // Whether a message came whole, or a byte was written, since that was last asked.
     moved: bool,
+}
+
+impl Drop for Connection {
+    fn drop(self) {
+        let Connection {
+            alloc: _,
+            asker: _,
+            framer: _,
+            output: _,
+            written: _,
+            stage: _,
+            moved: _,
+        } = self;
+    }
 }
 
 impl Model for Connection {

@@ -158,12 +158,21 @@ fn serve_round<P: Port, S: Serve>(
 }
 
 /// A socket of datagrams, with what serving takes. Contracts see the socket.
-#[derive(Drop)]
 pub struct Datagrams<P: Port + Drop> {
     port: P,
     exchanges: Vec<Exchange>,
     // Whether a datagram may wait that no event will report.
     receives_again: bool,
+}
+
+impl<P: Port + Drop> Drop for Datagrams<P> {
+    fn drop(self) {
+        let Datagrams {
+            port: _,
+            exchanges: _,
+            receives_again: _,
+        } = self;
+    }
 }
 
 impl<P: Port + Drop> Model for Datagrams<P> {

@@ -33,7 +33,6 @@ const LONGEST_STAY: u32 = 300;
 const LEAST_STAY: u32 = 60;
 
 /// The streams of a loop, of which there are never more than the limit.
-#[derive(Drop)]
 pub struct Streams {
     alloc: Global,
     listener: TcpListener,
@@ -44,6 +43,20 @@ pub struct Streams {
     // The moment of the loop's own clock, and the one at which it was looked which streams sit there.
     moment: u32,
     looked: u32,
+}
+
+impl Drop for Streams {
+    fn drop(self) {
+        let Streams {
+            alloc: _,
+            listener: _,
+            peers: _,
+            limit: _,
+            accepts_again: _,
+            moment: _,
+            looked: _,
+        } = self;
+    }
 }
 
 impl Model for Streams {

@@ -18,10 +18,15 @@ const END: u32 = u32::MAX - 1;
 
 /// A text with `*` for any run of characters, ready to be searched for, which contracts see as its signs:
 /// a character or a byte by its number, and `None` for each `*`.
-#[derive(Drop)]
 pub struct Signs {
     codes: Vec<u32>,
     falls: Vec<usize>,
+}
+
+impl Drop for Signs {
+    fn drop(self) {
+        let Signs { codes: _, falls: _ } = self;
+    }
 }
 
 impl Model for Signs {

@@ -9,10 +9,18 @@ use std::alloc::Global;
 use std::collections::BTreeSet;
 
 // The parts of a list of tags: those without a `*` are looked up, the others are tried.
-#[derive(Drop)]
 pub struct TagIndex {
     words: BTreeSet<Vec<u8>>,
     patterns: Vec<Signs>,
+}
+
+impl Drop for TagIndex {
+    fn drop(self) {
+        let TagIndex {
+            words: _,
+            patterns: _,
+        } = self;
+    }
 }
 
 // The bytes of a part, unless a `*` stands in it.

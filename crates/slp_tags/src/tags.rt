@@ -21,10 +21,15 @@ use ucd_case::full_folding;
 
 /// A list of tags with `*` for any run of characters (RFC 2608, section 10.3), which contracts see as
 /// the list of its parts: the bytes of each, and `None` for each `*`.
-#[derive(Drop)]
 pub struct TagList {
     parts: Vec<Vec<Option<u8>>>,
     index: TagIndex,
+}
+
+impl Drop for TagList {
+    fn drop(self) {
+        let TagList { parts: _, index: _ } = self;
+    }
 }
 
 impl Model for TagList {

@@ -24,9 +24,14 @@ pub(crate) enum KeyText {
 
 /// A text with its white space squeezed and its case folded, which contracts see as its bytes. Keys
 /// are ordered by their UTF-8 bytes.
-#[derive(Drop)]
 pub struct Key {
     pub(crate) text: KeyText,
+}
+
+impl Drop for Key {
+    fn drop(self) {
+        let Key { text: _ } = self;
+    }
 }
 
 impl Model for Key {

@@ -3,9 +3,14 @@ ghost use Rattle.std.specs.Prelude.{◌≡◌};
 use std::marker::Model;
 
 /// Values in their order, which contracts see as a list.
-#[derive(Drop)]
 pub struct Row<T> {
     items: Vec<T>,
+}
+
+impl<T: Drop> Drop for Row<T> {
+    fn drop(self) {
+        let Row { items: _ } = self;
+    }
 }
 
 impl<T> Model for Row<T> {

@@ -11,9 +11,14 @@ use std::cmp::Ordering;
 use std::marker::Model;
 
 /// A text as it was written, which contracts see as its bytes.
-#[derive(Drop)]
 pub struct Text {
     text: String,
+}
+
+impl Drop for Text {
+    fn drop(self) {
+        let Text { text: _ } = self;
+    }
 }
 
 impl Model for Text {

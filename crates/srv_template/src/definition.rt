@@ -22,7 +22,6 @@ pub enum ValueKind {
 }
 
 /// What a template says of a tag (RFC 2609, section 4.2).
-#[derive(Drop)]
 pub struct Definition {
     pub tag: Key,
     pub kind: ValueKind,
@@ -32,6 +31,18 @@ pub struct Definition {
     pub optional: bool,
     /// What its values may be. Where there is none, each may be any.
     pub allowed: Row<Operand>,
+}
+
+impl Drop for Definition {
+    fn drop(self) {
+        let Definition {
+            tag: _,
+            kind: _,
+            multiple: _,
+            optional: _,
+            allowed: _,
+        } = self;
+    }
 }
 
 impl ValueKind {

@@ -23,10 +23,18 @@ const MOST_TEMPLATES: usize = 256;
 
 /// A template, which contracts see as the name A of its type `service:A` and its definitions in their
 /// order (RFC 2609, section 4).
-#[derive(Drop)]
 pub struct Template {
     name: Text,
     definitions: Arc<Row<Definition>>,
+}
+
+impl Drop for Template {
+    fn drop(self) {
+        let Template {
+            name: _,
+            definitions: _,
+        } = self;
+    }
 }
 
 impl Model for Template {
@@ -43,9 +51,14 @@ impl Model for Template {
 
 /// Templates, which contracts see as a finite map from the name A of each type `service:A` that has one
 /// to its definitions.
-#[derive(Drop)]
 pub struct Templates {
     templates: Vec<Template>,
+}
+
+impl Drop for Templates {
+    fn drop(self) {
+        let Templates { templates: _ } = self;
+    }
 }
 
 impl Model for Templates {

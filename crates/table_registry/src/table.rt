@@ -26,13 +26,23 @@ use std::sync::Arc;
 const FEW: usize = 64;
 
 /// A registry of fixed slots. All its memory is taken when it is made.
-#[derive(Drop)]
 pub struct TableRegistry {
     slots: Slots,
     // The held slots by URL, by root of the type, and by type.
     places: SlotList,
     roots: SlotList,
     kinds: SlotList,
+}
+
+impl Drop for TableRegistry {
+    fn drop(self) {
+        let TableRegistry {
+            slots: _,
+            places: _,
+            roots: _,
+            kinds: _,
+        } = self;
+    }
 }
 
 impl Model for TableRegistry {

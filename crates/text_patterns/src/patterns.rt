@@ -13,9 +13,14 @@ use std::marker::Model;
 
 /// A text with `*` for any run of characters (RFC 2254), which contracts see as its signs: a character,
 /// or `None` for a `*`.
-#[derive(Drop)]
 pub struct Pattern {
     signs: Signs,
+}
+
+impl Drop for Pattern {
+    fn drop(self) {
+        let Pattern { signs: _ } = self;
+    }
 }
 
 impl Model for Pattern {
