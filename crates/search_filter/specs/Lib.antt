@@ -1,6 +1,7 @@
 pub mod Codes
 pub mod Conditions
 pub mod Filters
+pub mod Looks
 pub mod Operands
 pub mod Outcomes
 pub mod Reading

@@ -13,8 +13,6 @@ use Rattle.text_patterns.specs.Patterns.{pattern_of}
 use Rattle.attr_values.specs.Values.{opaque_bytes, opaque_rest, value_of_form}
 use Rattle.attr_values.specs.declared.fault.AttrFault.{AttrFault}
 use Rattle.attr_values.specs.declared.fault.AttrFault.TheVariants.{BadTag}
-use Rattle.attr_values.specs.declared.value.Value.{Value}
-use Rattle.attr_values.specs.declared.value.Value.TheVariants as value
 use Rattle.attr_list.specs.Pieces.{part_after, part_before}
 use Rattle.attr_list.specs.Reading.{tag_or}
 use Rattle.search_filter.specs.declared.fault.FilterFault.{FilterFault}

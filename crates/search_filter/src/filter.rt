@@ -6,6 +6,7 @@ ghost use Rattle.search_filter.specs.Outcomes.{IsReading};
 ghost use Rattle.search_filter.specs.Reading.{filter_in};
 
 use crate::fault::FilterFault;
+use crate::looks::Looked;
 use crate::parsing::read_whole;
 use crate::tree::{Tree, holds_where};
 use attr_list::Attrs;
@@ -57,7 +58,12 @@ impl Filter {
     pub fn holds(&self, attributes: &Attrs) -> bool
         ensures { result ≡ spec.holds self.now attributes.now }
     {
-        holds_where(&self.tree, attributes, true, &|_: &Key| true)
+        let mut looked = Looked {
+            attributes,
+            keeps: false,
+            last: None,
+        };
+        holds_where(&self.tree, true, &mut looked, &|_: &Key| true)
     }
 
     /// Whether the filter holds on those attributes alone whose tags a test accepts; the others count as absent. The test is asked of
@@ -66,6 +72,11 @@ impl Filter {
         requires { F.IsAlwaysCallable accepts.now }
         ensures { (p : List ℕ → Bool) → AcceptsAs F.Fn accepts.now p → result ≡ spec.holds self.now (kept_attributes attributes.now p) }
     {
-        holds_where(&self.tree, attributes, true, accepts)
+        let mut looked = Looked {
+            attributes,
+            keeps: true,
+            last: None,
+        };
+        holds_where(&self.tree, true, &mut looked, accepts)
     }
 }

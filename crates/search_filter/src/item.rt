@@ -1,13 +1,14 @@
 ghost use Rattle.std.specs.Prelude.{◌≡◌, ℕ, Bool, List, not, if◌then◌else◌};
-ghost use Rattle.std.specs.FinMap as fin;
 ghost use Rattle.std.specs.List.{list_any};
 ghost use Rattle.std.specs.Option.{option_copied};
 ghost use Rattle.attr_list.specs.Maps.{kept_attributes};
 ghost use Rattle.attr_list.specs.Tests.{AcceptsAs};
 ghost use Rattle.search_filter.specs.Conditions as spec;
+ghost use Rattle.search_filter.specs.Looks.{AreLooked};
 ghost use Rattle.search_filter.specs.Conditions.{is_met, is_missed, item_holds, negated_item_holds};
 
-use attr_list::{Attrs, Held, Value};
+use crate::looks::{Looked, held_at};
+use attr_list::{Held, Value};
 use attr_operands::Operand;
 use slp_text::Key;
 use text_patterns::Pattern;
@@ -98,32 +99,20 @@ impl Condition {
 }
 
 impl Item {
-    // What the tag of the item holds, if it is there and a test accepts it. The test is asked only where the tag is there.
-    fn accepted<'a, F: Fn(&Key) -> bool>(
-        &self,
-        attributes: &'a Attrs,
-        accepts: &F,
-    ) -> Option<&'a Held>
-        requires { F.IsAlwaysCallable accepts.now }
-        ensures { (p : List ℕ → Bool) → AcceptsAs F.Fn accepts.now p → option_copied result ≡ fin.get (kept_attributes attributes.now p) self.now.tag }
-    {
-        match attributes.get(&self.tag) {
-            Some(held) if accepts(&self.tag) => Some(held),
-            _ => None,
-        }
-    }
-
     // Whether the item holds on the attributes whose tags a test accepts, or its negation. It takes no memory.
-    pub fn holds<F: Fn(&Key) -> bool>(
-        &self,
-        attributes: &Attrs,
+    pub fn holds<'a, F: Fn(&Key) -> bool>(
+        &'a self,
         positive: bool,
+        looked: &mut Looked<'a>,
         accepts: &F,
     ) -> bool
-        requires { F.IsAlwaysCallable accepts.now }
-        ensures { (p : List ℕ → Bool) → AcceptsAs F.Fn accepts.now p → result ≡ (if positive then item_holds self.now (kept_attributes attributes.now p) else negated_item_holds self.now (kept_attributes attributes.now p)) }
+        requires callable { F.IsAlwaysCallable accepts.now }
+        requires last { AreLooked F.Fn accepts.now looked.old }
+        ensures holds { (p : List ℕ → Bool) → AcceptsAs F.Fn accepts.now p → result ≡ (if positive then item_holds self.now (kept_attributes looked.old.attributes.now p) else negated_item_holds self.now (kept_attributes looked.old.attributes.now p)) }
+        ensures last { AreLooked F.Fn accepts.now looked.new }
+        ensures same { looked.new.attributes ≡ looked.old.attributes }
     {
-        self.condition
-            .holds(self.accepted(attributes, accepts), positive)
+        let held = held_at(&self.tag, looked, accepts);
+        self.condition.holds(held, positive)
     }
 }

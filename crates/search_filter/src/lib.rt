@@ -6,6 +6,7 @@ mod fault;
 mod filter;
 mod item;
 pub mod laws;
+mod looks;
 mod parsing;
 mod reading;
 mod tree;
