@@ -51,11 +51,11 @@ use Rattle.directory_state.specs.State.{State, is_full_for, state_after, state_c
 use Rattle.directory_state.specs.Viewers.{IsViewerOf}
 use Rattle.directory_state.specs.declared.search.Spoken.TheVariants.{Nothing, Others, Asked}
 use Rattle.directory_state.specs.declared.asked.Viewer.{Viewer}
-use Rattle.directory_state.proofs.ArrangedEntries.{all_elsewhere, arranged-in_order, none_here, some_here, types-in_order}
+use Rattle.directory_state.proofs.ArrangedEntries.{all_elsewhere, arranged-in_order, none_here, some_here, types-arranged}
 use Rattle.directory_state.proofs.Joins.{is_same, reversed}
 use Rattle.directory_state.proofs.Judgements.{AreLive-state}
 use Rattle.directory_state.proofs.LegalHistories.{Fold-events}
-use Rattle.directory_state.proofs.OpenEntries.{mapped-from, seen-once, seen-open, KeepsTest}
+use Rattle.directory_state.proofs.OpenEntries.{from-filter, mapped-from, seen-once, seen-open, Contains-filter, KeepsTest}
 use Rattle.directory_state.proofs.Outcomes.{elsewhere-carried}
 use Rattle.directory_state.proofs.SearchAnswers.{foreign-is, is-foreign, services-are}
 use Rattle.directory_state.proofs.SeenUrls.{here, there}
@@ -326,7 +326,7 @@ module _ (o : Opening) (h : History) (legal : IsLegal o h) (c : Call) (datagram 
         let found = map (seen_of v) (filter (is_seen v) (filter p held.es)) in
         let alike = seen-open o h s c.moment c.asker q.scopes v p (filter p held.es) fold (views q.scopes) (keeps_under q.authority) (listed p) in
         let order = in-order (λ e. e.kind) (filter p found) in
-        let base = types-in_order found order.0 p order.1 in
+        let base = types-arranged (filter p found) order.0 order.1 in
         let types = map (λ e. e.kind) order.0 in
         let r = cut_reply (types_with head) c.limit head (by_step decider.Nobody None) types (omega (arith, datagram, tag, types_size head (nat_lt 0 (length types)) (comma_list (take 0 types)))) in (
           r.0,
@@ -334,8 +334,8 @@ module _ (o : Opening) (h : History) (legal : IsLegal o h) (c : Call) (datagram 
             types = types;
             are = record {
               ordered = base.ordered;
-              each = λ t has. let k = base.each t has in (k.0, (alike k.0).0 k.1.0, k.2);
-              all = λ e m. base.all e ((alike e).1 m, m.about);
+              each = λ t has. let k = base.each t has in (k.0, (alike k.0).0 (from-filter p found k.0 k.1), k.2);
+              all = λ e m. base.all e (Contains-filter p found e ((alike e).1 m) m.about);
             };
             reply = r.1;
           },

@@ -91,18 +91,3 @@ push-last es last e is less a =
     sym (take-append-drop n es) ∙ ap (λ t. take n es ++ t) (drop-cons es n last within ∙ ap₂ (λ x xs. x ∷ xs) (get_or_from_slice_get es n last last is) past) in
     let keys : kinds es ≡ kinds (take n es) ++ last.kind ∷ [] = ap kinds split ∙ map-append (λ x. x.kind) (take n es) (last ∷ []) in
     subst IsAscending (ap (λ ks. ks ++ e.kind ∷ []) (sym keys) ∙ sym (map-append (λ x. x.kind) es (e ∷ []))) (after-last (kinds (take n es)) last.kind e.kind less (subst IsAscending keys a))
-
-below-filter : (k : List ℕ) (p : Entry → Bool) (es : List Entry) → AllByRecursion (λ j. bytes_cmp k j ≡ Less) (map (λ e. e.kind) es) → AllByRecursion (λ j. bytes_cmp k j ≡ Less) (map (λ e. e.kind) (filter p es))
-below-filter k p [] h = tt
-below-filter k p (e ∷ es) h = elim (p e) as (λ b. AllByRecursion (λ j. bytes_cmp k j ≡ Less) (map (λ e. e.kind) (cond b (e ∷ filter p es) (filter p es)))) [
-  | true ↦ (h.0, below-filter k p es h.1)
-  | false ↦ below-filter k p es h.1
-]
-
--- some of them stand so, too
-pub by_kind-filter : (p : Entry → Bool) (es : List Entry) → AreByKind es → AreByKind (filter p es)
-by_kind-filter p [] a = tt
-by_kind-filter p (e ∷ es) a = elim (p e) as (λ b. AreByKind (cond b (e ∷ filter p es) (filter p es))) [
-  | true ↦ (below-filter e.kind p es a.0, by_kind-filter p es a.1)
-  | false ↦ by_kind-filter p es a.1
-]

@@ -25,3 +25,4 @@ pub mod SeenUrls
 pub mod Shortlists
 pub mod ShownEntries
 pub mod States
+pub mod TypeFronts

@@ -7,4 +7,5 @@ pub mod Fronts
 pub mod Reloads
 pub mod Searches
 pub mod State
+pub mod TypeRooms
 pub mod Viewers

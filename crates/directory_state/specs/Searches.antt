@@ -1,5 +1,5 @@
 -- How what answers a question is found: each entry that is seen joins a list of URLs with their latest deadlines, which is cut to its room.
-use Rattle.std.specs.Prelude.{◌≡◌, ℕ, ◌+◌, ◌-◌, ◌<◌, ◌≤◌, ◌==◌, Bool, true, ◌&&◌, nat_le, min, if◌then◌else◌, List, [], ◌∷◌, drop, get_or, length, map, filter, Contains, vec_items, Option, Some, None, IfSome, IsTrue, MatchOption}
+use Rattle.std.specs.Prelude.{◌≡◌, ℕ, ◌+◌, ◌-◌, ◌<◌, ◌≤◌, ◌==◌, ◌⊎◌, Bool, true, false, ◌&&◌, nat_le, nat_lt, min, if◌then◌else◌, List, [], ◌∷◌, drop, get_or, length, map, filter, Contains, vec_items, Option, Some, None, IfSome, IsTrue, MatchOption}
 use Rattle.access_rules.specs.Deciding.{SiteRules, deed, is_hidden, is_hidden_by}
 use Rattle.access_rules.specs.declared.rule.Action.TheVariants.{See}
 use Rattle.attr_list.specs.Elements.{Element}
@@ -8,21 +8,26 @@ use Rattle.slp_tags.specs.Tags.{Part, selects}
 use Rattle.registry_core.specs.Entries.{Entries, outlives, pair_of, IsListing}
 use Rattle.registry_core.specs.declared.entry.Entry.{Entry}
 use Rattle.slp_messages.specs.declared.message.UrlEntry.{UrlEntry}
-use Rattle.directory_questions.specs.Items.{is_wanted}
+use Rattle.directory_questions.specs.Items.{is_under, is_wanted}
 use Rattle.directory_questions.specs.Sights.{is_left_in, is_open_in, is_shown, seen_entry}
+use Rattle.directory_questions.specs.declared.query.Authority.{Authority}
 use Rattle.directory_questions.specs.declared.query.ServiceQuery.{ServiceQuery}
 use Rattle.directory_questions.specs.declared.query.Target.{Target}
 use Rattle.directory_questions.specs.declared.query.Target.TheVariants.{Kind, Place}
 use Rattle.directory_state.specs.Deadlines.{UrlDeadline, with_deadline, total_cost, urls_of}
 use Rattle.std.specs.List.{AllByRecursion, list_any}
 use Rattle.std.specs.Borrow.{Bor}
+use Rattle.std.specs.Option.{option_map, option_map_or}
 use Rattle.std.specs.Ordering.{is_le}
+use Rattle.std.specs.declared.cmp.Ordering.TheVariants.{Less}
 use Rattle.slp_text.specs.Words.{bytes_cmp, bytes_eq, texts_eq, IsAscending}
 use Rattle.directory_state.specs.declared.search.Shortlist.{Shortlist}
 use Rattle.directory_state.specs.declared.search.Room.{Room}
 use Rattle.directory_state.specs.declared.search.Search.{Search}
 use Rattle.directory_state.specs.declared.search.Spoken.{Spoken}
 use Rattle.directory_state.specs.declared.shown.Sight.{Sight}
+use Rattle.directory_state.specs.TypeRooms.{IsMore}
+use Rattle.directory_state.specs.declared.viewer.KindEntries.{KindEntries}
 use Rattle.directory_state.specs.declared.viewer.Look.{Look}
 use Rattle.directory_state.specs.declared.viewer.Seen.{Seen}
 use Rattle.directory_state.specs.declared.viewer.SeenEntries.{SeenEntries}
@@ -212,3 +217,26 @@ AreByKind es = IsAscending (map (λ e. e.kind) es)
 pub record HasEachKind (es some : List Entry) : Type 0 where
   pub within : (e : Entry) → Contains some e → Contains es e
   pub kinds : (e : Entry) → Contains es e → (f : Entry) × Contains some f × (f.kind ≡ e.kind)
+
+-- it is seen, and its type has the naming authority
+abbrev pub is_listed : Viewer → Authority → Entry → Bool
+is_listed v a e = is_under a e && is_seen v e
+
+-- some of these entries, one of each type among them, but for types that come after all of theirs
+pub record HasFirstKinds (es some : List Entry) : Type 0 where
+  pub within : (e : Entry) → Contains some e → Contains es e
+  pub kinds : (e : Entry) → Contains es e → ((f : Entry) × Contains some f × (f.kind ≡ e.kind)) ⊎ AllByRecursion (λ f. bytes_cmp f.kind e.kind ≡ Less) some
+
+-- what is left of a room
+abbrev pub left_after : Option ℕ → ℕ → Option ℕ
+left_after left n = option_map (λ l. l - n) left
+
+-- there is less left than so many bytes
+abbrev pub is_over : Option ℕ → ℕ → Bool
+is_over left n = option_map_or (λ l. nat_lt l n) left false
+
+-- some of these entries, one of each type; or the first types, in their order, for which there is too little room
+abbrev pub AreKindsFor : Option ℕ → List Entry → KindEntries → Type 0
+AreKindsFor room es k =
+    let some = entries_lent (vec_items k.entries) in
+    HasEachKind es some ⊎ (IsTrue k.are_ordered × IsMore room (map (λ e. e.kind) some) × HasFirstKinds es some)

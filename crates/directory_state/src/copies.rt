@@ -88,7 +88,7 @@ impl<R: Registry> Directory<R> {
         ensures types { (o : Opening) (h : History) → Fold o h self.now → IsLegal o h
             → IfOk result (λ v. AreTypesOf (standpoint o h moment asker) query.now v.items) }
     {
-        let found = self.find_types(alloc, moment, asker, query)?;
+        let found = self.find_types(alloc, moment, asker, query, None)?;
         Ok(copied_types(alloc, &found)?)
     }
 }

@@ -1,4 +1,4 @@
-ghost use Rattle.std.specs.Prelude.{◌≡◌, ◌∷◌, [], max, map, List, IfOk, IfNone, IfSome, IsErrOf, IsTrue, ◌≤◌, ◌↔◌, false};
+ghost use Rattle.std.specs.Prelude.{◌≡◌, ◌∷◌, [], max, map, ℕ, List, IfOk, IfNone, IfSome, IsErrOf, IsTrue, ◌≤◌, ◌↔◌, false};
 ghost use Rattle.std.specs.List.{list_any};
 ghost use Rattle.std.specs.Arc.{arc_value};
 ghost use Rattle.std.specs.FinMap as fin;
@@ -12,12 +12,13 @@ ghost use Rattle.directory_questions.specs.Items.{AreAttributesOf, AreServices, 
 ghost use Rattle.directory_state.specs.Viewers.{IsViewerOf};
 ghost use Rattle.directory_state.specs.Searches.{entries_in, entries_lent, entries_seen, AreSeenBy, HasOneOfEachPair, IsIn};
 ghost use Rattle.directory_state.specs.Fronts.{IsFront, items_in, size_in};
+ghost use Rattle.directory_state.specs.TypeRooms.{IsTypesFront};
 ghost use Rattle.directory_state.specs.Folds.{Fold, StandsFor};
 ghost use Rattle.directory_state.specs.State.{State, opening_state, state_changed, state_made, swept};
 ghost use Rattle.directory_questions.specs.Verdicts.{IsLegal, IsVerdict};
 ghost use Rattle.directory_state.specs.Folds.{IsJudgedAs};
 
-use crate::arranging::{lend, name_types};
+use crate::arranging::{by_type, lend};
 use crate::asked::{Asked, Viewer};
 use crate::search::{FoundItems, Room};
 use crate::viewer::SeenEntries;
@@ -303,23 +304,25 @@ impl<R: Registry> Directory<R> {
     }
 
     /// The types of the live entries, of every language, that are open to the asker and of the naming
-    /// authority that is asked for, in key order, each once (RFC 2608, section 10.2): lent, an entry of each.
+    /// authority that is asked for, in key order, each once (RFC 2608, section 10.2): lent, an entry of each. Where they are more than there is
+    /// room for, in bytes, it may be the first of them alone, which are more, too.
     pub fn find_types(
         &self,
         alloc: Global,
         moment: u32,
         asker: Addr,
         query: &TypeQuery,
+        room: Option<usize>,
     ) -> Result<Vec<&Entry>, QueryFault>
         ensures scope { IsErrOf result QueryFault.Scope ↔ (list_any (supports self.now.site) query.now.scopes ≡ false) }
         ensures spoken { IsErrOf result QueryFault.Language → ⊥ }
         ensures types { (o : Opening) (h : History) → Fold o h self.now → IsLegal o h
-            → IfOk result (λ v. AreTypesOf (standpoint o h moment asker) query.now (map (λ e. e.kind) (entries_lent v.items))) }
+            → IfOk result (λ v. (all : List (List ℕ)) × AreTypesOf (standpoint o h moment asker) query.now all × IsTypesFront room all (map (λ e. e.kind) (entries_lent v.items))) }
     {
         let Some(viewer) = self.viewer(moment, asker, &query.scopes) else {
             return Err(QueryFault::Scope);
         };
-        let found = viewer.gather_types(alloc, &self.registry)?;
-        Ok(name_types(found, query))
+        let found = viewer.gather_types(alloc, &self.registry, &query.authority, room)?;
+        Ok(by_type(found))
     }
 }

@@ -1,17 +1,17 @@
 //! What is open to who asks.
 ghost use Rattle.std.specs.declared.cmp.Ordering.TheVariants.{Equal, Less};
-ghost use Rattle.std.specs.Prelude.{◌≡◌, ◌≤◌, ◌∷◌, [], ◌++◌, false, filter, IfOk, Contains, IfSome, IsTrue, MatchOption, None, Some};
+ghost use Rattle.std.specs.Prelude.{◌≡◌, ◌≤◌, ◌∷◌, [], ◌++◌, false, filter, length, IfOk, Contains, IfSome, IsTrue, MatchOption, None, Some};
 ghost use Rattle.access_rules.specs.Deciding.{deed, deed_in};
 ghost use Rattle.access_rules.specs.declared.rule.Action.TheVariants.{See};
 ghost use Rattle.registry_core.specs.declared.entry.Entry as spec;
-ghost use Rattle.registry_core.specs.Entries.{is_kind, IsListing, Passes};
+ghost use Rattle.registry_core.specs.Entries.{is_kind, AreByType, IsListing, Passes};
 ghost use Rattle.directory_questions.specs.Sights.{is_open_in};
-ghost use Rattle.directory_state.specs.Searches.{are_alike, entries_in, entries_lent, is_seen, rest_about, AreByKind, AreFoundIn, AreSeenBy, HasEachKind, IsFirstOpen, IsLook, IsSeenFrom};
+ghost use Rattle.directory_state.specs.Searches.{are_alike, entries_in, entries_lent, is_listed, is_over, is_seen, left_after, rest_about, AreByKind, AreFoundIn, AreKindsFor, AreSeenBy, IsFirstOpen, IsLook, IsSeenFrom};
 ghost use Rattle.directory_questions.specs.Items.{is_target};
 
 use crate::asked::Viewer;
 use access_rules::{Action, Deed};
-use directory_questions::Target;
+use directory_questions::{Authority, Target};
 use registry_core::{Entry, Registry};
 use service_url::ServiceType;
 use slp_text::{Key, NoMemory};
@@ -42,7 +42,7 @@ pub struct SeenEntries<'a> {
 /// Memory is taken for so many types at once.
 const AT_ONCE: usize = 64;
 
-/// Of what is open an entry of each type, or more, and whether they stand in the key order of their types, one of each.
+/// Of what is open an entry of each type, or more, or the first for which there is room and one more; and whether they stand in the key order of their types, one of each.
 #[derive(Drop)]
 pub struct KindEntries<'a> {
     pub entries: Vec<&'a Entry>,
@@ -83,6 +83,37 @@ fn still_ordered(before: bool, order: Ordering) -> bool
     ensures { IsTrue result → IsTrue before × (order ≡ Less) }
 {
     before && matches!(order, Ordering::Less)
+}
+
+// The room for types, if the registry walks by type: else a walk ends at no type.
+#[inline(always)]
+fn counted_room<R: Registry>(registry: &R, room: Option<usize>) -> Option<usize>
+    ensures counted { IfSome result (λ n. room ≡ Some n) }
+    ensures by_type { IfSome result (λ _. AreByType (R.rest_of_kind registry.now None 0)) }
+{
+    if registry.walks_by_type() { room } else { None }
+}
+
+// Whether there is too little room left for a type.
+#[inline(always)]
+fn is_over(left: Option<usize>, kind: &ServiceType) -> bool
+    ensures { result ≡ is_over left (length kind.now) }
+{
+    match left {
+        Some(left) => left < kind.text().len(),
+        None => false,
+    }
+}
+
+// The room that is left after a type.
+#[inline(always)]
+fn left_after(left: Option<usize>, kind: &ServiceType) -> Option<usize>
+    ensures { result ≡ left_after left (length kind.now) }
+{
+    match left {
+        Some(left) => Some(left.saturating_sub(kind.text().len())),
+        None => None,
+    }
 }
 
 // From which number on a walk goes that has met an entry of a type: past the others of the type, where types repeat; and whether there
@@ -215,22 +246,41 @@ impl Viewer<'_> {
         Ok(found)
     }
 
-    /// Of what is open an entry of each type, and it may be more. Where one of a type was seen, the walk goes on past the others of the
-    /// type, if the registry knows where they end: after a look at the next one, and where the type before had others, without.
+    // Whether an entry is seen, and its type of a naming authority.
+    #[inline(always)]
+    fn lists<'a>(
+        &self,
+        entry: &'a Entry,
+        authority: &Authority,
+        last: &mut Option<Look<'a>>,
+    ) -> bool
+        requires { IfSome last.old (IsLook self.now) }
+        ensures last { IfSome last.new (IsLook self.now) }
+        ensures listed { result ≡ is_listed self.now authority.now entry.now }
+    {
+        authority.is_over(entry) && self.sees(entry, last).is_some()
+    }
+
+    /// Of what is open an entry of each type of a naming authority, and it may be more. Where one of a type was seen, the walk goes on past the others
+    /// of the type, if the registry knows where they end: after a look at the next one, and where the type before had others, without.
+    /// Where the registry walks by type, it ends at the first for which there is no room, in bytes.
     // A call of its own in the machine's code, so that the walk keeps its registers.
     #[inline(never)]
     pub fn gather_types<'a, R: Registry>(
         &self,
         alloc: Global,
         registry: &'a R,
+        authority: &Authority,
+        room: Option<usize>,
     ) -> Result<KindEntries<'a>, NoMemory>
-        ensures found { IfOk result (λ k. HasEachKind (filter (is_seen self.now) (R.rest_of_kind registry.now None 0)) (entries_lent k.entries.items)) }
+        ensures found { IfOk result (λ k. AreKindsFor room (filter (is_listed self.now authority.now) (R.rest_of_kind registry.now None 0)) k) }
         ensures ordered { IfOk result (λ k. IsTrue k.are_ordered → AreByKind (entries_lent k.entries.items)) }
         ensures listing { IfOk result (λ _. IsListing (is_kind None) (R.contents registry.now) (R.rest_of_kind registry.now None 0)) }
     {
         let mut entries = Vec::with_capacity(alloc, AT_ONCE)?;
         let mut are_ordered = true;
         let mut repeats = false;
+        let mut left = counted_room(registry, room);
         let mut last = None;
         let mut from = 0;
         while let Some((entry, next)) = registry.by_kind(None, from) {
@@ -241,11 +291,15 @@ impl Viewer<'_> {
                 continue;
             }
             from = next;
-            if self.sees(entry, &mut last).is_none() {
+            if !self.lists(entry, authority, &mut last) {
                 continue;
             }
             are_ordered = still_ordered(are_ordered, order);
             entries.push(entry)?;
+            if are_ordered && is_over(left, &entry.kind) {
+                break;
+            }
+            left = left_after(left, &entry.kind);
             (from, repeats) = past_if(repeats, registry, &entry.kind, next);
         }
         Ok(KindEntries {

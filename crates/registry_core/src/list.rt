@@ -234,6 +234,10 @@ impl Registry for ListRegistry {
         from
     }
 
+    fn walks_by_type(&self) -> bool {
+        false
+    }
+
     fn by_url(&self, url: &Url, from: usize) -> Option<(&Entry, usize)> {
         for at in from..self.entries.len() {
             let entry: &Entry = &self.entries[at];

@@ -1,8 +1,8 @@
-ghost use Rattle.std.specs.Prelude.{◌≡◌, ◌<◌, ◌≤◌, ◌∷◌, [], ◌↔◌, length, filter, is_some, not, true, IsErrOf, OnOk, OnErr, IfSome, MatchOption, None};
+ghost use Rattle.std.specs.Prelude.{◌≡◌, ◌<◌, ◌≤◌, ◌∷◌, [], ◌↔◌, length, filter, is_some, not, true, IsErrOf, OnOk, OnErr, IfSome, IsTrue, MatchOption, None};
 ghost use Rattle.std.specs.Arc.{arc_value};
 ghost use Rattle.std.specs.FinMap as fin;
 ghost use Rattle.std.specs.Option.{option_copied};
-ghost use Rattle.registry_core.specs.Entries.{Pair, pair_of, outlives, if_kept, passing_entries, is_at_place, is_kind, is_of_url, is_within, is_registered, IsListing, Passes};
+ghost use Rattle.registry_core.specs.Entries.{Pair, pair_of, outlives, if_kept, passing_entries, is_at_place, is_kind, is_of_url, is_within, is_registered, AreByType, IsListing, Passes};
 ghost use Rattle.registry_core.specs.declared.registry.RegistryFault.TheVariants as fault;
 
 use crate::entry::Entry;
@@ -125,6 +125,10 @@ pub trait Registry {
     fn past_kind(&self, kind: &ServiceType, from: usize) -> usize
         ensures passes { Passes kind.now (rest_of_kind self.now None from) (rest_of_kind self.now None result) }
         ensures onward { from ≤ result };
+
+    /// Whether `by_kind` gives the entries of all types in the key order of their types.
+    fn walks_by_type(&self) -> bool
+        ensures { IsTrue result → AreByType (rest_of_kind self.now None 0) };
 
     /// The next entry of a URL, with the number to go on from. The first number is 0. On a registry
     /// that stays as it is each such entry comes once.

@@ -1,16 +1,24 @@
 -- How long a reply to a request is, by the items that it takes.
-use Rattle.std.proofs.Common.{◌<◌, length-take-le, inl, inr, sym, ◌≡◌, ℕ, ◌+◌, ◌≤◌, Bool, true, false, List, [], ◌∷◌, length, take, refl, ap, ap₂, ◌∙◌, arith}
+use Rattle.std.proofs.Common.{◌<◌, length-take-le, inl, inr, sym, ◌≡◌, ℕ, ◌+◌, ◌≤◌, Bool, true, false, List, [], ◌∷◌, ◌++◌, length, take, Some, refl, ap, ap₂, subst, ◌∙◌, arith}
 use Rattle.std.specs.Prelude.{◌==◌, ◌&&◌, not, nat_lt}
 use Rattle.std.specs.List.{flat_map}
 use Rattle.std.proofs.lemmas.Bool.{cases_lt, le-ltb}
 use Rattle.std.proofs.lemmas.Bool.Decides.{nat_tests}
 use Rattle.std.proofs.lemmas.List.{length-append}
-use borrow.Author.Tests.{lt-ltb}
+use borrow.Author.Tests.{lt-ltb, ne_eqb}
 use Rattle.slp_fields.specs.Spelling.{entry_bytes}
 use Rattle.slp_wire.specs.Spelling.{plain_bytes, body_of}
 use Rattle.slp_headers.specs.Headers.{Heading}
+use Rattle.slp_messages.specs.declared.code.TheConstants.{OK}
 use Rattle.slp_messages.specs.declared.message.UrlEntry.{UrlEntry}
-use Rattle.directory_questions.specs.Cuts.{IsCut, services_with}
+use Rattle.slp_text.specs.Ascii.{comma}
+use Rattle.slp_text.specs.Lists.{comma_list}
+use Rattle.directory_judge.specs.declared.reason.Because.{Because}
+use Rattle.directory_questions.specs.Answers.{IsCutReply}
+use Rattle.directory_questions.specs.Outcomes.{Outcome, outcome, sent_of}
+use Rattle.directory_state.specs.TypeRooms.{bytes_of, IsTypesFront}
+use Rattle.slp_replies.proofs.TextFronts.{overfull-cut}
+use Rattle.directory_questions.specs.Cuts.{IsCut, services_with, types_with}
 use Rattle.directory_state.specs.Fronts.{IsFront, size_in}
 use Rattle.directory_state.specs.declared.search.Room.{Room}
 use Rattle.slp_answer.specs.ServiceReplies.{service_reply}
@@ -75,3 +83,26 @@ module _ (h : Heading) (room : Room) (all items : List UrlEntry) (is_cut : Bool)
 pub room-short : (h : Heading) (room : Room) (items : List UrlEntry) (is_cut : Bool) (limit : ℕ) → room.bytes + 18 + length h.language ≡ limit → room.each ≡ 6 → size_in room items ≤ room.bytes → length (plain_bytes (service_reply h is_cut items)) ≤ limit
 room-short h room items is_cut limit whole six fits =
     omega (arith, whole, fits, size_in-is room items six, length-append h.language (body_of (service_reply h is_cut items)), length-append (flat_map (entry_bytes 0) items) [])
+
+-- ---- lists of types
+
+bytes_of-least : (ts : List (List ℕ)) → bytes_of ts ≤ length (comma_list ts)
+bytes_of-least [] = omega arith
+bytes_of-least (t ∷ []) = omega arith
+bytes_of-least (t ∷ u ∷ ts) = omega (arith, bytes_of-least (u ∷ ts), length-append t (comma ∷ comma_list (u ∷ ts)))
+
+none_neither : (limit : ℕ) (front rest : List (List ℕ)) → limit < bytes_of front → (length front == 0) ≡ (length (front ++ rest) == 0)
+none_neither limit [] rest over = absurd (omega (arith, over))
+none_neither limit (t ∷ front) rest over =
+    ne_eqb (length (t ∷ front)) 0 (λ e. omega (arith, e)) ∙ sym (ne_eqb (length ((t ∷ front) ++ rest)) 0 (λ e. omega (arith, e, length-append (t ∷ front) rest)))
+
+-- a reply with the first types, for which there is too little room, is the one with all
+pub types-front-reply : (h : Heading) (limit : ℕ) (because : Because) (all front : List (List ℕ)) (r : Outcome) → IsTypesFront (Some limit) all front → IsCutReply (types_with h) limit h because front r → IsCutReply (types_with h) limit h because all r
+types-front-reply h limit because all front r f c = elim f [
+  | inl same ↦ subst (λ ts. IsCutReply (types_with h) limit h because ts r) same c
+  | inr first ↦ subst (λ ts. IsCutReply (types_with h) limit h because ts r) (sym first.1.1) (record {
+    whole = c.whole;
+    cut = overfull-cut h limit front first.1.0 (omega (arith, first.0, bytes_of-least front)) c.whole c.cut;
+    sent = c.sent ∙ ap (λ b. outcome (sent_of h OK b c.whole) OK because) (none_neither limit front first.1.0 first.0);
+  })
+]

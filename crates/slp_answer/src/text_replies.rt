@@ -83,7 +83,7 @@ pub fn answer_types<R: Registry>(
         → IfOk result (λ what. IsQuestionAnswered o h reply.now (question.Types query.now) what answer.new.bytes.items answer.new.audit.items) }
 {
     let call = reply.heard.call;
-    match directory.find_types(alloc, call.moment, call.asker, query) {
+    match directory.find_types(alloc, call.moment, call.asker, query, Some(call.limit)) {
         Ok(entries) => {
             let texts = TypeTexts { entries: &entries };
             reply.texts(alloc, None, Form::Types, &texts, answer)

@@ -131,6 +131,42 @@ pub listed-cut : (f : Form) (h : Heading) (limit : ℕ) (texts : List (List ℕ)
 listed-cut form.Attributes h limit texts bytes r = subst (IsCut (length texts) (attributes_with h texts) limit) (sym r.spelled) (attributes-cut h r.room limit texts r.list r.is_cut r.front (omega (arith, r.whole)))
 listed-cut form.Types h limit texts bytes r = subst (IsCut (length texts) (types_with h texts) limit) (sym r.spelled) (types-cut h r.room limit texts r.list r.is_cut r.front (omega (arith, r.whole)))
 
+take_front : (n : ℕ) (xs ys : List (List ℕ)) → n ≤ length xs → take n (xs ++ ys) ≡ take n xs
+take_front zero xs ys le = refl
+take_front (suc n) [] ys le = absurd (omega (arith, le))
+take_front (suc n) (x ∷ xs) ys le = ap (λ ts. x ∷ ts) (take_front n xs ys (omega (arith, le)))
+
+-- where the first texts alone are more than the limit, the reply that lists them is the one that lists them all
+module _ (h : Heading) (limit : ℕ) (front rest : List (List ℕ)) (over : limit < length (comma_list front)) where
+  abbrev whole : List (List ℕ)
+  whole = front ++ rest
+
+  same_list : (n : ℕ) → n ≤ length front → length (list_with whole n) ≡ length (list_with front n)
+  same_list n le = ap (λ ts. length (comma_list ts)) (take_front n front rest le)
+
+  all-over : length (list_with front (length front)) ≡ length (comma_list front)
+  all-over = ap (λ ts. length (comma_list ts)) (take_all (length front) front (omega arith))
+
+  pub overfull-cut : (bytes : List ℕ) → IsCut (length front) (types_with h front) limit bytes → IsCut (length whole) (types_with h whole) limit bytes
+  overfull-cut bytes cut =
+      let long = length-append front rest in
+      let short : cut.count < length front = elim (cases_lt cut.count (length front)) [
+        | inl less ↦ less
+        | inr more ↦ absurd (let all : length (list_with front cut.count) ≡ length (list_with front (length front)) = ap (λ n. length (list_with front n)) (omega (arith, more, cut.within)) in
+            omega (arith, all, all-over, over, cut.fits, types_size h (nat_lt cut.count (length front)) (list_with front cut.count)))
+      ] in
+      record {
+        count = cut.count;
+        within = omega (arith, long, short);
+        fits = omega (arith, cut.fits, types_size h (nat_lt cut.count (length front)) (list_with front cut.count), types_size h (nat_lt cut.count (length whole)) (list_with whole cut.count), same_list cut.count (omega (arith, short)));
+        longest = λ other within fits. elim (cases_lt (length front) other) [
+          | inl more ↦ absurd (omega (arith, longer whole (length front) other (omega (arith, more)), same_list (length front) (omega arith), all-over, over, fits, types_size h (nat_lt other (length whole)) (list_with whole other)))
+          | inr least ↦ cut.longest other least (omega (arith, fits, same_list other least, types_size h (nat_lt other (length whole)) (list_with whole other), types_size h (nat_lt other (length front)) (list_with front other)))
+        ];
+        spelled = cut.spelled ∙ ap₂ (λ (c : Bool) (l : List ℕ). plain_bytes (message.TypeReply (reply_header h c) (type_reply.Found l)))
+            (lt-ltb cut.count (length front) short ∙ sym (lt-ltb cut.count (length whole) (omega (arith, long, short)))) (ap comma_list (sym (take_front cut.count front rest (omega (arith, short)))));
+      }
+
 -- it is never empty
 pub listed-some : (f : Form) (h : Heading) (limit : ℕ) (texts : List (List ℕ)) (bytes : List ℕ) → IsListedReply f h limit texts bytes → bytes ≢ []
 listed-some form.Attributes h limit texts bytes r = λ e. let k = sym r.spelled ∙ e in cc

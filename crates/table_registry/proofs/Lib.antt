@@ -1,3 +1,4 @@
 pub mod Along
 pub mod Contents
 pub mod OneType
+pub mod TypeOrder

@@ -303,6 +303,13 @@ impl Registry for TableRegistry {
         self.end_of_kind(kind)
     }
 
+    #[inline(always)]
+    fn walks_by_type(&self) -> bool {
+        // What the order keeps is known where it is read.
+        let _kinds = &self.kinds;
+        true
+    }
+
     fn by_url(&self, url: &Url, from: usize) -> Option<(&Entry, usize)> {
         let slots = &self.slots;
         match self.next_of_url(url, from) {
