@@ -16,6 +16,7 @@ pub struct Attribute {
 }
 
 impl Drop for Attribute {
+    #[inline(always)]
     fn drop(self) {
         let Attribute { tag: _, held: _ } = self;
     }
@@ -27,6 +28,7 @@ pub struct Attrs {
 }
 
 impl Drop for Attrs {
+    #[inline(always)]
     fn drop(self) {
         let Attrs { entries: _ } = self;
     }

@@ -12,6 +12,7 @@ pub enum Held {
 }
 
 impl Drop for Held {
+    #[inline(always)]
     fn drop(self) {
         match self {
             Held::Keyword => {}

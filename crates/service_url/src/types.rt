@@ -22,6 +22,7 @@ pub struct ServiceType {
 }
 
 impl Drop for ServiceType {
+    #[inline(always)]
     fn drop(self) {
         let ServiceType {
             text: _,

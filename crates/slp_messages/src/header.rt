@@ -22,6 +22,7 @@ pub struct Tag {
 }
 
 impl Drop for Tag {
+    #[inline(always)]
     fn drop(self) {
         let Tag { text: _ } = self;
     }
@@ -79,6 +80,7 @@ pub struct Header {
 }
 
 impl Drop for Header {
+    #[inline(always)]
     fn drop(self) {
         let Header {
             flags: _,

@@ -12,6 +12,7 @@ pub struct UrlEntry {
 }
 
 impl Drop for UrlEntry {
+    #[inline(always)]
     fn drop(self) {
         let UrlEntry {
             lifetime: _,
@@ -30,6 +31,7 @@ pub struct ServiceRequest {
 }
 
 impl Drop for ServiceRequest {
+    #[inline(always)]
     fn drop(self) {
         let ServiceRequest {
             responders: _,
@@ -90,6 +92,7 @@ pub struct Registration {
 }
 
 impl Drop for Registration {
+    #[inline(always)]
     fn drop(self) {
         let Registration {
             entry: _,
@@ -109,6 +112,7 @@ pub struct Withdrawal {
 }
 
 impl Drop for Withdrawal {
+    #[inline(always)]
     fn drop(self) {
         let Withdrawal {
             scopes: _,
@@ -130,6 +134,7 @@ pub struct AttributeRequest {
 }
 
 impl Drop for AttributeRequest {
+    #[inline(always)]
     fn drop(self) {
         let AttributeRequest {
             responders: _,
@@ -176,6 +181,7 @@ pub enum Authority {
 }
 
 impl Drop for Authority {
+    #[inline(always)]
     fn drop(self) {
         match self {
             Authority::All => {}
@@ -193,6 +199,7 @@ pub struct TypeRequest {
 }
 
 impl Drop for TypeRequest {
+    #[inline(always)]
     fn drop(self) {
         let TypeRequest {
             responders: _,

@@ -32,6 +32,7 @@ pub struct ScopeList {
 }
 
 impl Drop for ScopeList {
+    #[inline(always)]
     fn drop(self) {
         let ScopeList { keys: _ } = self;
     }

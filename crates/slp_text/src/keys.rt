@@ -29,6 +29,7 @@ pub struct Key {
 }
 
 impl Drop for Key {
+    #[inline(always)]
     fn drop(self) {
         let Key { text: _ } = self;
     }

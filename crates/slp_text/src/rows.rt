@@ -8,6 +8,7 @@ pub struct Row<T> {
 }
 
 impl<T: Drop> Drop for Row<T> {
+    #[inline(always)]
     fn drop(self) {
         let Row { items: _ } = self;
     }

@@ -16,6 +16,7 @@ pub struct Text {
 }
 
 impl Drop for Text {
+    #[inline(always)]
     fn drop(self) {
         let Text { text: _ } = self;
     }
