@@ -112,10 +112,14 @@ impl Viewer<'_> {
     {
         let entry = seen.entry;
         match self.sight(seen) {
-            Some(sight) => filter.holds_where(
-                &entry.attrs,
-                &|tag: &Key| { self.shows(entry, &sight, tag) },
-            ),
+            Some(sight) => {
+                let shows = |tag: &Key| { self.shows(entry, &sight, tag) };
+                if sight.tables.is_one() {
+                    filter.holds_where(&entry.attrs, &shows)
+                } else {
+                    filter.holds_where_once(&entry.attrs, &shows)
+                }
+            }
             None => filter.holds(&entry.attrs),
         }
     }

@@ -6,7 +6,7 @@ ghost use Rattle.search_filter.specs.Outcomes.{IsReading};
 ghost use Rattle.search_filter.specs.Reading.{filter_in};
 
 use crate::fault::FilterFault;
-use crate::looks::Looked;
+use crate::looks::{Always, Never};
 use crate::parsing::read_whole;
 use crate::tree::{Tree, holds_where};
 use attr_list::Attrs;
@@ -58,25 +58,25 @@ impl Filter {
     pub fn holds(&self, attributes: &Attrs) -> bool
         ensures { result ≡ spec.holds self.now attributes.now }
     {
-        let mut looked = Looked {
-            attributes,
-            keeps: false,
-            last: None,
-        };
-        holds_where(&self.tree, true, &mut looked, &|_: &Key| true)
+        self.holds_where(attributes, &|_: &Key| true)
     }
 
     /// Whether the filter holds on those attributes alone whose tags a test accepts; the others count as absent. The test is asked of
     /// a tag that an item names and that is there. It takes no memory, where the test takes none, and recurses as `holds` does.
+    #[inline(always)]
     pub fn holds_where<F: Fn(&Key) -> bool>(&self, attributes: &Attrs, accepts: &F) -> bool
         requires { F.IsAlwaysCallable accepts.now }
         ensures { (p : List ℕ → Bool) → AcceptsAs F.Fn accepts.now p → result ≡ spec.holds self.now (kept_attributes attributes.now p) }
     {
-        let mut looked = Looked {
-            attributes,
-            keeps: true,
-            last: None,
-        };
-        holds_where(&self.tree, true, &mut looked, accepts)
+        holds_where::<Never, F>(&self.tree, attributes, true, accepts, &mut None)
+    }
+
+    /// The same. The test is asked once for a run of items about one tag, and each item is compared with the one before it: for a test that
+    /// costs more than that.
+    pub fn holds_where_once<F: Fn(&Key) -> bool>(&self, attributes: &Attrs, accepts: &F) -> bool
+        requires { F.IsAlwaysCallable accepts.now }
+        ensures { (p : List ℕ → Bool) → AcceptsAs F.Fn accepts.now p → result ≡ spec.holds self.now (kept_attributes attributes.now p) }
+    {
+        holds_where::<Always, F>(&self.tree, attributes, true, accepts, &mut None)
     }
 }

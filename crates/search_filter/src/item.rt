@@ -4,11 +4,11 @@ ghost use Rattle.std.specs.Option.{option_copied};
 ghost use Rattle.attr_list.specs.Maps.{kept_attributes};
 ghost use Rattle.attr_list.specs.Tests.{AcceptsAs};
 ghost use Rattle.search_filter.specs.Conditions as spec;
-ghost use Rattle.search_filter.specs.Looks.{AreLooked};
+ghost use Rattle.search_filter.specs.Looks.{IsLast};
 ghost use Rattle.search_filter.specs.Conditions.{is_met, is_missed, item_holds, negated_item_holds};
 
-use crate::looks::{Looked, held_at};
-use attr_list::{Held, Value};
+use crate::looks::{Keeps, Look, held_at};
+use attr_list::{Attrs, Held, Value};
 use attr_operands::Operand;
 use slp_text::Key;
 use text_patterns::Pattern;
@@ -100,19 +100,19 @@ impl Condition {
 
 impl Item {
     // Whether the item holds on the attributes whose tags a test accepts, or its negation. It takes no memory.
-    pub fn holds<'a, F: Fn(&Key) -> bool>(
+    pub fn holds<'a, K: Keeps, F: Fn(&Key) -> bool>(
         &'a self,
+        attributes: &'a Attrs,
         positive: bool,
-        looked: &mut Looked<'a>,
         accepts: &F,
+        last: &mut Option<Look<'a>>,
     ) -> bool
         requires callable { F.IsAlwaysCallable accepts.now }
-        requires last { AreLooked F.Fn accepts.now looked.old }
-        ensures holds { (p : List ℕ → Bool) → AcceptsAs F.Fn accepts.now p → result ≡ (if positive then item_holds self.now (kept_attributes looked.old.attributes.now p) else negated_item_holds self.now (kept_attributes looked.old.attributes.now p)) }
-        ensures last { AreLooked F.Fn accepts.now looked.new }
-        ensures same { looked.new.attributes ≡ looked.old.attributes }
+        requires last { IsLast F.Fn accepts.now attributes.now last.old }
+        ensures holds { (p : List ℕ → Bool) → AcceptsAs F.Fn accepts.now p → result ≡ (if positive then item_holds self.now (kept_attributes attributes.now p) else negated_item_holds self.now (kept_attributes attributes.now p)) }
+        ensures last { IsLast F.Fn accepts.now attributes.now last.new }
     {
-        let held = held_at(&self.tag, looked, accepts);
+        let held = held_at::<K, F>(&self.tag, attributes, accepts, last);
         self.condition.holds(held, positive)
     }
 }

@@ -4,7 +4,7 @@ ghost use Rattle.std.specs.FinMap as fin;
 ghost use Rattle.std.specs.Option.{option_copied};
 ghost use Rattle.attr_list.specs.Maps.{kept_attributes};
 ghost use Rattle.attr_list.specs.Tests.{AcceptsAs};
-ghost use Rattle.search_filter.specs.Looks.{AreLooked};
+ghost use Rattle.search_filter.specs.Looks.{IsLast};
 
 use attr_list::{Attrs, Held};
 use slp_text::Key;
@@ -16,12 +16,29 @@ pub struct Look<'a> {
     pub held: Option<&'a Held>,
 }
 
-// Attributes that are looked up, and the last look. None is kept where the test costs nothing.
-#[derive(Clone, Copy)]
-pub struct Looked<'a> {
-    pub attributes: &'a Attrs,
-    pub keeps: bool,
-    pub last: Option<Look<'a>>,
+// Whether the last look is kept. What is said does not depend on it.
+pub trait Keeps {
+    fn keeps() -> bool;
+}
+
+// For a test that costs nothing, or little.
+pub enum Never {}
+
+impl Keeps for Never {
+    #[inline(always)]
+    fn keeps() -> bool {
+        false
+    }
+}
+
+// For a test that costs more than to compare two tags: it is asked once for a run of items about one tag.
+pub enum Always {}
+
+impl Keeps for Always {
+    #[inline(always)]
+    fn keeps() -> bool {
+        true
+    }
 }
 
 // What a tag holds, if it is there and a test accepts it. The test is asked only where the tag is there.
@@ -40,28 +57,28 @@ fn look_up<'a, F: Fn(&Key) -> bool>(
     }
 }
 
-// The same. Where the last look is kept, the test is asked once for a run of items about one tag.
+// The same, where the last look is kept of a tag that was asked about before.
 #[inline(always)]
-pub fn held_at<'a, F: Fn(&Key) -> bool>(
+pub fn held_at<'a, K: Keeps, F: Fn(&Key) -> bool>(
     tag: &'a Key,
-    looked: &mut Looked<'a>,
+    attributes: &'a Attrs,
     accepts: &F,
+    last: &mut Option<Look<'a>>,
 ) -> Option<&'a Held>
     requires callable { F.IsAlwaysCallable accepts.now }
-    requires last { AreLooked F.Fn accepts.now looked.old }
-    ensures held { (p : List ℕ → Bool) → AcceptsAs F.Fn accepts.now p → option_copied result ≡ fin.get (kept_attributes looked.old.attributes.now p) tag.now }
-    ensures last { AreLooked F.Fn accepts.now looked.new }
-    ensures same { looked.new.attributes ≡ looked.old.attributes }
+    requires last { IsLast F.Fn accepts.now attributes.now last.old }
+    ensures held { (p : List ℕ → Bool) → AcceptsAs F.Fn accepts.now p → option_copied result ≡ fin.get (kept_attributes attributes.now p) tag.now }
+    ensures last { IsLast F.Fn accepts.now attributes.now last.new }
 {
-    if !looked.keeps {
-        return look_up(looked.attributes, tag, accepts);
+    if !K::keeps() {
+        return look_up(attributes, tag, accepts);
     }
-    if let Some(last) = looked.last
-        && last.tag == tag
+    if let Some(look) = *last
+        && look.tag == tag
     {
-        return last.held;
+        return look.held;
     }
-    let held = look_up(looked.attributes, tag, accepts);
-    looked.last = Some(Look { tag, held });
+    let held = look_up(attributes, tag, accepts);
+    *last = Some(Look { tag, held });
     held
 }

@@ -1,11 +1,12 @@
 ghost use Rattle.std.specs.Prelude.{◌≡◌, ℕ, Bool, List};
 ghost use Rattle.attr_list.specs.Maps.{kept_attributes};
 ghost use Rattle.attr_list.specs.Tests.{AcceptsAs};
-ghost use Rattle.search_filter.specs.Looks.{AreLooked};
+ghost use Rattle.search_filter.specs.Looks.{IsLast};
 ghost use Rattle.search_filter.specs.Trees.{filter_of, filters_in, holds_as, each_holds_as};
 
 use crate::item::Item;
-use crate::looks::Looked;
+use crate::looks::{Keeps, Look};
+use attr_list::Attrs;
 use slp_text::Key;
 
 // A filter as it was written.
@@ -27,48 +28,66 @@ impl Drop for Tree {
     }
 }
 
+// How filters beside each other hold: they themselves or their negations, all of them or some.
+#[derive(Clone, Copy)]
+pub struct Turn {
+    pub positive: bool,
+    pub all: bool,
+}
+
 // Whether a filter holds on the attributes whose tags a test accepts, or its negation. The sign goes down the tree, in
 // which negations stay where they were written. It takes no memory, and one level of recursion for each of the filter.
 #[cycle(holds_where)]
-pub fn holds_where<'a, F: Fn(&Key) -> bool>(
+pub fn holds_where<'a, K: Keeps, F: Fn(&Key) -> bool>(
     tree: &'a Tree,
+    attributes: &'a Attrs,
     positive: bool,
-    looked: &mut Looked<'a>,
     accepts: &F,
+    last: &mut Option<Look<'a>>,
 ) -> bool
     requires callable { F.IsAlwaysCallable accepts.now }
-    requires last { AreLooked F.Fn accepts.now looked.old }
-    ensures holds { (p : List ℕ → Bool) → AcceptsAs F.Fn accepts.now p → result ≡ holds_as positive (kept_attributes looked.old.attributes.now p) (filter_of tree.now) }
-    ensures last { AreLooked F.Fn accepts.now looked.new }
-    ensures same { looked.new.attributes ≡ looked.old.attributes }
+    requires last { IsLast F.Fn accepts.now attributes.now last.old }
+    ensures holds { (p : List ℕ → Bool) → AcceptsAs F.Fn accepts.now p → result ≡ holds_as positive (kept_attributes attributes.now p) (filter_of tree.now) }
+    ensures last { IsLast F.Fn accepts.now attributes.now last.new }
 {
     match tree {
-        Tree::All(filters) => each_holds_where(filters, positive, positive, looked, accepts),
-        Tree::Any(filters) => each_holds_where(filters, positive, !positive, looked, accepts),
-        Tree::Not(filter) => holds_where(filter, !positive, looked, accepts),
-        Tree::Item(item) => item.holds(positive, looked, accepts),
+        Tree::All(filters) => {
+            let turn = Turn {
+                positive,
+                all: positive,
+            };
+            each_holds_where::<K, F>(filters, attributes, turn, accepts, last)
+        }
+        Tree::Any(filters) => {
+            let turn = Turn {
+                positive,
+                all: !positive,
+            };
+            each_holds_where::<K, F>(filters, attributes, turn, accepts, last)
+        }
+        Tree::Not(filter) => holds_where::<K, F>(filter, attributes, !positive, accepts, last),
+        Tree::Item(item) => item.holds::<K, F>(attributes, positive, accepts, last),
     }
 }
 
 // Whether all filters hold, or some, of them or of their negations.
 #[cycle(holds_where)]
-fn each_holds_where<'a, F: Fn(&Key) -> bool>(
+fn each_holds_where<'a, K: Keeps, F: Fn(&Key) -> bool>(
     filters: &'a Vec<Tree>,
-    positive: bool,
-    all: bool,
-    looked: &mut Looked<'a>,
+    attributes: &'a Attrs,
+    turn: Turn,
     accepts: &F,
+    last: &mut Option<Look<'a>>,
 ) -> bool
     requires callable { F.IsAlwaysCallable accepts.now }
-    requires last { AreLooked F.Fn accepts.now looked.old }
-    ensures holds { (p : List ℕ → Bool) → AcceptsAs F.Fn accepts.now p → result ≡ each_holds_as positive all (kept_attributes looked.old.attributes.now p) (filters_in filters.now.items) }
-    ensures last { AreLooked F.Fn accepts.now looked.new }
-    ensures same { looked.new.attributes ≡ looked.old.attributes }
+    requires last { IsLast F.Fn accepts.now attributes.now last.old }
+    ensures holds { (p : List ℕ → Bool) → AcceptsAs F.Fn accepts.now p → result ≡ each_holds_as turn.positive turn.all (kept_attributes attributes.now p) (filters_in filters.now.items) }
+    ensures last { IsLast F.Fn accepts.now attributes.now last.new }
 {
     for filter in filters {
-        if holds_where(filter, positive, looked, accepts) != all {
-            return !all;
+        if holds_where::<K, F>(filter, attributes, turn.positive, accepts, last) != turn.all {
+            return !turn.all;
         }
     }
-    all
+    turn.all
 }
