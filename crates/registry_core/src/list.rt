@@ -248,6 +248,26 @@ impl Registry for ListRegistry {
         None
     }
 
+    fn share_by_kind(&self, kind: &ServiceType, from: usize) -> Option<(&Arc<Entry>, usize)> {
+        for at in from..self.entries.len() {
+            let share = &self.entries[at];
+            if kind.covers(&share.kind) {
+                return Some((share, at + 1));
+            }
+        }
+        None
+    }
+
+    fn share_by_url(&self, url: &Url, from: usize) -> Option<(&Arc<Entry>, usize)> {
+        for at in from..self.entries.len() {
+            let share = &self.entries[at];
+            if share.url == *url {
+                return Some((share, at + 1));
+            }
+        }
+        None
+    }
+
     fn live(&self, now: u64) -> usize {
         self.entries.iter().filter(|e| e.deadline > now).count()
     }

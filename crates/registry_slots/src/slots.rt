@@ -171,6 +171,18 @@ impl Slots {
         }
     }
 
+    /// The share of the entry in a slot that has one.
+    #[inline(always)]
+    pub fn share(&self, x: usize) -> &Arc<Entry>
+        requires { (e : Held) × (slot_at self.now.slots x ≡ Some e) }
+        ensures { slot_at self.now.slots x ≡ Some (arc_value result.now) }
+    {
+        match &self.slots[x] {
+            Some(share) => share,
+            None => unreachable!(),
+        }
+    }
+
     /// A slot with no entry.
     pub fn free_slot(&self) -> Option<usize>
         ensures { MatchOption result ((x : ℕ) → x < length self.now.slots → slot_at self.now.slots x ≢ None) (λ x. (x < length self.now.slots) × (slot_at self.now.slots x ≡ None)) }

@@ -321,6 +321,21 @@ impl Registry for TableRegistry {
         }
     }
 
+    fn share_by_kind(&self, kind: &ServiceType, from: usize) -> Option<(&Arc<Entry>, usize)> {
+        let order = self.order(by_for(Some(kind)));
+        match self.next_wanted(None, Some(kind), None, from) {
+            Some(at) => Some((self.slots.share(order.at(at)), at + 1)),
+            None => None,
+        }
+    }
+
+    fn share_by_url(&self, url: &Url, from: usize) -> Option<(&Arc<Entry>, usize)> {
+        match self.next_of_url(url, from) {
+            Some(at) => Some((self.slots.share(self.places.at(at)), at + 1)),
+            None => None,
+        }
+    }
+
     fn live(&self, now: u64) -> usize {
         if self.slots.has_due(now) {
             self.slots.live(now)

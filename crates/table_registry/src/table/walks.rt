@@ -126,7 +126,7 @@ impl TableRegistry {
 
     // The next place in the order for a type of an entry that a walk is for.
     #[inline(never)]
-    fn next_wanted(
+    pub(super) fn next_wanted(
         &self,
         bound: Option<&Url>,
         kind: Option<&ServiceType>,

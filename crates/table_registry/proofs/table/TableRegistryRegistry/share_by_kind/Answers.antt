@@ -1,0 +1,48 @@
+use Rattle.std.proofs.Common.{◌≡◌, ◌<◌, ◌+◌, ◌∷◌, ℕ, List, drop, get_or, length, Some, None, sym, ap, subst, ◌∙◌, arith}
+use Rattle.std.specs.Arc.{arc_value}
+use Rattle.registry_core.specs.declared.entry.Entry.{Entry as Held}
+use Rattle.registry_slots.specs.Slots.{slot_at, tests}
+use Rattle.registry_slots.proofs.Ranks.{held_at, length_most}
+use Rattle.table_registry.specs.Tables.{Table, by_for, order_of, is_wanted}
+use Rattle.table_registry.proofs.Along.{of_kind, gather_here, gather_to, gather_end}
+use Rattle.table_registry.proofs.table.TableRegistryRegistry.share_by_kind.Goals as goal
+
+pub share-requires : goal.share-requires
+share-requires c =
+    let t : Table = c.args.self.now in
+    let L : List ℕ = c.order-order.result.now.items in
+    let O : L ≡ order_of (by_for (Some c.args.kind.now)) t = c.order-order.ensures.items ∙ ap (λ b. order_of b t) c.by_for.ensures in
+    let l : c.in-Some.at < length L = subst (λ (o : List ℕ). c.in-Some.at < length o) (sym O) c.in-Some.ensures.1 in
+    let e = held_at c.by_for.result t.slots L c.order-order.ensures.order c.in-Some.at c.at.result l (sym c.at.ensures.value) in
+    (e.0, ap (λ (t : Table). slot_at t.slots c.at.result) c.self.view_is ∙ e.1)
+
+pub overflow_add-result : goal.overflow_add-result
+overflow_add-result c =
+    let t : Table = c.args.self.now in
+    let L : List ℕ = c.order-order.result.now.items in
+    let O : L ≡ order_of (by_for (Some c.args.kind.now)) t = c.order-order.ensures.items ∙ ap (λ b. order_of b t) c.by_for.ensures in
+    let l : c.in-Some.at < length L = subst (λ (o : List ℕ). c.in-Some.at < length o) (sym O) c.in-Some.ensures.1 in
+    omega (arith, l, length_most c.by_for.result t.slots L c.order-order.ensures.order, c.self.invariant.room, ap (λ (t : Table). length t.slots) c.self.view_is)
+
+pub returns-in-Some-clause-next : goal.returns-in-Some-clause-next
+returns-in-Some-clause-next c =
+    let t : Table = c.args.self.now in
+    let k = Some c.args.kind.now in
+    let L : List ℕ = order_of (by_for k) t in
+    let p = is_wanted None k None in
+    let O : c.order-order.result.now.items ≡ L = c.order-order.ensures.items ∙ ap (λ b. order_of b t) c.by_for.ensures in
+    let f = c.in-Some.ensures in
+    let i : ℕ = c.in-Some.at in
+    let e : Held = arc_value c.share.result.now in
+    let there : slot_at t.slots (get_or L i 0) ≡ Some e = ap (λ (o : List ℕ). slot_at t.slots (get_or o i 0)) (sym O) ∙ ap (slot_at t.slots) (sym c.at.ensures.value) ∙ ap (λ (t : Table). slot_at t.slots c.at.result) (sym c.self.view_is) ∙ c.share.ensures in
+    sym (of_kind k t.slots (drop c.args.from L))
+    ∙ gather_to p t.slots L c.args.from i f.0 (omega (arith, f.1)) f.2
+    ∙ gather_here p t.slots L i e f.1 there (sym (ap (tests p) there) ∙ f.3)
+    ∙ ap (λ es. e ∷ es) (of_kind k t.slots (drop (i + 1) L))
+
+pub returns-in-None-clause-next : goal.returns-in-None-clause-next
+returns-in-None-clause-next c =
+    let t : Table = c.args.self.now in
+    let k = Some c.args.kind.now in
+    let L : List ℕ = order_of (by_for k) t in
+    sym (of_kind k t.slots (drop c.args.from L)) ∙ gather_end (is_wanted None k None) t.slots L c.args.from c.in-None.ensures
