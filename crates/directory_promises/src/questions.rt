@@ -10,14 +10,15 @@ ghost use Rattle.directory_judge.specs.Judgements.{supports};
 ghost use Rattle.directory_questions.specs.Calls.{Opening, standpoint};
 ghost use Rattle.directory_questions.specs.Items.{AreAttributesOf, AreServices, IsAskedAbout, IsElsewhere, IsForeign, IsOpenNow};
 ghost use Rattle.directory_questions.specs.Verdicts.{IsLegal};
-ghost use Rattle.directory_state.specs.Folds.{Fold};
+ghost use Rattle.directory_questions.specs.declared.query.Target.TheVariants.{Kind};
 ghost use Rattle.directory_state.specs.Fronts.{IsFront, items_in, size_in};
+ghost use Rattle.directory_state.specs.Sources.{site_of, IsSourceAt};
 ghost use Rattle.slp_messages.specs.declared.message.UrlEntry.{UrlEntry};
 
 use attr_list::{AttrFault, Attrs};
 use attr_union::AttrUnion;
 use directory_questions::{AttrQuery, Call, QueryFault, ServiceQuery};
-use directory_state::{Directory, FoundItems, Room};
+use directory_state::{Directory, FoundItems, Room, Source};
 use registry_core::Registry;
 use search_filter::{Filter, FilterFault};
 use slp_text::Key;
@@ -31,42 +32,42 @@ pub fn now<R: Registry>(directory: &Directory<R>, moment: u32) -> u32
     told
 }
 
-/// The URLs that answer a question of who calls, from the front as many as there is room for.
+/// The URLs that answer a question of who calls, from the front as many as there is room for: of a directory, or of what was gathered.
 pub fn find<'a, R: Registry>(
     alloc: Global,
-    directory: &'a Directory<R>,
+    source: &Source<'a, R>,
     call: &Call<'_>,
     query: &ServiceQuery,
     room: Room,
 ) -> Result<FoundItems<'a>, QueryFault>
     requires small { room.bytes ≤ 65535 }
     requires small_each { room.each ≤ 65535 }
-    ensures scope { IsErrOf result QueryFault.Scope ↔ (list_any (supports directory.now.site) query.now.scopes ≡ false) }
-    ensures language { (o : Opening) (h : History) → Fold o h directory.now → IsLegal o h
+    ensures scope { IsErrOf result QueryFault.Scope ↔ (list_any (supports (site_of source.now)) query.now.scopes ≡ false) }
+    ensures language { (o : Opening) (h : History) → IsSourceAt o h (Kind query.now.kind) source.now → IsLegal o h
         → (IsErrOf result QueryFault.Language → IsForeign (IsOpenNow (standpoint o h call.now.moment call.now.asker) query.now.scopes) query.now) × IfOk result (λ _. ¬ IsForeign (IsOpenNow (standpoint o h call.now.moment call.now.asker) query.now.scopes) query.now) }
-    ensures items { (o : Opening) (h : History) → Fold o h directory.now → IsLegal o h
+    ensures items { (o : Opening) (h : History) → IsSourceAt o h (Kind query.now.kind) source.now → IsLegal o h
         → IfOk result (λ found. (all : List UrlEntry) × AreServices (standpoint o h call.now.moment call.now.asker) query.now all × IsFront room all (items_in found) found.is_cut) }
     ensures fits { IfOk result (λ found. size_in room (items_in found) ≤ room.bytes) }
 {
-    let told = directory.find(alloc, call.moment, call.asker, query, room);
+    let told = source.find(alloc, call.moment, call.asker, query, room);
     told
 }
 
 /// What the tags of a question select of the attributes that are shown to who calls.
 pub fn find_attributes<'a, R: Registry>(
     alloc: Global,
-    directory: &'a Directory<R>,
+    source: &Source<'a, R>,
     call: &Call<'_>,
     query: &AttrQuery,
 ) -> Result<AttrUnion<'a>, QueryFault>
-    ensures scope { IsErrOf result QueryFault.Scope ↔ (list_any (supports directory.now.site) query.now.scopes ≡ false) }
-    ensures language { (o : Opening) (h : History) → Fold o h directory.now → IsLegal o h
+    ensures scope { IsErrOf result QueryFault.Scope ↔ (list_any (supports (site_of source.now)) query.now.scopes ≡ false) }
+    ensures language { (o : Opening) (h : History) → IsSourceAt o h query.now.target source.now → IsLegal o h
         → (IsErrOf result QueryFault.Language → IsElsewhere (IsAskedAbout (IsOpenNow (standpoint o h call.now.moment call.now.asker) query.now.scopes) query.now) query.now.language)
         × IfOk result (λ _. ¬ IsElsewhere (IsAskedAbout (IsOpenNow (standpoint o h call.now.moment call.now.asker) query.now.scopes) query.now) query.now.language) }
-    ensures joined { (o : Opening) (h : History) → Fold o h directory.now → IsLegal o h
+    ensures joined { (o : Opening) (h : History) → IsSourceAt o h query.now.target source.now → IsLegal o h
         → IfOk result (λ a. AreAttributesOf (standpoint o h call.now.moment call.now.asker) query.now a) }
 {
-    let told = directory.find_attributes(alloc, call.moment, call.asker, query);
+    let told = source.find_attributes(alloc, call.moment, call.asker, query);
     told
 }
 

@@ -24,5 +24,6 @@ pub mod SearchAnswers
 pub mod SeenUrls
 pub mod Shortlists
 pub mod ShownEntries
+pub mod Sources
 pub mod States
 pub mod TypeFronts

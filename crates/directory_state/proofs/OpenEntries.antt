@@ -162,6 +162,9 @@ module _ (p : Entry → Bool) (live : Entries) (es : List Entry) (l : IsListing 
       let held : (x : Entry) → Contains (filter seen es) x → fin.get live (pair_of x) ≡ Some x = λ x in'. (listed-held x (from-filter seen es x in')).0 in
       same_Some e f (sym (held e has) ∙ ap (fin.get live) same ∙ held f other)
 
+  pub listed-once : HasOneOfEachPair es
+  listed-once e f has other same = same_Some e f (sym (listed-held e has).0 ∙ ap (fin.get live) same ∙ (listed-held f other).0)
+
 -- ---- what is mapped
 
 none_within : {A : Type 0} (x : A) → Contains [] x → ⊥

@@ -6,6 +6,7 @@ pub mod Foundings
 pub mod Fronts
 pub mod Reloads
 pub mod Searches
+pub mod Sources
 pub mod State
 pub mod TypeRooms
 pub mod Viewers

@@ -11,6 +11,7 @@ ghost use Rattle.directory_state.specs.Searches.{entries_lent};
 
 use crate::arranging::describe;
 use crate::directory::Directory;
+use crate::source::Source;
 use addresses::Addr;
 use attr_list::Attrs;
 use directory_judge::{Judged, change_view};
@@ -52,7 +53,8 @@ impl<R: Registry> Directory<R> {
         ensures items { (o : Opening) (h : History) → Fold o h self.now → IsLegal o h
             → IfOk result (λ items. AreServices (standpoint o h moment asker) query.now items.items) }
     {
-        let kept = self.search(alloc, moment, asker, query, None)?;
+        let source = Source::Whole(self);
+        let kept = source.search(alloc, moment, asker, query, None)?;
         kept.into_items(alloc, u64::from(self.now(moment)))
     }
 
@@ -71,7 +73,7 @@ impl<R: Registry> Directory<R> {
         ensures joined { (o : Opening) (h : History) → Fold o h self.now → IsLegal o h
             → IfOk result (λ a. AreAttributesOf (standpoint o h moment asker) query.now a) }
     {
-        let found = self.find_about(alloc, moment, asker, query)?;
+        let found = Source::Whole(self).find_about(alloc, moment, asker, query)?;
         describe(alloc, found, query)
     }
 

@@ -1,4 +1,4 @@
-ghost use Rattle.std.specs.Prelude.{◌≡◌, ◌∷◌, [], max, map, ℕ, List, IfOk, IfNone, IfSome, IsErrOf, IsTrue, ◌≤◌, ◌↔◌, false};
+ghost use Rattle.std.specs.Prelude.{◌≡◌, ◌∷◌, [], max, map, ℕ, List, IfOk, IfNone, IfSome, IsErrOf, IsTrue, ◌↔◌, false};
 ghost use Rattle.std.specs.List.{list_any};
 ghost use Rattle.std.specs.Arc.{arc_value};
 ghost use Rattle.std.specs.FinMap as fin;
@@ -7,43 +7,41 @@ ghost use Rattle.directory_judge.specs.History.{History, Event};
 ghost use Rattle.directory_judge.specs.Judgements.{Judgement, judgement_in, supports};
 ghost use Rattle.directory_judge.specs.Contents.{content, Reloads, Sweeps};
 ghost use Rattle.directory_questions.specs.Calls.{Opening, standpoint};
-ghost use Rattle.registry_core.specs.declared.entry.Entry as spec;
-ghost use Rattle.directory_questions.specs.Items.{AreAttributesOf, AreServices, AreTypesOf, IsAskedAbout, IsElsewhere, IsForeign, IsOpenNow};
+ghost use Rattle.directory_questions.specs.Items.{is_target, AreTypesOf};
+ghost use Rattle.directory_questions.specs.declared.query.Target.{Target as Spec};
+ghost use Rattle.directory_questions.specs.declared.query.Target.TheVariants.{Kind};
+ghost use Rattle.registry_core.specs.Entries.{IsListing};
 ghost use Rattle.directory_state.specs.Viewers.{IsViewerOf};
-ghost use Rattle.directory_state.specs.Searches.{entries_in, entries_lent, entries_seen, AreSeenBy, HasOneOfEachPair, IsIn};
-ghost use Rattle.directory_state.specs.Fronts.{IsFront, items_in, size_in};
+ghost use Rattle.directory_state.specs.Sources.{IsGathered};
+ghost use Rattle.directory_state.specs.Searches.{entries_lent, HasOneOfEachPair};
 ghost use Rattle.directory_state.specs.TypeRooms.{IsTypesFront};
 ghost use Rattle.directory_state.specs.Folds.{Fold, StandsFor};
 ghost use Rattle.directory_state.specs.State.{State, opening_state, state_changed, state_made, swept};
 ghost use Rattle.directory_questions.specs.Verdicts.{IsLegal, IsVerdict};
 ghost use Rattle.directory_state.specs.Folds.{IsJudgedAs};
 
-use crate::arranging::{by_type, lend};
+use crate::arranging::by_type;
 use crate::asked::{Asked, Viewer};
-use crate::search::{FoundItems, Room};
-use crate::viewer::SeenEntries;
+use crate::gathered::Gathered;
+use crate::gathering::{shares_of_kind, shares_of_url};
 use access_rules::Rules;
 use addresses::Addr;
-use attr_union::AttrUnion;
 use directory_judge::{Change, Decision, Grounds, Site};
-use directory_questions::{AttrQuery, QueryFault, ServiceQuery, TypeQuery};
+use directory_questions::{QueryFault, Target, TypeQuery};
 use registry_core::{Entry, Registry};
-use slp_messages::{ChangeView, UrlEntry};
+use service_url::ServiceType;
+use slp_messages::ChangeView;
 use slp_scopes::ScopeList;
 use slp_text::NoMemory;
 use std::alloc::Global;
 use std::marker::Model;
 use std::sync::Arc;
 
-/// So many rules, each once for each scope, are asked again for every entry: that takes no longer than to see whether the entry is as the
-/// last one was.
-const FEW_LOOKS: usize = 16;
-
 /// A registry with its rules, its site and its clock: the greatest moment of all changes, in seconds.
 pub struct Directory<R: Registry> {
     registry: R,
     rules: Arc<Rules>,
-    site: Site,
+    site: Arc<Site>,
     clock: u32,
 }
 
@@ -67,9 +65,9 @@ impl<R: Registry> Model for Directory<R> {
 
     ghost coded = { state_code };
 
-    ghost view = { λ d. record { entries = R.contents d.registry; rules = arc_value d.rules; site = d.site; clock = d.clock } };
+    ghost view = { λ d. record { entries = R.contents d.registry; rules = arc_value d.rules; site = arc_value d.site; clock = d.clock } };
 
-    ghost invariant = { λ d. R.limit d.registry ≡ d.site.capacity };
+    ghost invariant = { λ d. R.limit d.registry ≡ (arc_value d.site).capacity };
 }
 
 impl<R: Registry + Drop> Directory<R> {
@@ -85,7 +83,7 @@ impl<R: Registry + Drop> Directory<R> {
         ensures state { IfOk result (λ d. d ≡ opening_state (record { rules = arc_value rules; site = site.now })) }
         ensures fold { IfOk result (λ d. Fold (record { rules = arc_value rules; site = site.now }) [] d) }
     {
-        let site = site.copy(alloc)?;
+        let site = Arc::new(alloc, site.copy(alloc)?)?;
         Ok(Directory {
             registry,
             rules,
@@ -219,88 +217,43 @@ impl<R: Registry> Directory<R> {
         ensures some { IfSome result (λ _. IsTrue (list_any (supports self.now.site) scopes.now)) }
         ensures viewer { IfSome result (λ v. IsViewerOf self.now moment asker scopes.now v) }
     {
-        let asked = Asked::of(&self.site, scopes);
-        if asked.is_empty() {
-            return None;
+        Viewer::of(&self.rules, &self.site, self.now(moment), asker, scopes)
+    }
+
+    /// Gathers what a question is about a type.
+    pub fn gather_kind(&self, alloc: Global, kind: &ServiceType) -> Result<Gathered, NoMemory>
+        ensures { IfOk result (IsGathered (Kind kind.now) self.now) }
+    {
+        let entries = shares_of_kind(alloc, &self.registry, kind)?;
+        self.gathered(entries)
+    }
+
+    /// Gathers what a question is about.
+    pub fn gather_about(&self, alloc: Global, target: &Target) -> Result<Gathered, NoMemory>
+        ensures { IfOk result (IsGathered target.now self.now) }
+    {
+        match target {
+            Target::Kind(kind) => self.gather_kind(alloc, kind),
+            Target::Place(url) => {
+                let entries = shares_of_url(alloc, &self.registry, url)?;
+                self.gathered(entries)
+            }
         }
-        let about = self.rules.about(asker);
-        let asks_much = about.len().saturating_mul(asked.len()) > FEW_LOOKS;
-        Some(Viewer {
-            asker,
-            moment: u64::from(self.now(moment)),
-            rules: &self.rules,
-            about,
-            asked,
-            asks_much,
+    }
+
+    // These entries with what decides on them.
+    fn gathered(&self, entries: Vec<Arc<Entry>>) -> Result<Gathered, NoMemory>
+        requires { HasOneOfEachPair (map arc_value entries.items) }
+        ensures { (t : Spec) → IsListing (is_target t) self.now.entries (map arc_value entries.items) → IfOk result (IsGathered t self.now) }
+    {
+        let rules = Arc::try_clone(&self.rules)?;
+        let site = Arc::try_clone(&self.site)?;
+        Ok(Gathered {
+            entries,
+            rules,
+            site,
+            clock: self.clock,
         })
-    }
-
-    /// The URLs of the live entries that are open to the asker and match the question, in byte order,
-    /// each once and with the greatest remaining lifetime in seconds (RFC 2608, section 8.2): lent where they lie, from the
-    /// front as many as there is room for. With a filter they are those in the language of the question on which it holds;
-    /// where something matches, but nothing in that language, the answer is `Language`.
-    pub fn find(
-        &self,
-        alloc: Global,
-        moment: u32,
-        asker: Addr,
-        query: &ServiceQuery,
-        room: Room,
-    ) -> Result<FoundItems<'_>, QueryFault>
-        requires small { room.bytes ≤ 65535 }
-        requires small_each { room.each ≤ 65535 }
-        ensures scope { IsErrOf result QueryFault.Scope ↔ (list_any (supports self.now.site) query.now.scopes ≡ false) }
-        ensures language { (o : Opening) (h : History) → Fold o h self.now → IsLegal o h
-            → (IsErrOf result QueryFault.Language → IsForeign (IsOpenNow (standpoint o h moment asker) query.now.scopes) query.now) × IfOk result (λ _. ¬ IsForeign (IsOpenNow (standpoint o h moment asker) query.now.scopes) query.now) }
-        ensures items { (o : Opening) (h : History) → Fold o h self.now → IsLegal o h
-            → IfOk result (λ found. (all : List UrlEntry) × AreServices (standpoint o h moment asker) query.now all × IsFront room all (items_in found) found.is_cut) }
-        ensures fits { IfOk result (λ found. size_in room (items_in found) ≤ room.bytes) }
-    {
-        let kept = self.search(alloc, moment, asker, query, Some(room))?;
-        Ok(kept.fitting(u64::from(self.now(moment))))
-    }
-
-    /// What is open to the asker of what a question is about.
-    pub(crate) fn find_about(
-        &self,
-        alloc: Global,
-        moment: u32,
-        asker: Addr,
-        query: &AttrQuery,
-    ) -> Result<SeenEntries<'_>, QueryFault>
-        ensures scope { IsErrOf result QueryFault.Scope ↔ (list_any (supports self.now.site) query.now.scopes ≡ false) }
-        ensures spoken { IsErrOf result QueryFault.Language → ⊥ }
-        ensures once { IfOk result (λ f. HasOneOfEachPair (entries_in f.entries.items)) }
-        ensures seen { IfOk result (λ f. AreSeenBy f.viewer f.entries.items) }
-        ensures found { (o : Opening) (h : History) → Fold o h self.now
-            → IfOk result (λ f. (e : spec.Entry) → IsIn (entries_seen f) e ↔ IsAskedAbout (IsOpenNow (standpoint o h moment asker) query.now.scopes) query.now e) }
-    {
-        let Some(viewer) = self.viewer(moment, asker, &query.scopes) else {
-            return Err(QueryFault::Scope);
-        };
-        let entries = viewer.gather_about(alloc, &self.registry, &query.target)?;
-        Ok(SeenEntries { viewer, entries })
-    }
-
-    /// What the tags of a question select of the attributes of the live entries that are open to the asker,
-    /// match it and are in its language, joined in the byte order of their URLs (RFC 2608, section 10.4): lent where it
-    /// lies. Where something matches, but nothing in that language, the answer is `Language`.
-    pub fn find_attributes(
-        &self,
-        alloc: Global,
-        moment: u32,
-        asker: Addr,
-        query: &AttrQuery,
-    ) -> Result<AttrUnion<'_>, QueryFault>
-        ensures scope { IsErrOf result QueryFault.Scope ↔ (list_any (supports self.now.site) query.now.scopes ≡ false) }
-        ensures language { (o : Opening) (h : History) → Fold o h self.now → IsLegal o h
-            → (IsErrOf result QueryFault.Language → IsElsewhere (IsAskedAbout (IsOpenNow (standpoint o h moment asker) query.now.scopes) query.now) query.now.language)
-            × IfOk result (λ _. ¬ IsElsewhere (IsAskedAbout (IsOpenNow (standpoint o h moment asker) query.now.scopes) query.now) query.now.language) }
-        ensures joined { (o : Opening) (h : History) → Fold o h self.now → IsLegal o h
-            → IfOk result (λ a. AreAttributesOf (standpoint o h moment asker) query.now a) }
-    {
-        let found = self.find_about(alloc, moment, asker, query)?;
-        lend(alloc, found, query)
     }
 
     /// The types of the live entries, of every language, that are open to the asker and of the naming

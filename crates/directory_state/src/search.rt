@@ -1,11 +1,14 @@
-ghost use Rattle.std.specs.Prelude.{◌≡◌, ◌+◌, ◌-◌, ◌<◌, ◌↔◌, [], ◌∷◌, ℕ, List, false, max, length, map, filter, take, IfOk, IfErr, IsErrOf, IfSome, IfNone, MatchOption, IsTrue, Some};
+ghost use Rattle.std.specs.Prelude.{◌≡◌, ◌≢◌, Bool, ◌+◌, ◌-◌, ◌<◌, ◌↔◌, [], ◌∷◌, ℕ, List, false, max, length, map, filter, take, IfOk, IfErr, IsErrOf, IfSome, IfNone, MatchOption, IsTrue, Some};
+ghost use Rattle.std.specs.Arc.{arc_value};
 ghost use Rattle.std.specs.List.{list_any};
+ghost use Rattle.registry_core.specs.declared.entry.Entry.{Entry as Entries};
 ghost use Rattle.registry_core.specs.Entries.{is_kind, IsListing};
 ghost use Rattle.directory_judge.specs.History.{History};
 ghost use Rattle.directory_judge.specs.Judgements.{supports};
 ghost use Rattle.directory_questions.specs.Calls.{Opening, standpoint};
 ghost use Rattle.directory_questions.specs.Verdicts.{IsLegal};
-ghost use Rattle.directory_state.specs.Folds.{Fold};
+ghost use Rattle.directory_questions.specs.declared.query.Target.TheVariants.{Kind};
+ghost use Rattle.directory_state.specs.Sources.{clock_of, site_of, AreEntriesOf, IsSourceAt};
 ghost use Rattle.directory_state.specs.Deadlines.{UrlDeadline, with_deadline, total_cost};
 ghost use Rattle.directory_state.specs.Searches.{deadlines_with, is_found, is_seen, joined, spoken_of, item_at, cost_in, bytes_in, cut_in, seen_of, shortlist_with, IsBound, IsCounted, IsFirst, IsLook, IsSmall, IsKept};
 ghost use Rattle.directory_questions.specs.Items.{is_wanted, AreServices, IsForeign, IsOpenNow};
@@ -13,7 +16,7 @@ ghost use Rattle.directory_state.specs.Fronts.{IsFront, items_in};
 
 use crate::asked::Viewer;
 use crate::deadlines::Deadlines;
-use crate::directory::Directory;
+use crate::source::Source;
 use crate::viewer::{Look, Seen};
 use addresses::Addr;
 use directory_questions::{QueryFault, ServiceQuery};
@@ -22,6 +25,7 @@ use service_url::Url;
 use slp_messages::UrlEntry;
 use slp_text::{NoMemory, Text};
 use std::alloc::Global;
+use std::sync::Arc;
 
 /// How many bytes there are for what is found, and how many each item takes beside its URL.
 #[derive(Clone, Copy, Debug)]
@@ -77,6 +81,7 @@ pub enum Spoken {
 
 impl Spoken {
     // With one more entry that is seen.
+    #[inline(always)]
     fn with_entry(self, query: &ServiceQuery, entry: &Entry) -> Spoken
         ensures { result ≡ joined self (spoken_of query.now (entry.now ∷ [])) }
     {
@@ -103,6 +108,7 @@ pub struct Shortlist<'a> {
 }
 
 // The bytes that an item of this URL takes. They are counted where there is a bound.
+#[inline(always)]
 fn cost(room: Option<Room>, url: &Url) -> usize
     requires { IsSmall room }
     ensures { result ≡ cost_in room url.now }
@@ -115,6 +121,7 @@ fn cost(room: Option<Room>, url: &Url) -> usize
 
 impl<'a> Shortlist<'a> {
     // Whether this many bytes are more than there are.
+    #[inline(always)]
     fn is_over(&self, used: usize) -> bool
         ensures { IsTrue result ↔ (bytes_in self.now.room < used) }
     {
@@ -125,6 +132,7 @@ impl<'a> Shortlist<'a> {
     }
 
     // A URL joins what is kept.
+    #[inline(always)]
     fn put(&mut self, url: &'a Url, deadline: u64) -> Result<(), NoMemory>
         requires counted { IsCounted self.old }
         requires small { IsSmall self.old.room }
@@ -142,6 +150,7 @@ impl<'a> Shortlist<'a> {
     }
 
     // The bytes that all but the last take.
+    #[inline(always)]
     fn used_before_last(&self) -> Option<usize>
         requires counted { IsCounted self.now }
         requires small { IsSmall self.now.room }
@@ -153,6 +162,7 @@ impl<'a> Shortlist<'a> {
     }
 
     // Drops what comes after the first for which there is no room.
+    #[inline(always)]
     fn shrink(&mut self)
         requires counted { IsCounted self.old }
         requires small { IsSmall self.old.room }
@@ -171,6 +181,7 @@ impl<'a> Shortlist<'a> {
 
     // An entry is looked at, once for all scopes. The rules are asked where it may be kept. What was seen before,
     // by its language, is counted while nothing is kept.
+    #[inline(always)]
     fn look(
         &mut self,
         entry: &'a Entry,
@@ -207,6 +218,17 @@ impl<'a> Shortlist<'a> {
         }
         let bound = self.latest.last()?;
         Some(bound)
+    }
+
+    // Whether an entry is not kept, whatever it is: its URL comes after all for which there is room.
+    fn is_past(&self, entry: &Entry) -> bool
+        requires { IsKept self.now }
+        ensures { IsTrue result → (self.now.latest ≢ []) × ((p : Entries → Bool) → cut_in self.now.room (deadlines_with (filter p (entry.now ∷ [])) self.now.latest) ≡ self.now.latest) }
+    {
+        match self.bound() {
+            Some(bound) => !(entry.url <= *bound),
+            None => false,
+        }
     }
 
     // The next entry of the type that may be kept, with the number to go on from.
@@ -258,6 +280,51 @@ impl<'a> Shortlist<'a> {
         Ok(spoken)
     }
 
+    // The same among entries that were gathered.
+    #[inline(never)]
+    fn collect_shares(
+        &mut self,
+        shares: &'a [Arc<Entry>],
+        question: &Search<'_>,
+    ) -> Result<Spoken, NoMemory>
+        requires { IsKept self.old }
+        ensures room { self.new.room ≡ self.old.room }
+        ensures kept { IfOk result (λ _. IsKept self.new) }
+        ensures found { IfOk result (λ _. self.new.latest ≡ cut_in self.old.room (deadlines_with (filter (is_found question.now) (map arc_value shares.now)) self.old.latest)) }
+        ensures spoken { IfOk result (λ s. self.new.latest ≡ [] → s ≡ spoken_of question.now.query.now (filter (is_seen question.now.viewer) (map arc_value shares.now))) }
+    {
+        let mut spoken = Spoken::Nothing;
+        let mut last = None;
+        for share in shares {
+            let entry: &Entry = share;
+            if self.is_past(entry) {
+                continue;
+            }
+            spoken = self.look(entry, question, spoken, &mut last)?;
+        }
+        Ok(spoken)
+    }
+
+    // The same of what the question is answered from.
+    #[inline(always)]
+    fn collect_from<R: Registry>(
+        &mut self,
+        source: &Source<'a, R>,
+        question: &Search<'_>,
+    ) -> Result<Spoken, NoMemory>
+        requires { IsKept self.old }
+        ensures room { self.new.room ≡ self.old.room }
+        ensures kept { IfOk result (λ _. IsKept self.new) }
+        ensures found { IfOk result (λ s. (all : List Entries) × AreEntriesOf (Kind question.now.query.now.kind) source.now all
+            × (self.new.latest ≡ cut_in self.old.room (deadlines_with (filter (is_found question.now) all) self.old.latest))
+            × (self.new.latest ≡ [] → s ≡ spoken_of question.now.query.now (filter (is_seen question.now.viewer) all))) }
+    {
+        match source {
+            Source::Whole(directory) => self.collect(directory.registry(), question),
+            Source::Part(gathered) => self.collect_shares(&gathered.entries, question),
+        }
+    }
+
     /// All that is kept, in byte order, with what is left of the lifetimes in seconds.
     pub fn into_items(self, alloc: Global, now: u64) -> Result<Vec<UrlEntry>, QueryFault>
         ensures items { IfOk result (λ items. items.items ≡ map (item_at now) self.entry.latest) }
@@ -286,8 +353,9 @@ impl<'a> Shortlist<'a> {
     }
 }
 
-impl<R: Registry> Directory<R> {
+impl<'a, R: Registry> Source<'a, R> {
     /// Finds what answers a question, and keeps of it what there is room for.
+    #[inline(always)]
     pub(crate) fn search(
         &self,
         alloc: Global,
@@ -295,14 +363,14 @@ impl<R: Registry> Directory<R> {
         asker: Addr,
         query: &ServiceQuery,
         room: Option<Room>,
-    ) -> Result<Shortlist<'_>, QueryFault>
+    ) -> Result<Shortlist<'a>, QueryFault>
         requires { IsSmall room }
-        ensures scope { IsErrOf result QueryFault.Scope ↔ (list_any (supports self.now.site) query.now.scopes ≡ false) }
-        ensures language { (o : Opening) (h : History) → Fold o h self.now → IsLegal o h
+        ensures scope { IsErrOf result QueryFault.Scope ↔ (list_any (supports (site_of self.now)) query.now.scopes ≡ false) }
+        ensures language { (o : Opening) (h : History) → IsSourceAt o h (Kind query.now.kind) self.now → IsLegal o h
             → (IsErrOf result QueryFault.Language → IsForeign (IsOpenNow (standpoint o h moment asker) query.now.scopes) query.now) × IfOk result (λ _. ¬ IsForeign (IsOpenNow (standpoint o h moment asker) query.now.scopes) query.now) }
         ensures kept { IfOk result (λ kept. IsKept kept × (kept.room ≡ room)) }
-        ensures items { (o : Opening) (h : History) → Fold o h self.now → IsLegal o h
-            → IfOk result (λ kept. (all : List UrlDeadline) × AreServices (standpoint o h moment asker) query.now (map (item_at (max moment self.now.clock)) all) × (kept.latest ≡ cut_in room all)) }
+        ensures items { (o : Opening) (h : History) → IsSourceAt o h (Kind query.now.kind) self.now → IsLegal o h
+            → IfOk result (λ kept. (all : List UrlDeadline) × AreServices (standpoint o h moment asker) query.now (map (item_at (max moment (clock_of self.now))) all) × (kept.latest ≡ cut_in room all)) }
     {
         let Some(viewer) = self.viewer(moment, asker, &query.scopes) else {
             return Err(QueryFault::Scope);
@@ -313,7 +381,7 @@ impl<R: Registry> Directory<R> {
             used: 0,
             room,
         };
-        let spoken = kept.collect(self.registry(), &question)?;
+        let spoken = kept.collect_from(self, &question)?;
         if query.filter.is_some() && kept.latest.is_empty() && matches!(spoken, Spoken::Others) {
             return Err(QueryFault::Language);
         }

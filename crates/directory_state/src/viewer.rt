@@ -1,6 +1,7 @@
 //! What is open to who asks.
 ghost use Rattle.std.specs.declared.cmp.Ordering.TheVariants.{Equal, Less};
-ghost use Rattle.std.specs.Prelude.{◌≡◌, ◌≤◌, ◌∷◌, [], ◌++◌, false, filter, length, IfOk, Contains, IfSome, IsTrue, MatchOption, None, Some};
+ghost use Rattle.std.specs.Prelude.{◌≡◌, ◌≤◌, ◌∷◌, [], ◌++◌, false, filter, length, map, IfOk, Contains, IfSome, IsTrue, MatchOption, None, Some};
+ghost use Rattle.std.specs.Arc.{arc_value};
 ghost use Rattle.access_rules.specs.Deciding.{deed, deed_in};
 ghost use Rattle.access_rules.specs.declared.rule.Action.TheVariants.{See};
 ghost use Rattle.registry_core.specs.declared.entry.Entry as spec;
@@ -17,6 +18,7 @@ use service_url::ServiceType;
 use slp_text::{Key, NoMemory};
 use std::alloc::Global;
 use std::cmp::Ordering;
+use std::sync::Arc;
 
 /// An entry that is seen, and the place of the first scope in which it is open, of those that are asked for.
 #[derive(Clone, Copy)]
@@ -242,6 +244,26 @@ impl Viewer<'_> {
                 found.push(Seen { entry, first })?;
             }
             from = next;
+        }
+        Ok(found)
+    }
+
+    /// What is open of entries that were gathered.
+    pub fn gather_shares<'a>(
+        &self,
+        alloc: Global,
+        shares: &'a [Arc<Entry>],
+    ) -> Result<Vec<Seen<'a>>, NoMemory>
+        ensures found { IfOk result (λ v. entries_in v.items ≡ filter (is_seen self.now) (map arc_value shares.now)) }
+        ensures seen { IfOk result (λ v. AreSeenBy self.now v.items) }
+    {
+        let mut found = Vec::new(alloc);
+        let mut last = None;
+        for share in shares {
+            let entry: &Entry = share;
+            if let Some(first) = self.sees(entry, &mut last) {
+                found.push(Seen { entry, first })?;
+            }
         }
         Ok(found)
     }
