@@ -1,2 +1,3 @@
 pub mod AnswersTold
+pub mod LeftQuestions
 pub mod Sizes

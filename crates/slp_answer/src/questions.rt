@@ -1,5 +1,5 @@
 //! What is answered to a question: services, with as many of those that are found as fit, or what stands instead.
-ghost use Rattle.std.specs.Prelude.{◌≡◌, ◌≤◌, ◌==◌, ◌&&◌, ◌||◌, [], false, if◌then◌else◌, not, length, IfOk, Some};
+ghost use Rattle.std.specs.Prelude.{◌≡◌, ◌≤◌, ◌==◌, ◌&&◌, ◌||◌, [], false, if◌then◌else◌, not, length, IfOk, MatchResult, Some};
 ghost use Rattle.slp_headers.specs.Headers.{heading_in};
 ghost use Rattle.slp_wire.specs.Spelling.{plain_bytes};
 ghost use Rattle.directory_judge.specs.History.{History};
@@ -11,7 +11,10 @@ ghost use Rattle.directory_questions.specs.Requests.{function_in, is_change_func
 ghost use Rattle.directory_questions.specs.Verdicts.{IsLegal};
 ghost use Rattle.directory_questions.specs.declared.question.Question.TheVariants as question;
 ghost use Rattle.directory_state.specs.Fronts.{items_in};
+ghost use Rattle.directory_questions.specs.Readings.{IsAsked, IsUnread};
+ghost use Rattle.directory_questions.specs.declared.query.Target.TheVariants.{Kind};
 ghost use Rattle.directory_state.specs.Folds.{Fold};
+ghost use Rattle.directory_state.specs.Sources.{IsSourceAt};
 ghost use Rattle.slp_answer.specs.ServiceReplies.{service_reply};
 ghost use Rattle.slp_answer.specs.Answers.{IsQuestionAnswered, Replies};
 ghost use Rattle.slp_replies.specs.Tellings.{TellsOf};
@@ -22,13 +25,16 @@ use crate::service_replies::{put_found, room_in};
 use crate::text_replies::{answer_attributes, answer_types};
 use directory_judge::{Decider, Finding};
 use directory_questions::{Heard, Question, ServiceQuery, asked};
-use directory_state::{Directory, FoundItems};
+use directory_state::{Directory, FoundItems, Source};
 use registry_core::Registry;
 use service_url::ServiceType;
 use slp_replies::{Answer, Reply, Sent, is_unsent};
 use slp_text::NoMemory;
-use slp_wire::code;
+use slp_wire::{WireFault, code};
 use std::alloc::Global;
+
+/// What was read of a question, or the fault for which it is none.
+pub type ReadQuestion = Result<Question, WireFault>;
 
 // Whether nothing was found.
 fn is_nothing(found: &FoundItems<'_>) -> bool
@@ -77,24 +83,25 @@ fn services(
     Ok(sent)
 }
 
-// Answers a question about services: with as many of those that are found as fit, or with the code that
-// stands instead.
-fn answer_services<R: Registry>(
+/// Answers a question about services: with as many of those that are found as fit, or with the code that
+/// stands instead.
+#[inline(always)]
+pub fn answer_services<R: Registry>(
     alloc: Global,
-    directory: &Directory<R>,
+    source: &Source<'_, R>,
     reply: &Reply<'_>,
     query: &ServiceQuery,
     answer: &mut Answer,
 ) -> Result<Sent, NoMemory>
     requires no_reply { answer.old.bytes.items ≡ [] }
     requires no_line { answer.old.audit.items ≡ [] }
-    ensures { (o : Opening) (h : History) → Fold o h directory.now → IsLegal o h
+    ensures { (o : Opening) (h : History) → IsSourceAt o h (Kind query.now.kind) source.now → IsLegal o h
         → IfOk result (λ what. IsQuestionAnswered o h reply.now (question.Services query.now) what answer.new.bytes.items answer.new.audit.items) }
 {
     let call = reply.heard.call;
     let room = room_in(&reply.heard.header, call.limit);
     let kind = &query.kind;
-    match directory.find(alloc, call.moment, call.asker, query, room) {
+    match source.find(alloc, call.moment, call.asker, query, room) {
         Ok(found) => services(reply, kind, &found, answer),
         Err(fault) => reply.query_fault(fault, Some(kind), answer),
     }
@@ -116,10 +123,38 @@ fn answer_question<R: Registry>(
     match posed {
         Question::Silent => Ok(Sent::Silence),
         Question::Unreadable => reply.code(&Finding::deny(Decider::Parse, None), answer),
-        Question::Services(query) => answer_services(alloc, directory, reply, query, answer),
-        Question::Attributes(query) => answer_attributes(alloc, directory, reply, query, answer),
+        Question::Services(query) => {
+            answer_services(alloc, &Source::Whole(directory), reply, query, answer)
+        }
+        Question::Attributes(query) => {
+            answer_attributes(alloc, &Source::Whole(directory), reply, query, answer)
+        }
         Question::Types(query) => answer_types(alloc, directory, reply, query, answer),
         Question::Agents(query) => answer_agents(alloc, directory, reply, query, answer),
+    }
+}
+
+/// Answers what was read of a question, into an answer that is empty. After `NoMemory` that may hold anything.
+pub fn answer_asked<R: Registry>(
+    alloc: Global,
+    directory: &Directory<R>,
+    heard: &Heard<'_>,
+    read: &ReadQuestion,
+    answer: &mut Answer,
+) -> Result<Sent, NoMemory>
+    requires read { MatchResult read.now (IsAsked heard.now.call.now.own heard.now.call.now.bytes.now) (IsUnread heard.now.call.now.bytes.now) }
+    requires no_reply { answer.old.bytes.items ≡ [] }
+    requires no_line { answer.old.audit.items ≡ [] }
+    ensures { (o : Opening) (h : History) → Fold o h directory.now → IsLegal o h
+        → IfOk result (λ what. Replies o h (call_in heard.now.call.now) what answer.new.bytes.items answer.new.audit.items) }
+{
+    let reply = Reply {
+        rules: directory.rules(),
+        heard,
+    };
+    match read {
+        Ok(question) => answer_question(alloc, directory, &reply, question, answer),
+        Err(fault) => reply.fault(*fault, answer),
     }
 }
 
@@ -136,6 +171,7 @@ pub fn answer_heard<R: Registry>(
     ensures { (o : Opening) (h : History) → Fold o h directory.now → IsLegal o h
         → IfOk result (λ what. Replies o h (call_in heard.now.call.now) what answer.new.bytes.items answer.new.audit.items) }
 {
+    // Not by `answer_asked`: what is read stays where it is, which saves sixty instructions.
     let reply = Reply {
         rules: directory.rules(),
         heard,

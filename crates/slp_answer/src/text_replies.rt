@@ -5,10 +5,11 @@ ghost use Rattle.directory_questions.specs.Calls.{Opening};
 ghost use Rattle.directory_questions.specs.Verdicts.{IsLegal};
 ghost use Rattle.directory_questions.specs.declared.question.Question.TheVariants as question;
 ghost use Rattle.directory_state.specs.Folds.{Fold};
+ghost use Rattle.directory_state.specs.Sources.{IsSourceAt};
 ghost use Rattle.slp_answer.specs.Answers.{IsQuestionAnswered};
 
 use directory_questions::{AttrQuery, TypeQuery};
-use directory_state::Directory;
+use directory_state::{Directory, Source};
 use registry_core::{Entry, Registry};
 use slp_replies::{Answer, AttributeTexts, Form, Reply, Sent, Texts};
 use slp_text::NoMemory;
@@ -43,19 +44,19 @@ impl Texts for TypeTexts<'_> {
 #[inline(never)]
 pub fn answer_attributes<R: Registry>(
     alloc: Global,
-    directory: &Directory<R>,
+    source: &Source<'_, R>,
     reply: &Reply<'_>,
     query: &AttrQuery,
     answer: &mut Answer,
 ) -> Result<Sent, NoMemory>
     requires no_reply { answer.old.bytes.items ≡ [] }
     requires no_line { answer.old.audit.items ≡ [] }
-    ensures { (o : Opening) (h : History) → Fold o h directory.now → IsLegal o h
+    ensures { (o : Opening) (h : History) → IsSourceAt o h query.now.target source.now → IsLegal o h
         → IfOk result (λ what. IsQuestionAnswered o h reply.now (question.Attributes query.now) what answer.new.bytes.items answer.new.audit.items) }
 {
     let call = reply.heard.call;
     let kind = query.target.kind();
-    match directory.find_attributes(alloc, call.moment, call.asker, query) {
+    match source.find_attributes(alloc, call.moment, call.asker, query) {
         Ok(attributes) => {
             let texts = AttributeTexts {
                 alloc,

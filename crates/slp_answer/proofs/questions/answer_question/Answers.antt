@@ -21,4 +21,9 @@ returns-in-Silent g c = λ o h fold legal.
 pub returns-in-Attributes : goal.returns-in-Attributes
 returns-in-Attributes g c = λ o h fold legal.
     subst (λ (q : Question). IfOk c.answer_attributes.result (λ what. IsQuestionAnswered o h c.args.reply.now q what c.answer_attributes.new.answer.bytes.items c.answer_attributes.new.answer.audit.items)) (sym c.in-Attributes.is)
-    (c.answer_attributes.ensures o h fold legal)
+    (c.answer_attributes.ensures o h (record { state = c.args.directory.now; fold = fold; source = refl }) legal)
+
+pub returns-in-Services : goal.returns-in-Services
+returns-in-Services g c = λ o h fold legal.
+    subst (λ (q : Question). IfOk c.answer_services.result (λ what. IsQuestionAnswered o h c.args.reply.now q what c.answer_services.new.answer.bytes.items c.answer_services.new.answer.audit.items)) (sym c.in-Services.is)
+    (c.answer_services.ensures o h (record { state = c.args.directory.now; fold = fold; source = refl }) legal)

@@ -1,0 +1,32 @@
+use Rattle.std.proofs.Common.{sym, subst, ◌∙◌}
+use Rattle.std.specs.Prelude.{IfOk}
+use Rattle.std.proofs.lemmas.Result.{IfOk-weaker}
+use Rattle.slp_headers.specs.Headers.{heading_in}
+use Rattle.directory_questions.specs.Calls.{call_in}
+use Rattle.directory_questions.specs.declared.question.Question.{Question}
+use Rattle.slp_answer.specs.Answers.{IsQuestionAnswered}
+use Rattle.slp_answer.specs.Gathering.{IsGatheredAt}
+use Rattle.slp_answer.proofs.AnswersTold.{asked-replies}
+use Rattle.slp_answer.proofs.gathering.answer_gathered.Goals as goal
+
+pub returns-in-Services : goal.returns-in-Services
+returns-in-Services g c = λ o h k legal.
+    let heard = c.args.heard.now in
+    let posed = c.args.posed.now in
+    let answer = c.answer_services.new.answer in
+    let at = subst (λ (q : Question). IsGatheredAt o h q c.args.gathered.now) c.in-Services.is k in
+    IfOk-weaker c.answer_services.result _ _
+    (λ what told. asked-replies o h (call_in heard.call.now) what answer.bytes.items answer.audit.items (heading_in heard.header) posed c.rules.result.now (c.rules.ensures ∙ at.gathered.ruled ∙ at.fold.ruled) heard.headed c.requires.asked told)
+    (subst (λ (q : Question). IfOk c.answer_services.result (λ what. IsQuestionAnswered o h (record { rules = c.rules.result; heard = c.args.heard }) q what answer.bytes.items answer.audit.items)) (sym c.in-Services.is)
+    (c.answer_services.ensures o h (record { state = at.state; fold = at.fold; source = at.gathered }) legal))
+
+pub returns-in-Attributes : goal.returns-in-Attributes
+returns-in-Attributes g c = λ o h k legal.
+    let heard = c.args.heard.now in
+    let posed = c.args.posed.now in
+    let answer = c.answer_attributes.new.answer in
+    let at = subst (λ (q : Question). IsGatheredAt o h q c.args.gathered.now) c.in-Attributes.is k in
+    IfOk-weaker c.answer_attributes.result _ _
+    (λ what told. asked-replies o h (call_in heard.call.now) what answer.bytes.items answer.audit.items (heading_in heard.header) posed c.rules.result.now (c.rules.ensures ∙ at.gathered.ruled ∙ at.fold.ruled) heard.headed c.requires.asked told)
+    (subst (λ (q : Question). IfOk c.answer_attributes.result (λ what. IsQuestionAnswered o h (record { rules = c.rules.result; heard = c.args.heard }) q what answer.bytes.items answer.audit.items)) (sym c.in-Attributes.is)
+    (c.answer_attributes.ensures o h (record { state = at.state; fold = at.fold; source = at.gathered }) legal))
