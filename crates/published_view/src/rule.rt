@@ -2,8 +2,11 @@
 ghost use Rattle.std.specs.Prelude.{◌≡◌, ◌⊎◌, [], ◌∷◌, None, Some, drop, MatchResult};
 ghost use Rattle.left_right.specs.Sides.{view};
 ghost use Rattle.history_log.specs.Pasts.{IsPast};
+ghost use Rattle.directory_questions.specs.Calls.{call_in};
+ghost use Rattle.directory_questions.specs.Readings.{IsAsked as IsRead, IsUnread};
 ghost use Rattle.slp_answer.specs.Answers.{Replies};
-ghost use Rattle.published_view.specs.Rules.{call_heard, IsAfter, IsQuestion, NextOf, history_of};
+ghost use Rattle.slp_replies.specs.declared.answer.Sent.TheVariants.{Silence};
+ghost use Rattle.published_view.specs.Rules.{IsAfter, NextOf, history_of};
 ghost use Rattle.published_view.specs.Steps.{stepped};
 ghost use Rattle.published_view.specs.Traces.{Wrote, last_at, IsAsked};
 
@@ -15,11 +18,12 @@ use crossbeam_utils::rule::{Outcome, Protocol};
 use history_log::{Front, Naming};
 use left_right::reader::{Factory, Reader};
 use left_right::writer::Writer;
-use slp_answer::{Answer, Call, Heard, Sent, answer_heard, told_whole};
+use slp_answer::{Answer, Call, Heard, ReadQuestion, Sent, begin_asked, end_asked};
 use slp_text::NoMemory;
 use std::alloc::{AllocError, Global};
 use std::marker::PhantomData;
 use std::sync::Wait;
+use table_registry::SiteRegistry;
 
 /// The rule of what is published, at every step: it is the state of a legal history, and all that threads asked and wrote so far is
 /// one run that published this history, whatever they were told. (A clause reads an array as a list, of any length.)
@@ -75,34 +79,53 @@ pub type RuledFactory<J> = Factory<PublishedCopy, [Marked; 0], Published<J>>;
 
 pub type RuledWriter<J> = Writer<PublishedCopy, Operation, [Marked; 0], Published<J>>;
 
-/// Answers at the history that is published, which is seen: a question, or with nothing a call of which nothing is heard. Without memory it is
-/// seen all the same.
+/// Sees what is published, and answers with nothing a call of which nothing is heard.
+pub fn unheard<J: Naming, G: Gate, Q: Asks>(
+    reader: RuledReader<J>,
+    gate: &G,
+    place: usize,
+    call: &Call<'_>,
+) -> (RuledReader<J>, Result<Sent, ViewFault>)
+    requires asks { Q.call ≡ Some (call_in call.now) }
+    ensures { MatchResult result.1 (λ what. (what ≡ Silence) × IsAsked J.opening (view reader.place) (Some (call_in call.now)) (view result.0.place))
+        (λ e. (e ≡ ViewFault.Closed) × (view result.0.place ≡ view reader.place)) }
+{
+    match reader.enter_as::<Sees<J, Q>>() {
+        Ok(reading) => {
+            gate.inside(place);
+            (reading.leave(), Ok(Sent::Silence))
+        }
+        Err(reader) => (reader, Err(ViewFault::Closed)),
+    }
+}
+
+/// Answers a question at the history that is published, which is seen. One that may take long is answered when what is published is left again, from
+/// what was gathered there for it. Without memory the history is seen all the same.
 pub fn answered<J: Naming, G: Gate, Q: Asks>(
     alloc: Global,
     reader: RuledReader<J>,
     gate: &G,
     place: usize,
-    heard: Result<&Heard<'_>, &Call<'_>>,
+    heard: &Heard<'_>,
+    read: &ReadQuestion,
     answer: &mut Answer,
 ) -> (RuledReader<J>, Result<Result<Sent, NoMemory>, ViewFault>)
-    requires asks { Q.call ≡ Some (call_heard heard) }
-    requires question { IsQuestion heard }
+    requires asks { Q.call ≡ Some (call_in heard.now.call.now) }
+    requires read { MatchResult read.now (IsRead heard.now.call.now.own heard.now.call.now.bytes.now) (IsUnread heard.now.call.now.bytes.now) }
     ensures { MatchResult result.1
-        (λ r. IsAsked J.opening (view reader.place) (Some (call_heard heard.entry)) (view result.0.place)
-        × MatchResult r (λ what. Replies J.opening (last_at (view result.0.place)) (call_heard heard.entry) what answer.new.bytes.items answer.new.audit.items) (λ _. (answer.new.bytes.items ≡ []) × (answer.new.audit.items ≡ [])))
+        (λ r. IsAsked J.opening (view reader.place) (Some (call_in heard.now.call.now)) (view result.0.place)
+        × MatchResult r (λ what. Replies J.opening (last_at (view result.0.place)) (call_in heard.now.call.now) what answer.new.bytes.items answer.new.audit.items) (λ _. (answer.new.bytes.items ≡ []) × (answer.new.audit.items ≡ [])))
         (λ e. (e ≡ ViewFault.Closed) × (view result.0.place ≡ view reader.place) × (answer.new.bytes.items ≡ []) × (answer.new.audit.items ≡ [])) }
 {
     answer.clear();
     match reader.enter_as::<Sees<J, Q>>() {
         Ok(reading) => {
             gate.inside(place);
-            let Ok(heard) = heard else {
-                return (reading.leave(), Ok(Ok(Sent::Silence)));
-            };
             let copy = reading.get();
-            let told = answer_heard(alloc, &copy.directory, heard, answer);
-            let sent = told_whole(told, answer);
-            (reading.leave(), Ok(sent))
+            let begun = begin_asked(alloc, &copy.directory, heard, read, answer);
+            let reader = reading.leave();
+            let sent = end_asked::<SiteRegistry>(alloc, begun, heard, read, answer);
+            (reader, Ok(sent))
         }
         Err(reader) => (reader, Err(ViewFault::Closed)),
     }

@@ -1,17 +1,20 @@
 //! What answers in one thread, and what it learns of the writer.
 ghost use Rattle.std.specs.Prelude.{◌≡◌, ◌⊎◌, ◌≤◌, [], None, Some, false, length, All, vec_len, IfOk, IfErr, OnOk, OnErr, IsErrOf};
 ghost use Rattle.directory_questions.specs.Answers.{is_change_of};
+ghost use Rattle.directory_questions.specs.Calls.{call_in};
+ghost use Rattle.directory_questions.specs.Requests.{function_in, is_change_function};
 ghost use Rattle.history_log.specs.Pasts.{IsPast};
 ghost use Rattle.slp_answer.specs.Answers.{Replies};
+ghost use Rattle.slp_replies.specs.declared.answer.Sent.TheVariants.{Silence};
 ghost use Rattle.published_view.specs.Rules.{call_heard, IsQuestion};
 ghost use Rattle.published_view.specs.Traces.{last_at, IsAsked};
 
 use crate::fault::ViewFault;
 use crate::gate::Gate;
-use crate::rule::{RuledFactory, RuledReader, answered, learnt};
+use crate::rule::{RuledFactory, RuledReader, answered, learnt, unheard};
 use addresses::Addr;
 use history_log::{Front, Naming};
-use slp_answer::{Answer, Call, Heard, Sent};
+use slp_answer::{Answer, Call, Heard, Sent, asked};
 use std::alloc::Global;
 use std::marker::{Brand, Model};
 
@@ -66,7 +69,7 @@ impl<J: Naming> Model for LoopView<J> {
 
 impl<J: Naming> LoopView<J> {
     /// Answers a question, at one history that was published, which goes on from all that was seen before; what is unheard is answered with nothing.
-    /// It takes no lock, and never waits. After a refusal the answer is empty; where memory was wanting, what was published counts as seen.
+    /// It takes no lock, and never waits. After a refusal the answer is empty; where memory was wanting, what was published may count as seen.
     pub fn hear<G: Gate>(
         &mut self,
         alloc: Global,
@@ -84,13 +87,55 @@ impl<J: Naming> LoopView<J> {
         ensures closed { IsErrOf result ViewFault.Closed → self.new ≡ self.old }
         ensures faults { IfErr result (λ e. (e ≡ ViewFault.NoMemory) ⊎ (e ≡ ViewFault.Closed)) }
     {
+        answer.clear();
+        match heard {
+            Ok(heard) => self.hear_asked(alloc, gate, heard, answer),
+            Err(call) => self.hear_nothing(gate, call),
+        }
+    }
+
+    // Answers a question. It is read before what is published is entered.
+    fn hear_asked<G: Gate>(
+        &mut self,
+        alloc: Global,
+        gate: &G,
+        heard: &Heard<'_>,
+        answer: &mut Answer,
+    ) -> Result<Sent, ViewFault>
+        requires question { is_change_function (function_in heard.now.request) ≡ false }
+        requires no_reply { answer.old.bytes.items ≡ [] }
+        requires no_line { answer.old.audit.items ≡ [] }
+        ensures asked { OnOk result (IsAsked J.opening self.old (Some (call_in heard.now.call.now)) self.new) }
+        ensures told { IfOk result (λ what. Replies J.opening (last_at self.new) (call_in heard.now.call.now) what answer.new.bytes.items answer.new.audit.items) }
+        ensures untold { OnErr result ((self.new ≡ self.old) ⊎ IsAsked J.opening self.old (Some (call_in heard.now.call.now)) self.new) }
+        ensures later { IsPast (last_at self.old) (last_at self.new) }
+        ensures no_reply { OnErr result (answer.new.bytes.items ≡ []) }
+        ensures no_line { OnErr result (answer.new.audit.items ≡ []) }
+        ensures closed { IsErrOf result ViewFault.Closed → self.new ≡ self.old }
+        ensures faults { IfErr result (λ e. (e ≡ ViewFault.NoMemory) ⊎ (e ≡ ViewFault.Closed)) }
+    {
+        let read = asked(alloc, heard)?;
         let reader = self.reader.take().unwrap();
         let (reader, entered) = answered::<J, G, Brand>(
-            alloc, reader, gate, self.place, heard, answer,
+            alloc, reader, gate, self.place, heard, &read, answer,
         );
         self.reader = Some(reader);
         let sent = entered?;
         Ok(sent?)
+    }
+
+    // Sees what is published, and answers a call of which nothing is heard.
+    fn hear_nothing<G: Gate>(&mut self, gate: &G, call: &Call<'_>) -> Result<Sent, ViewFault>
+        ensures asked { OnOk result (IsAsked J.opening self.old (Some (call_in call.now)) self.new) }
+        ensures silent { IfOk result (λ what. what ≡ Silence) }
+        ensures kept { OnErr result (self.new ≡ self.old) }
+        ensures later { IsPast (last_at self.old) (last_at self.new) }
+        ensures fault { IfErr result (λ e. e ≡ ViewFault.Closed) }
+    {
+        let reader = self.reader.take().unwrap();
+        let (reader, entered) = unheard::<J, G, Brand>(reader, gate, self.place, call);
+        self.reader = Some(reader);
+        entered
     }
 
     /// Answers bytes that ask for no change, in at most `limit` bytes, in the same way. `own` is the address of the loop that
