@@ -9,13 +9,14 @@ import threading
 import time
 
 from messages import LONGEST, Breaker, attributes, bombs, code_of, registration, services, types
-from server import CONNECTIONS, ask, take
+from server import ASKED, CONNECTIONS, ask, take
 
 WINDOW, WEIGHT, OVERHEAD = 64, 49152, 768  # what is sent before a question has to be answered: so no buffer of the system overflows
 LIVE = 32  # streams of a sender that are open at once
 RESETTING = struct.pack("ii", 1, 0)
 QUESTION, NOWHERE = services("service:printer"), types("nowhere")
 PIECE, PIECE_WAITS = 85, 4  # questions in one piece of a stream, and for how many of them a datagram may wait
+LEFT, LEFT_WAITS = 1.0, 0.2  # how long a long question takes at least, and how long what is sent to another address beside it may
 
 
 class Told:
@@ -214,6 +215,40 @@ def in_one_piece(server, say):
     say(f"  {PIECE} questions of {alone * 1000:.1f} ms in one piece: the longest of {len(waits):,} datagrams beside them waited {longest * 1000:.1f} ms")
     if longest > bound:
         told.lost.append(f"beside {PIECE} questions in one piece a datagram waited {longest:.3f} s, and may wait {bound:.3f}")
+    return told
+
+
+def beside_long(server, say):
+    """A long question, and beside it registrations and questions at another address: what was gathered for it is left before it is answered, so they wait for none of it."""
+    told, changes, questions = Told(), [], []
+    tags = ",".join(f"t{number:04}" for number in range(5000))
+    question = attributes("long", tags=",".join(f"*{number:04}z*" for number in range(3000)))
+    with server.stream("127.0.2.1", seconds=60) as stream, server.datagrams("127.0.3.9", ASKED) as other:
+        for number in range(10):
+            stream.sendall(registration(f"long:{number}", "long", attrs=tags, lifetime=600))
+            if told.reply(take(stream)) != 0:
+                told.lost.append("an entry of many tags was not registered")
+                return told
+        reader = threading.Thread(target=lambda: told.reply(take(stream)))
+        began = time.monotonic()
+        stream.sendall(question)
+        reader.start()
+        while reader.is_alive():
+            for message, waits in ((registration("beside:1", "beside", lifetime=600), changes), (NOWHERE, questions)):
+                sent = time.monotonic()
+                if ask(other, message)[0] is None:
+                    told.lost.append("beside a long question what was sent to another address was not answered")
+                    return told
+                waits.append(time.monotonic() - sent)
+            time.sleep(0.002)
+        took = time.monotonic() - began
+    told.sent["what was sent beside a long question"] += len(changes) + len(questions)
+    longest = [sorted(waits)[-3:][0] for waits in (changes, questions)] if len(changes) > 3 else [took, took]
+    say(f"  a question of {took:.2f} s: beside it the third longest of {len(changes):,} registrations at another address took {longest[0] * 1000:.1f} ms, and of as many questions {longest[1] * 1000:.1f} ms")
+    if took < LEFT:
+        told.lost.append(f"the long question took {took:.2f} s alone, so that nothing is seen beside it")
+    if max(longest) > LEFT_WAITS:
+        told.lost.append(f"beside a question of {took:.2f} s what was sent to another address waited {max(longest):.3f} s, and may wait {LEFT_WAITS}")
     return told
 
 
