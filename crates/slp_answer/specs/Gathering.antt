@@ -13,6 +13,15 @@ use Rattle.slp_answer.specs.Answers.{Replies}
 use Rattle.slp_answer.specs.declared.gathering.Begun.{Begun}
 use Rattle.slp_answer.specs.declared.gathering.Begun.TheVariants.{Told, Left}
 
+-- it is about attributes
+abbrev pub is_always_gathered : Question → Bool
+is_always_gathered Silent = false
+is_always_gathered Unreadable = false
+is_always_gathered (Services q) = false
+is_always_gathered (Attributes q) = true
+is_always_gathered (Types q) = false
+is_always_gathered (Agents q) = false
+
 -- it has a filter, or is about attributes
 abbrev pub is_gathered : Question → Bool
 is_gathered Silent = false

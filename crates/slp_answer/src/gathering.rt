@@ -6,7 +6,7 @@ ghost use Rattle.directory_questions.specs.Readings.{IsAsked, IsUnread};
 ghost use Rattle.directory_questions.specs.Verdicts.{IsLegal};
 ghost use Rattle.directory_state.specs.Folds.{Fold};
 ghost use Rattle.slp_answer.specs.Answers.{Replies};
-ghost use Rattle.slp_answer.specs.Gathering.{is_gathered, IsBegun, IsBegunAt, IsGatheredAt, IsGatheredFor};
+ghost use Rattle.slp_answer.specs.Gathering.{is_always_gathered, is_gathered, IsBegun, IsBegunAt, IsGatheredAt, IsGatheredFor};
 
 use crate::questions::{ReadQuestion, answer_asked, answer_services};
 use crate::text_replies::answer_attributes;
@@ -24,17 +24,29 @@ pub enum Begun {
     Left(Gathered),
 }
 
-// What a question is about, where it is one that may take long: one with a filter, or about attributes.
+/// A question with a filter is answered while the directory is read where its bytes times the entries are no more: that is a few milliseconds, if the
+/// entries are not long.
+const MOST_AT_ONCE: usize = 200_000;
+
+// Whether a question of so many bytes, with a filter, may take long against so many entries. That decides where it is answered, and not what.
+fn is_long(bytes: usize, entries: usize) -> bool {
+    bytes.saturating_mul(entries) > MOST_AT_ONCE
+}
+
+// What a question is about, where it is one that may take long: one about attributes, or with a filter that has to look at much.
 fn gather_for<R: Registry>(
     alloc: Global,
     directory: &Directory<R>,
+    heard: &Heard<'_>,
     posed: &Question,
 ) -> Result<Option<Gathered>, NoMemory>
-    ensures { IfOk result (λ told. MatchOption told (is_gathered posed.now ≡ false) (λ g. (is_gathered posed.now ≡ true) × IsGatheredFor posed.now directory.now g)) }
+    ensures { IfOk result (λ told. MatchOption told (is_always_gathered posed.now ≡ false) (λ g. (is_gathered posed.now ≡ true) × IsGatheredFor posed.now directory.now g)) }
 {
     match posed {
         Question::Services(query) => {
-            if query.filter.is_none() {
+            if query.filter.is_none()
+                || !is_long(heard.call.bytes.len(), directory.registry().len())
+            {
                 return Ok(None);
             }
             Ok(Some(directory.gather_kind(alloc, &query.kind)?))
@@ -61,7 +73,7 @@ pub fn begin_asked<R: Registry>(
         → IfOk result (λ b. IsBegunAt o h (call_in heard.now.call.now) read.now b answer.new.bytes.items answer.new.audit.items) }
 {
     if let Ok(posed) = read
-        && let Some(gathered) = gather_for(alloc, directory, posed)?
+        && let Some(gathered) = gather_for(alloc, directory, heard, posed)?
     {
         return Ok(Begun::Left(gathered));
     }
