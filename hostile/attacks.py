@@ -219,37 +219,48 @@ def in_one_piece(server, say):
 
 
 def beside_long(server, say):
-    """A long question, and beside it registrations and questions at another address: what was gathered for it is left before it is answered, so they wait for none of it."""
-    told, changes, questions = Told(), [], []
-    tags = ",".join(f"t{number:04}" for number in range(5000))
-    question = attributes("long", tags=",".join(f"*{number:04}z*" for number in range(3000)))
+    """Two long questions, and beside each registrations and questions at another address: what was gathered for it is left before it is answered, so they wait for none of it."""
+    told, numbers = Told(), [f"{number:04}" for number in range(5000)]
+    entries = [("tags", ",".join(f"t{it}" for it in numbers)), ("values", f"(a={','.join(f'v{it}' for it in numbers)})")]
+    questions = [
+        ("attributes", attributes("tags", tags=",".join(f"*{it}z*" for it in numbers[:3000]))),
+        ("a filter", services("values", predicate=f"(|{''.join(f'(a=*{it}z*)' for it in numbers[:3000])})")),
+    ]
     with server.stream("127.0.2.1", seconds=60) as stream, server.datagrams("127.0.3.9", ASKED) as other:
-        for number in range(10):
-            stream.sendall(registration(f"long:{number}", "long", attrs=tags, lifetime=600))
-            if told.reply(take(stream)) != 0:
-                told.lost.append("an entry of many tags was not registered")
-                return told
-        reader = threading.Thread(target=lambda: told.reply(take(stream)))
-        began = time.monotonic()
-        stream.sendall(question)
-        reader.start()
-        while reader.is_alive():
-            for message, waits in ((registration("beside:1", "beside", lifetime=600), changes), (NOWHERE, questions)):
-                sent = time.monotonic()
-                if ask(other, message)[0] is None:
-                    told.lost.append("beside a long question what was sent to another address was not answered")
-                    return told
-                waits.append(time.monotonic() - sent)
-            time.sleep(0.002)
-        took = time.monotonic() - began
-    told.sent["what was sent beside a long question"] += len(changes) + len(questions)
-    longest = [sorted(waits)[-3:][0] for waits in (changes, questions)] if len(changes) > 3 else [took, took]
-    say(f"  a question of {took:.2f} s: beside it the third longest of {len(changes):,} registrations at another address took {longest[0] * 1000:.1f} ms, and of as many questions {longest[1] * 1000:.1f} ms")
-    if took < LEFT:
-        told.lost.append(f"the long question took {took:.2f} s alone, so that nothing is seen beside it")
-    if max(longest) > LEFT_WAITS:
-        told.lost.append(f"beside a question of {took:.2f} s what was sent to another address waited {max(longest):.3f} s, and may wait {LEFT_WAITS}")
+        for kind, attrs in entries:
+            for number in range(10):
+                stream.sendall(registration(f"{kind}:{number}", kind, attrs=attrs, lifetime=600))
+                if told.reply(take(stream)) != 0:
+                    told.lost.append(f"an entry of many {kind} was not registered")
+        for what, question in questions:
+            if not told.lost:
+                beside(told, stream, other, f"a question of {len(question):,} bytes about {what}", question, say)
     return told
+
+
+def beside(told, stream, other, what, question, say):
+    """Registers and asks at another address until a question is answered, and tells where that waited for it."""
+    waits = {"registrations": (registration("beside:1", "beside", lifetime=600), []), "questions": (NOWHERE, [])}
+    reader = threading.Thread(target=lambda: told.reply(take(stream)))
+    began = time.monotonic()
+    stream.sendall(question)
+    reader.start()
+    while reader.is_alive():
+        for message, took in waits.values():
+            sent = time.monotonic()
+            if ask(other, message)[0] is None:
+                told.lost.append(f"beside {what} what was sent to another address was not answered")
+            took.append(time.monotonic() - sent)
+        time.sleep(0.002)
+    lasted = time.monotonic() - began
+    longest = {name: max(took, default=lasted) for name, (_, took) in waits.items()}
+    told.sent["what was sent beside a long question"] += sum(len(took) for _, took in waits.values())
+    seen = ", of ".join(f"{len(waits[name][1]):,} {name} {it * 1000:.1f} ms" for name, it in longest.items())
+    say(f"  {lasted:8.3f} s  {what}: the longest at another address, of {seen}")
+    if lasted < LEFT:
+        told.lost.append(f"{what} took {lasted:.2f} s alone, so that nothing is seen beside it")
+    if max(longest.values()) > LEFT_WAITS:
+        told.lost.append(f"beside {what}, of {lasted:.2f} s, what was sent to another address waited {max(longest.values()):.3f} s, and may wait {LEFT_WAITS}")
 
 
 # Connections
