@@ -1,4 +1,4 @@
-ghost use Rattle.std.specs.Prelude.{◌≡◌, ◌≤◌, ◌↔◌, ℕ, Bool, List, max, false, IfOk, OnErr, IsErrOf, Ok, Err};
+ghost use Rattle.std.specs.Prelude.{◌≡◌, ◌≤◌, ◌↔◌, ℕ, Bool, List, max, false, IfNone, IfOk, IfSome, OnErr, IsErrOf, Ok, Err};
 ghost use Rattle.std.specs.List.{list_any};
 ghost use Rattle.attr_list.specs.Maps.{kept_attributes, updated_attributes};
 ghost use Rattle.attr_list.specs.Tests.{AcceptsAs};
@@ -12,7 +12,7 @@ ghost use Rattle.directory_questions.specs.Items.{AreAttributesOf, AreServices, 
 ghost use Rattle.directory_questions.specs.Verdicts.{IsLegal};
 ghost use Rattle.directory_questions.specs.declared.query.Target.TheVariants.{Kind};
 ghost use Rattle.directory_state.specs.Fronts.{IsFront, items_in, size_in};
-ghost use Rattle.directory_state.specs.Sources.{site_of, IsSourceAt};
+ghost use Rattle.directory_state.specs.Sources.{site_of, IsSourceAt, IsUnbounded};
 ghost use Rattle.slp_messages.specs.declared.message.UrlEntry.{UrlEntry};
 
 use attr_list::{AttrFault, Attrs};
@@ -32,22 +32,24 @@ pub fn now<R: Registry>(directory: &Directory<R>, moment: u32) -> u32
     told
 }
 
-/// The URLs that answer a question of who calls, from the front as many as there is room for: of a directory, or of what was gathered.
+/// The URLs that answer a question of who calls, from the front as many as there is room for: of a directory, or of what was gathered. None where it
+/// would have to look at more entries than it may.
 pub fn find<'a, R: Registry>(
     alloc: Global,
     source: &Source<'a, R>,
     call: &Call<'_>,
     query: &ServiceQuery,
     room: Room,
-) -> Result<FoundItems<'a>, QueryFault>
+) -> Result<Option<FoundItems<'a>>, QueryFault>
     requires small { room.bytes ≤ 65535 }
     requires small_each { room.each ≤ 65535 }
     ensures scope { IsErrOf result QueryFault.Scope ↔ (list_any (supports (site_of source.now)) query.now.scopes ≡ false) }
     ensures language { (o : Opening) (h : History) → IsSourceAt o h (Kind query.now.kind) source.now → IsLegal o h
-        → (IsErrOf result QueryFault.Language → IsForeign (IsOpenNow (standpoint o h call.now.moment call.now.asker) query.now.scopes) query.now) × IfOk result (λ _. ¬ IsForeign (IsOpenNow (standpoint o h call.now.moment call.now.asker) query.now.scopes) query.now) }
+        → (IsErrOf result QueryFault.Language → IsForeign (IsOpenNow (standpoint o h call.now.moment call.now.asker) query.now.scopes) query.now) × IfOk result (λ told. IfSome told (λ _. ¬ IsForeign (IsOpenNow (standpoint o h call.now.moment call.now.asker) query.now.scopes) query.now)) }
     ensures items { (o : Opening) (h : History) → IsSourceAt o h (Kind query.now.kind) source.now → IsLegal o h
-        → IfOk result (λ found. (all : List UrlEntry) × AreServices (standpoint o h call.now.moment call.now.asker) query.now all × IsFront room all (items_in found) found.is_cut) }
-    ensures fits { IfOk result (λ found. size_in room (items_in found) ≤ room.bytes) }
+        → IfOk result (λ told. IfSome told (λ found. (all : List UrlEntry) × AreServices (standpoint o h call.now.moment call.now.asker) query.now all × IsFront room all (items_in found) found.is_cut)) }
+    ensures fits { IfOk result (λ told. IfSome told (λ found. size_in room (items_in found) ≤ room.bytes)) }
+    ensures ended { IfOk result (λ told. IfNone told (¬ IsUnbounded source.now)) }
 {
     let told = source.find(alloc, call.moment, call.asker, query, room);
     told

@@ -53,9 +53,11 @@ impl<R: Registry> Directory<R> {
         ensures items { (o : Opening) (h : History) → Fold o h self.now → IsLegal o h
             → IfOk result (λ items. AreServices (standpoint o h moment asker) query.now items.items) }
     {
-        let source = Source::Whole(self);
-        let kept = source.search(alloc, moment, asker, query, None)?;
-        kept.into_items(alloc, u64::from(self.now(moment)))
+        let source = Source::Whole(self, usize::MAX);
+        match source.search(alloc, moment, asker, query, None)? {
+            Some(kept) => kept.into_items(alloc, u64::from(self.now(moment))),
+            None => unreachable!(),
+        }
     }
 
     /// What `find_attributes` answers.
@@ -73,7 +75,7 @@ impl<R: Registry> Directory<R> {
         ensures joined { (o : Opening) (h : History) → Fold o h self.now → IsLegal o h
             → IfOk result (λ a. AreAttributesOf (standpoint o h moment asker) query.now a) }
     {
-        let found = Source::Whole(self).find_about(alloc, moment, asker, query)?;
+        let found = Source::Whole(self, usize::MAX).find_about(alloc, moment, asker, query)?;
         describe(alloc, found, query)
     }
 

@@ -220,7 +220,7 @@ impl<R: Registry> Directory<R> {
         Viewer::of(&self.rules, &self.site, self.now(moment), asker, scopes)
     }
 
-    /// Gathers what a question is about a type.
+    /// Gathers what a question about a type is about.
     pub fn gather_kind(&self, alloc: Global, kind: &ServiceType) -> Result<Gathered, NoMemory>
         ensures { IfOk result (IsGathered (Kind kind.now) self.now) }
     {

@@ -1,4 +1,4 @@
-ghost use Rattle.std.specs.Prelude.{◌≡◌, ◌≢◌, Bool, ◌+◌, ◌-◌, ◌<◌, ◌↔◌, [], ◌∷◌, ℕ, List, false, max, length, map, filter, take, IfOk, IfErr, IsErrOf, IfSome, IfNone, MatchOption, IsTrue, Some};
+ghost use Rattle.std.specs.Prelude.{◌≡◌, ◌≢◌, Bool, ◌+◌, ◌-◌, ◌^◌, ◌<◌, ◌↔◌, [], ◌∷◌, ℕ, List, false, max, length, map, filter, take, IfOk, IfErr, IsErrOf, IfSome, IfNone, MatchOption, IsTrue, Some};
 ghost use Rattle.std.specs.Arc.{arc_value};
 ghost use Rattle.std.specs.List.{list_any};
 ghost use Rattle.registry_core.specs.declared.entry.Entry.{Entry as Entries};
@@ -8,7 +8,7 @@ ghost use Rattle.directory_judge.specs.Judgements.{supports};
 ghost use Rattle.directory_questions.specs.Calls.{Opening, standpoint};
 ghost use Rattle.directory_questions.specs.Verdicts.{IsLegal};
 ghost use Rattle.directory_questions.specs.declared.query.Target.TheVariants.{Kind};
-ghost use Rattle.directory_state.specs.Sources.{clock_of, site_of, AreEntriesOf, IsSourceAt};
+ghost use Rattle.directory_state.specs.Sources.{clock_of, site_of, AreEntriesOf, IsSourceAt, IsUnbounded};
 ghost use Rattle.directory_state.specs.Deadlines.{UrlDeadline, with_deadline, total_cost};
 ghost use Rattle.directory_state.specs.Searches.{deadlines_with, is_found, is_seen, joined, spoken_of, item_at, cost_in, bytes_in, cut_in, seen_of, shortlist_with, IsBound, IsCounted, IsFirst, IsLook, IsSmall, IsKept};
 ghost use Rattle.directory_questions.specs.Items.{is_wanted, AreServices, IsForeign, IsOpenNow};
@@ -255,29 +255,36 @@ impl<'a> Shortlist<'a> {
     }
 
     // Finds the entries that are live now, of a type that is covered, and open to the asker. Where nothing is found,
-    // it says what was seen, by its language.
+    // it says what was seen, by its language. It gives up where it would have to look at more entries than `looks`.
     // A function of its own in the machine's code as well, so that its loop keeps its registers.
     #[inline(never)]
     fn collect<R: Registry>(
         &mut self,
         registry: &'a R,
         question: &Search<'_>,
-    ) -> Result<Spoken, NoMemory>
+        looks: usize,
+    ) -> Result<Option<Spoken>, NoMemory>
         requires { IsKept self.old }
         ensures room { self.new.room ≡ self.old.room }
         ensures kept { IfOk result (λ _. IsKept self.new) }
-        ensures found { IfOk result (λ _. self.new.latest ≡ cut_in self.old.room (deadlines_with (filter (is_found question.now) (R.rest_of_kind registry.now (Some question.now.query.now.kind) 0)) self.old.latest)) }
-        ensures spoken { IfOk result (λ s. self.new.latest ≡ [] → s ≡ spoken_of question.now.query.now (filter (is_seen question.now.viewer) (R.rest_of_kind registry.now (Some question.now.query.now.kind) 0))) }
-        ensures listing { IfOk result (λ _. IsListing (is_kind (Some question.now.query.now.kind)) (R.contents registry.now) (R.rest_of_kind registry.now (Some question.now.query.now.kind) 0)) }
+        ensures found { IfOk result (λ o. IfSome o (λ _. self.new.latest ≡ cut_in self.old.room (deadlines_with (filter (is_found question.now) (R.rest_of_kind registry.now (Some question.now.query.now.kind) 0)) self.old.latest))) }
+        ensures spoken { IfOk result (λ o. IfSome o (λ s. self.new.latest ≡ [] → s ≡ spoken_of question.now.query.now (filter (is_seen question.now.viewer) (R.rest_of_kind registry.now (Some question.now.query.now.kind) 0)))) }
+        ensures listing { IfOk result (λ o. IfSome o (λ _. IsListing (is_kind (Some question.now.query.now.kind)) (R.contents registry.now) (R.rest_of_kind registry.now (Some question.now.query.now.kind) 0))) }
+        ensures ended { IfOk result (λ o. IfNone o (looks < 2 ^ 64 - 1)) }
     {
         let mut spoken = Spoken::Nothing;
         let mut last = None;
         let mut from = 0;
+        let mut left = looks;
         while let Some((entry, next)) = self.next(registry, question, from) {
+            if left == 0 {
+                return Ok(None);
+            }
+            left -= 1;
             spoken = self.look(entry, question, spoken, &mut last)?;
             from = next;
         }
-        Ok(spoken)
+        Ok(Some(spoken))
     }
 
     // The same among entries that were gathered.
@@ -311,17 +318,23 @@ impl<'a> Shortlist<'a> {
         &mut self,
         source: &Source<'a, R>,
         question: &Search<'_>,
-    ) -> Result<Spoken, NoMemory>
+    ) -> Result<Option<Spoken>, NoMemory>
         requires { IsKept self.old }
         ensures room { self.new.room ≡ self.old.room }
         ensures kept { IfOk result (λ _. IsKept self.new) }
-        ensures found { IfOk result (λ s. (all : List Entries) × AreEntriesOf (Kind question.now.query.now.kind) source.now all
+        ensures found { IfOk result (λ o. IfSome o (λ s. (all : List Entries) × AreEntriesOf (Kind question.now.query.now.kind) source.now all
             × (self.new.latest ≡ cut_in self.old.room (deadlines_with (filter (is_found question.now) all) self.old.latest))
-            × (self.new.latest ≡ [] → s ≡ spoken_of question.now.query.now (filter (is_seen question.now.viewer) all))) }
+            × (self.new.latest ≡ [] → s ≡ spoken_of question.now.query.now (filter (is_seen question.now.viewer) all)))) }
+        ensures ended { IfOk result (λ o. IfNone o (¬ IsUnbounded source.now)) }
     {
         match source {
-            Source::Whole(directory) => self.collect(directory.registry(), question),
-            Source::Part(gathered) => self.collect_shares(&gathered.entries, question),
+            Source::Whole(directory, looks) => {
+                self.collect(directory.registry(), question, *looks)
+            }
+            Source::Part(gathered) => {
+                let spoken = self.collect_shares(&gathered.entries, question)?;
+                Ok(Some(spoken))
+            }
         }
     }
 
@@ -354,7 +367,7 @@ impl<'a> Shortlist<'a> {
 }
 
 impl<'a, R: Registry> Source<'a, R> {
-    /// Finds what answers a question, and keeps of it what there is room for.
+    /// Finds what answers a question, and keeps of it what there is room for: where it may look at as many entries as that needs.
     #[inline(always)]
     pub(crate) fn search(
         &self,
@@ -363,14 +376,15 @@ impl<'a, R: Registry> Source<'a, R> {
         asker: Addr,
         query: &ServiceQuery,
         room: Option<Room>,
-    ) -> Result<Shortlist<'a>, QueryFault>
+    ) -> Result<Option<Shortlist<'a>>, QueryFault>
         requires { IsSmall room }
         ensures scope { IsErrOf result QueryFault.Scope ↔ (list_any (supports (site_of self.now)) query.now.scopes ≡ false) }
         ensures language { (o : Opening) (h : History) → IsSourceAt o h (Kind query.now.kind) self.now → IsLegal o h
-            → (IsErrOf result QueryFault.Language → IsForeign (IsOpenNow (standpoint o h moment asker) query.now.scopes) query.now) × IfOk result (λ _. ¬ IsForeign (IsOpenNow (standpoint o h moment asker) query.now.scopes) query.now) }
-        ensures kept { IfOk result (λ kept. IsKept kept × (kept.room ≡ room)) }
+            → (IsErrOf result QueryFault.Language → IsForeign (IsOpenNow (standpoint o h moment asker) query.now.scopes) query.now) × IfOk result (λ told. IfSome told (λ _. ¬ IsForeign (IsOpenNow (standpoint o h moment asker) query.now.scopes) query.now)) }
+        ensures kept { IfOk result (λ told. IfSome told (λ kept. IsKept kept × (kept.room ≡ room))) }
         ensures items { (o : Opening) (h : History) → IsSourceAt o h (Kind query.now.kind) self.now → IsLegal o h
-            → IfOk result (λ kept. (all : List UrlDeadline) × AreServices (standpoint o h moment asker) query.now (map (item_at (max moment (clock_of self.now))) all) × (kept.latest ≡ cut_in room all)) }
+            → IfOk result (λ told. IfSome told (λ kept. (all : List UrlDeadline) × AreServices (standpoint o h moment asker) query.now (map (item_at (max moment (clock_of self.now))) all) × (kept.latest ≡ cut_in room all))) }
+        ensures ended { IfOk result (λ told. IfNone told (¬ IsUnbounded self.now)) }
     {
         let Some(viewer) = self.viewer(moment, asker, &query.scopes) else {
             return Err(QueryFault::Scope);
@@ -381,11 +395,13 @@ impl<'a, R: Registry> Source<'a, R> {
             used: 0,
             room,
         };
-        let spoken = kept.collect_from(self, &question)?;
+        let Some(spoken) = kept.collect_from(self, &question)? else {
+            return Ok(None);
+        };
         if query.filter.is_some() && kept.latest.is_empty() && matches!(spoken, Spoken::Others) {
             return Err(QueryFault::Language);
         }
-        Ok(kept)
+        Ok(Some(kept))
     }
 }
 

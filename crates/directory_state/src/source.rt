@@ -11,7 +11,7 @@ ghost use Rattle.directory_questions.specs.Verdicts.{IsLegal};
 ghost use Rattle.directory_questions.specs.declared.query.Target.{Target as Targets};
 ghost use Rattle.directory_questions.specs.declared.query.Target.TheVariants.{Kind};
 ghost use Rattle.directory_state.specs.Fronts.{IsFront, items_in, size_in};
-ghost use Rattle.directory_state.specs.Sources.{clock_of, site_of, AreEntriesOf, IsSourceAt, IsSourceOf};
+ghost use Rattle.directory_state.specs.Sources.{clock_of, site_of, AreEntriesOf, IsSourceAt, IsSourceOf, IsUnbounded};
 ghost use Rattle.directory_state.specs.Searches.{entries_in, entries_seen, is_seen, AreSeenBy, HasOneOfEachPair, IsIn};
 ghost use Rattle.directory_state.specs.State.{State};
 ghost use Rattle.directory_state.specs.Viewers.{IsViewerOf};
@@ -30,10 +30,10 @@ use slp_scopes::ScopeList;
 use slp_text::NoMemory;
 use std::alloc::Global;
 
-/// A directory that is read while a question is answered, or what was gathered of one for it.
+/// A directory that is read while a question is answered, where a search looks at no more than so many entries; or what was gathered of one for it.
 #[derive(Drop)]
 pub enum Source<'a, R: Registry> {
-    Whole(&'a Directory<R>),
+    Whole(&'a Directory<R>, usize),
     Part(&'a Gathered),
 }
 
@@ -44,7 +44,7 @@ impl<'a, R: Registry> Source<'a, R> {
         ensures { result ≡ max moment (clock_of self.now) }
     {
         match self {
-            Source::Whole(directory) => directory.now(moment),
+            Source::Whole(directory, _) => directory.now(moment),
             Source::Part(gathered) => moment.max(gathered.clock),
         }
     }
@@ -57,7 +57,7 @@ impl<'a, R: Registry> Source<'a, R> {
         ensures viewer { (t : Targets) (s : State) → IsSourceOf t s self.now → IfSome result (λ v. IsViewerOf s moment asker scopes.now v) }
     {
         match self {
-            Source::Whole(directory) => directory.viewer(moment, asker, scopes),
+            Source::Whole(directory, _) => directory.viewer(moment, asker, scopes),
             Source::Part(gathered) => gathered.viewer(moment, asker, scopes),
         }
     }
@@ -74,7 +74,9 @@ impl<'a, R: Registry> Source<'a, R> {
         ensures seen { IfOk result (λ v. AreSeenBy viewer.now v.items) }
     {
         match self {
-            Source::Whole(directory) => viewer.gather_about(alloc, directory.registry(), target),
+            Source::Whole(directory, _) => {
+                viewer.gather_about(alloc, directory.registry(), target)
+            }
             Source::Part(gathered) => viewer.gather_shares(alloc, &gathered.entries),
         }
     }
@@ -82,7 +84,8 @@ impl<'a, R: Registry> Source<'a, R> {
     /// The URLs of the live entries that are open to the asker and match the question, in byte order,
     /// each once and with the greatest remaining lifetime in seconds (RFC 2608, section 8.2): lent where they lie, from the
     /// front as many as there is room for. With a filter they are those in the language of the question on which it holds;
-    /// where something matches, but nothing in that language, the answer is `Language`.
+    /// where something matches, but nothing in that language, the answer is `Language`. There is no answer where it would have to look at more entries
+    /// than it may.
     #[inline(always)]
     pub fn find(
         &self,
@@ -91,18 +94,21 @@ impl<'a, R: Registry> Source<'a, R> {
         asker: Addr,
         query: &ServiceQuery,
         room: Room,
-    ) -> Result<FoundItems<'a>, QueryFault>
+    ) -> Result<Option<FoundItems<'a>>, QueryFault>
         requires small { room.bytes ≤ 65535 }
         requires small_each { room.each ≤ 65535 }
         ensures scope { IsErrOf result QueryFault.Scope ↔ (list_any (supports (site_of self.now)) query.now.scopes ≡ false) }
         ensures language { (o : Opening) (h : History) → IsSourceAt o h (Kind query.now.kind) self.now → IsLegal o h
-            → (IsErrOf result QueryFault.Language → IsForeign (IsOpenNow (standpoint o h moment asker) query.now.scopes) query.now) × IfOk result (λ _. ¬ IsForeign (IsOpenNow (standpoint o h moment asker) query.now.scopes) query.now) }
+            → (IsErrOf result QueryFault.Language → IsForeign (IsOpenNow (standpoint o h moment asker) query.now.scopes) query.now) × IfOk result (λ told. IfSome told (λ _. ¬ IsForeign (IsOpenNow (standpoint o h moment asker) query.now.scopes) query.now)) }
         ensures items { (o : Opening) (h : History) → IsSourceAt o h (Kind query.now.kind) self.now → IsLegal o h
-            → IfOk result (λ found. (all : List UrlEntry) × AreServices (standpoint o h moment asker) query.now all × IsFront room all (items_in found) found.is_cut) }
-        ensures fits { IfOk result (λ found. size_in room (items_in found) ≤ room.bytes) }
+            → IfOk result (λ told. IfSome told (λ found. (all : List UrlEntry) × AreServices (standpoint o h moment asker) query.now all × IsFront room all (items_in found) found.is_cut)) }
+        ensures fits { IfOk result (λ told. IfSome told (λ found. size_in room (items_in found) ≤ room.bytes)) }
+        ensures ended { IfOk result (λ told. IfNone told (¬ IsUnbounded self.now)) }
     {
-        let kept = self.search(alloc, moment, asker, query, Some(room))?;
-        Ok(kept.fitting(u64::from(self.now(moment))))
+        let Some(kept) = self.search(alloc, moment, asker, query, Some(room))? else {
+            return Ok(None);
+        };
+        Ok(Some(kept.fitting(u64::from(self.now(moment)))))
     }
 
     /// What is open to the asker of what a question is about.

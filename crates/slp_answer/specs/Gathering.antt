@@ -7,7 +7,6 @@ use Rattle.directory_questions.specs.declared.query.Target.TheVariants.{Kind}
 use Rattle.directory_questions.specs.declared.question.Question.{Question}
 use Rattle.directory_questions.specs.declared.question.Question.TheVariants.{Silent, Unreadable, Services, Attributes, Types, Agents}
 use Rattle.directory_state.specs.Sources as sources
-use Rattle.directory_state.specs.State.{State}
 use Rattle.directory_state.specs.declared.gathered.Gathered.{Gathered}
 use Rattle.slp_answer.specs.Answers.{Replies}
 use Rattle.slp_answer.specs.declared.gathering.Begun.{Begun}
@@ -31,15 +30,6 @@ is_gathered (Attributes q) = true
 is_gathered (Types q) = false
 is_gathered (Agents q) = false
 
--- what was gathered is what a state has of what the question is about
-abbrev pub IsGatheredFor : Question → State → Gathered → Type 0
-IsGatheredFor Silent s g = ⊥
-IsGatheredFor Unreadable s g = ⊥
-IsGatheredFor (Services q) s g = sources.IsGathered (Kind q.kind) s g
-IsGatheredFor (Attributes q) s g = sources.IsGathered q.target s g
-IsGatheredFor (Types q) s g = ⊥
-IsGatheredFor (Agents q) s g = ⊥
-
 -- it was gathered at a history
 abbrev pub IsGatheredAt : Opening → History → Question → Gathered → Type 0
 IsGatheredAt o h Silent g = ⊥
@@ -49,9 +39,10 @@ IsGatheredAt o h (Attributes q) g = sources.IsGatheredAt o h q.target g
 IsGatheredAt o h (Types q) g = ⊥
 IsGatheredAt o h (Agents q) g = ⊥
 
--- what is left is a question for which something is gathered, and nothing of its answer is written
+-- what is answered is not about attributes; what is left is a question for which something is gathered, and nothing of its answer is written
 abbrev pub IsBegun : Result Question WireFault → Begun → List ℕ → List ℕ → Type 0
-IsBegun read (Told what) reply line = Unit {0}
+IsBegun (Ok q) (Told what) reply line = is_always_gathered q ≡ false
+IsBegun (Err e) (Told what) reply line = Unit
 IsBegun (Ok q) (Left g) reply line = (is_gathered q ≡ true) × (reply ≡ []) × (line ≡ [])
 IsBegun (Err e) (Left g) reply line = ⊥
 

@@ -1,16 +1,17 @@
 //! Questions that are answered when nothing of the directory is held any more: what they are about is gathered first.
-ghost use Rattle.std.specs.Prelude.{◌≡◌, [], true, false, IfOk, MatchOption, MatchResult, OnErr};
+ghost use Rattle.std.specs.Prelude.{◌≡◌, ◌-◌, ◌^◌, [], true, false, is_some, IfOk, MatchResult, Ok, OnErr};
 ghost use Rattle.directory_judge.specs.History.{History};
 ghost use Rattle.directory_questions.specs.Calls.{Opening, call_in};
 ghost use Rattle.directory_questions.specs.Readings.{IsAsked, IsUnread};
 ghost use Rattle.directory_questions.specs.Verdicts.{IsLegal};
+ghost use Rattle.directory_questions.specs.declared.question.Question.TheVariants as question;
 ghost use Rattle.directory_state.specs.Folds.{Fold};
 ghost use Rattle.slp_answer.specs.Answers.{Replies};
-ghost use Rattle.slp_answer.specs.Gathering.{is_always_gathered, is_gathered, IsBegun, IsBegunAt, IsGatheredAt, IsGatheredFor};
+ghost use Rattle.slp_answer.specs.Gathering.{is_gathered, IsBegun, IsBegunAt, IsGatheredAt};
 
-use crate::questions::{ReadQuestion, answer_asked, answer_services};
+use crate::questions::{ReadQuestion, answer_question, answer_services};
 use crate::text_replies::answer_attributes;
-use directory_questions::{Heard, Question};
+use directory_questions::{Heard, Question, ServiceQuery};
 use directory_state::{Directory, Gathered, Source};
 use registry_core::Registry;
 use slp_replies::{Answer, Reply, Sent, told_whole};
@@ -24,35 +25,79 @@ pub enum Begun {
     Left(Gathered),
 }
 
-/// A question with a filter is answered while the directory is read where its bytes times the entries are no more: that is a few milliseconds, if the
+/// While the directory is read, a question with a filter looks at so many entries that these times its bytes are no more: that is a few milliseconds, if the
 /// entries are not long.
 const MOST_AT_ONCE: usize = 200_000;
 
-// Whether a question of so many bytes, with a filter, may take long against so many entries. That decides where it is answered, and not what.
-fn is_long(bytes: usize, entries: usize) -> bool {
-    bytes.saturating_mul(entries) > MOST_AT_ONCE
+// How many entries a question of so many bytes looks at while the directory is read: with a filter no more than that takes a short while. That decides where
+// it is answered, and not what.
+fn looks_at_once(query: &ServiceQuery, bytes: usize) -> usize
+    ensures { is_some query.now.filter ≡ false → result ≡ 2 ^ 64 - 1 }
+{
+    match &query.filter {
+        Some(_) => MOST_AT_ONCE / bytes.max(1),
+        None => usize::MAX,
+    }
 }
 
-// What a question is about, where it is one that may take long: one about attributes, or with a filter that has to look at much.
-fn gather_for<R: Registry>(
+// Answers a question about services; where that takes many looks, it gathers what the question is about.
+fn begin_services<R: Registry>(
+    alloc: Global,
+    directory: &Directory<R>,
+    heard: &Heard<'_>,
+    query: &ServiceQuery,
+    answer: &mut Answer,
+) -> Result<Begun, NoMemory>
+    requires asked { IsAsked heard.now.call.now.own heard.now.call.now.bytes.now (question.Services query.now) }
+    requires no_reply { answer.old.bytes.items ≡ [] }
+    requires no_line { answer.old.audit.items ≡ [] }
+    ensures begun { IfOk result (λ b. IsBegun (Ok (question.Services query.now)) b answer.new.bytes.items answer.new.audit.items) }
+    ensures told { (o : Opening) (h : History) → Fold o h directory.now → IsLegal o h
+        → IfOk result (λ b. IsBegunAt o h (call_in heard.now.call.now) (Ok (question.Services query.now)) b answer.new.bytes.items answer.new.audit.items) }
+{
+    let reply = Reply {
+        rules: directory.rules(),
+        heard,
+    };
+    let source = Source::Whole(directory, looks_at_once(query, heard.call.bytes.len()));
+    match answer_services(alloc, &source, &reply, query, answer)? {
+        Some(sent) => Ok(Begun::Told(sent)),
+        None => {
+            let gathered = directory.gather_kind(alloc, &query.kind)?;
+            Ok(Begun::Left(gathered))
+        }
+    }
+}
+
+// Answers a question; of one that may take long it gathers what that is about.
+fn begin_question<R: Registry>(
     alloc: Global,
     directory: &Directory<R>,
     heard: &Heard<'_>,
     posed: &Question,
-) -> Result<Option<Gathered>, NoMemory>
-    ensures { IfOk result (λ told. MatchOption told (is_always_gathered posed.now ≡ false) (λ g. (is_gathered posed.now ≡ true) × IsGatheredFor posed.now directory.now g)) }
+    answer: &mut Answer,
+) -> Result<Begun, NoMemory>
+    requires asked { IsAsked heard.now.call.now.own heard.now.call.now.bytes.now posed.now }
+    requires no_reply { answer.old.bytes.items ≡ [] }
+    requires no_line { answer.old.audit.items ≡ [] }
+    ensures begun { IfOk result (λ b. IsBegun (Ok posed.now) b answer.new.bytes.items answer.new.audit.items) }
+    ensures told { (o : Opening) (h : History) → Fold o h directory.now → IsLegal o h
+        → IfOk result (λ b. IsBegunAt o h (call_in heard.now.call.now) (Ok posed.now) b answer.new.bytes.items answer.new.audit.items) }
 {
     match posed {
-        Question::Services(query) => {
-            if query.filter.is_none()
-                || !is_long(heard.call.bytes.len(), directory.registry().len())
-            {
-                return Ok(None);
-            }
-            Ok(Some(directory.gather_kind(alloc, &query.kind)?))
+        Question::Services(query) => begin_services(alloc, directory, heard, query, answer),
+        Question::Attributes(query) => {
+            let gathered = directory.gather_about(alloc, &query.target)?;
+            Ok(Begun::Left(gathered))
         }
-        Question::Attributes(query) => Ok(Some(directory.gather_about(alloc, &query.target)?)),
-        _ => Ok(None),
+        _ => {
+            let reply = Reply {
+                rules: directory.rules(),
+                heard,
+            };
+            let sent = answer_question(alloc, directory, &reply, posed, answer)?;
+            Ok(Begun::Told(sent))
+        }
     }
 }
 
@@ -72,13 +117,17 @@ pub fn begin_asked<R: Registry>(
     ensures told { (o : Opening) (h : History) → Fold o h directory.now → IsLegal o h
         → IfOk result (λ b. IsBegunAt o h (call_in heard.now.call.now) read.now b answer.new.bytes.items answer.new.audit.items) }
 {
-    if let Ok(posed) = read
-        && let Some(gathered) = gather_for(alloc, directory, heard, posed)?
-    {
-        return Ok(Begun::Left(gathered));
+    match read {
+        Ok(posed) => begin_question(alloc, directory, heard, posed, answer),
+        Err(fault) => {
+            let reply = Reply {
+                rules: directory.rules(),
+                heard,
+            };
+            let sent = reply.fault(*fault, answer)?;
+            Ok(Begun::Told(sent))
+        }
     }
-    let sent = answer_asked(alloc, directory, heard, read, answer)?;
-    Ok(Begun::Told(sent))
 }
 
 // Answers a question from what was gathered for it.
@@ -102,7 +151,10 @@ fn answer_gathered<R: Registry>(
     };
     let source: Source<'_, R> = Source::Part(gathered);
     match posed {
-        Question::Services(query) => answer_services(alloc, &source, &reply, query, answer),
+        Question::Services(query) => match answer_services(alloc, &source, &reply, query, answer)? {
+            Some(sent) => Ok(sent),
+            None => unreachable!(),
+        },
         Question::Attributes(query) => answer_attributes(alloc, &source, &reply, query, answer),
         _ => unreachable!(),
     }

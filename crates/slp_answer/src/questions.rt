@@ -1,5 +1,5 @@
 //! What is answered to a question: services, with as many of those that are found as fit, or what stands instead.
-ghost use Rattle.std.specs.Prelude.{◌≡◌, ◌≤◌, ◌==◌, ◌&&◌, ◌||◌, [], false, if◌then◌else◌, not, length, IfOk, MatchResult, Some};
+ghost use Rattle.std.specs.Prelude.{◌≡◌, ◌≤◌, ◌==◌, ◌&&◌, ◌||◌, [], false, if◌then◌else◌, not, length, IfNone, IfOk, IfSome, MatchResult, Some};
 ghost use Rattle.slp_headers.specs.Headers.{heading_in};
 ghost use Rattle.slp_wire.specs.Spelling.{plain_bytes};
 ghost use Rattle.directory_judge.specs.History.{History};
@@ -14,7 +14,7 @@ ghost use Rattle.directory_state.specs.Fronts.{items_in};
 ghost use Rattle.directory_questions.specs.Readings.{IsAsked, IsUnread};
 ghost use Rattle.directory_questions.specs.declared.query.Target.TheVariants.{Kind};
 ghost use Rattle.directory_state.specs.Folds.{Fold};
-ghost use Rattle.directory_state.specs.Sources.{IsSourceAt};
+ghost use Rattle.directory_state.specs.Sources.{IsSourceAt, IsUnbounded};
 ghost use Rattle.slp_answer.specs.ServiceReplies.{service_reply};
 ghost use Rattle.slp_answer.specs.Answers.{IsQuestionAnswered, Replies};
 ghost use Rattle.slp_replies.specs.Tellings.{TellsOf};
@@ -84,7 +84,7 @@ fn services(
 }
 
 /// Answers a question about services: with as many of those that are found as fit, or with the code that
-/// stands instead.
+/// stands instead; not at all where a search would have to look at more entries than it may.
 #[inline(always)]
 pub fn answer_services<R: Registry>(
     alloc: Global,
@@ -92,23 +92,28 @@ pub fn answer_services<R: Registry>(
     reply: &Reply<'_>,
     query: &ServiceQuery,
     answer: &mut Answer,
-) -> Result<Sent, NoMemory>
+) -> Result<Option<Sent>, NoMemory>
     requires no_reply { answer.old.bytes.items ≡ [] }
     requires no_line { answer.old.audit.items ≡ [] }
-    ensures { (o : Opening) (h : History) → IsSourceAt o h (Kind query.now.kind) source.now → IsLegal o h
-        → IfOk result (λ what. IsQuestionAnswered o h reply.now (question.Services query.now) what answer.new.bytes.items answer.new.audit.items) }
+    ensures told { (o : Opening) (h : History) → IsSourceAt o h (Kind query.now.kind) source.now → IsLegal o h
+        → IfOk result (λ told. IfSome told (λ what. IsQuestionAnswered o h reply.now (question.Services query.now) what answer.new.bytes.items answer.new.audit.items)) }
+    ensures ended { IfOk result (λ told. IfNone told (¬ IsUnbounded source.now)) }
+    ensures no_reply { IfOk result (λ told. IfNone told (answer.new.bytes.items ≡ [])) }
+    ensures no_line { IfOk result (λ told. IfNone told (answer.new.audit.items ≡ [])) }
 {
     let call = reply.heard.call;
     let room = room_in(&reply.heard.header, call.limit);
     let kind = &query.kind;
-    match source.find(alloc, call.moment, call.asker, query, room) {
-        Ok(found) => services(reply, kind, &found, answer),
-        Err(fault) => reply.query_fault(fault, Some(kind), answer),
-    }
+    let sent = match source.find(alloc, call.moment, call.asker, query, room) {
+        Ok(Some(found)) => services(reply, kind, &found, answer)?,
+        Ok(None) => return Ok(None),
+        Err(fault) => reply.query_fault(fault, Some(kind), answer)?,
+    };
+    Ok(Some(sent))
 }
 
-// Answers a question, or with nothing what no directory answers.
-fn answer_question<R: Registry>(
+/// Answers a question, or with nothing what no directory answers.
+pub(crate) fn answer_question<R: Registry>(
     alloc: Global,
     directory: &Directory<R>,
     reply: &Reply<'_>,
@@ -124,37 +129,18 @@ fn answer_question<R: Registry>(
         Question::Silent => Ok(Sent::Silence),
         Question::Unreadable => reply.code(&Finding::deny(Decider::Parse, None), answer),
         Question::Services(query) => {
-            answer_services(alloc, &Source::Whole(directory), reply, query, answer)
+            let source = Source::Whole(directory, usize::MAX);
+            match answer_services(alloc, &source, reply, query, answer)? {
+                Some(sent) => Ok(sent),
+                None => unreachable!(),
+            }
         }
         Question::Attributes(query) => {
-            answer_attributes(alloc, &Source::Whole(directory), reply, query, answer)
+            let source = Source::Whole(directory, usize::MAX);
+            answer_attributes(alloc, &source, reply, query, answer)
         }
         Question::Types(query) => answer_types(alloc, directory, reply, query, answer),
         Question::Agents(query) => answer_agents(alloc, directory, reply, query, answer),
-    }
-}
-
-/// Answers what was read of a question, into an answer that is empty. After `NoMemory` that may hold anything.
-pub fn answer_asked<R: Registry>(
-    alloc: Global,
-    directory: &Directory<R>,
-    heard: &Heard<'_>,
-    read: &ReadQuestion,
-    answer: &mut Answer,
-) -> Result<Sent, NoMemory>
-    requires read { MatchResult read.now (IsAsked heard.now.call.now.own heard.now.call.now.bytes.now) (IsUnread heard.now.call.now.bytes.now) }
-    requires no_reply { answer.old.bytes.items ≡ [] }
-    requires no_line { answer.old.audit.items ≡ [] }
-    ensures { (o : Opening) (h : History) → Fold o h directory.now → IsLegal o h
-        → IfOk result (λ what. Replies o h (call_in heard.now.call.now) what answer.new.bytes.items answer.new.audit.items) }
-{
-    let reply = Reply {
-        rules: directory.rules(),
-        heard,
-    };
-    match read {
-        Ok(question) => answer_question(alloc, directory, &reply, question, answer),
-        Err(fault) => reply.fault(*fault, answer),
     }
 }
 
@@ -171,7 +157,6 @@ pub fn answer_heard<R: Registry>(
     ensures { (o : Opening) (h : History) → Fold o h directory.now → IsLegal o h
         → IfOk result (λ what. Replies o h (call_in heard.now.call.now) what answer.new.bytes.items answer.new.audit.items) }
 {
-    // Not by `answer_asked`: what is read stays where it is, which saves sixty instructions.
     let reply = Reply {
         rules: directory.rules(),
         heard,

@@ -1,5 +1,4 @@
-use Rattle.std.proofs.Common.{ap, subst, sym}
-use Rattle.directory_state.specs.Searches.{entries_lent, IsArranged}
+use Rattle.directory_state.specs.Searches.{entries_lent}
 use Rattle.directory_state.proofs.ArrangedEntries.{arranged-itself}
 use Rattle.directory_state.proofs.arranging.by_type.Goals as goal
 

@@ -1,5 +1,5 @@
-use Rattle.std.proofs.Common.{◌≡◌, ◌+◌, ◌++◌, ℕ, List, [], ◌∷◌, Bool, Option, cond, length, map, true, false, None, Some, inl, inr, ◌⊎◌, refl, sym, ap, ap₂, subst, ◌∙◌}
-use Rattle.std.specs.Prelude.{filter, not, Contains, IfSome, IsTrue}
+use Rattle.std.proofs.Common.{◌≡◌, ◌+◌, ◌++◌, ℕ, List, [], ◌∷◌, Option, cond, length, map, true, false, None, Some, inl, inr, ◌⊎◌, sym, ap, subst, ◌∙◌}
+use Rattle.std.specs.Prelude.{filter, Contains, IfSome, IsTrue}
 use Rattle.std.specs.List.{AllByRecursion}
 use Rattle.std.proofs.lemmas.List.{append_assoc, append-nil, map-append}
 use Rattle.std.proofs.lemmas.List.Elements.{Contains-append_right}
