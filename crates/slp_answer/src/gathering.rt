@@ -41,6 +41,7 @@ fn looks_at_once(query: &ServiceQuery, bytes: usize) -> usize
 }
 
 // Answers a question about services; where that takes many looks, it gathers what the question is about.
+#[inline(always)]
 fn begin_services<R: Registry>(
     alloc: Global,
     directory: &Directory<R>,
@@ -70,6 +71,7 @@ fn begin_services<R: Registry>(
 }
 
 // Answers a question; of one that may take long it gathers what that is about.
+#[inline(always)]
 fn begin_question<R: Registry>(
     alloc: Global,
     directory: &Directory<R>,
@@ -103,6 +105,7 @@ fn begin_question<R: Registry>(
 
 /// Answers what was read of a question, into an answer that is empty; of one that may take long it gathers what that is about, and leaves the answer
 /// as it is. After `NoMemory` that may hold anything.
+#[inline(always)]
 pub fn begin_asked<R: Registry>(
     alloc: Global,
     directory: &Directory<R>,
@@ -131,6 +134,7 @@ pub fn begin_asked<R: Registry>(
 }
 
 // Answers a question from what was gathered for it.
+#[inline(never)]
 fn answer_gathered<R: Registry>(
     alloc: Global,
     gathered: &Gathered,
@@ -161,6 +165,7 @@ fn answer_gathered<R: Registry>(
 }
 
 // Answers what was begun.
+#[inline(always)]
 fn end_begun<R: Registry>(
     alloc: Global,
     begun: Begun,
@@ -183,6 +188,7 @@ fn end_begun<R: Registry>(
 }
 
 /// Answers what was begun, from what was gathered where that is left. After `NoMemory` the answer is empty.
+#[inline(always)]
 pub fn end_asked<R: Registry>(
     alloc: Global,
     begun: Result<Begun, NoMemory>,

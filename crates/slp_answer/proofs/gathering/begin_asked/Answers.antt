@@ -1,19 +1,16 @@
-use Rattle.std.proofs.Common.{◌≡◌, Option, Result, true, false, sym, subst}
-use Rattle.std.specs.Prelude.{MatchOption}
-use Rattle.slp_fields.specs.declared.fault.WireFault.{WireFault}
+use Rattle.std.proofs.Common.{List, ℕ, subst, ◌∙◌}
+use Rattle.std.specs.Prelude.{MatchResult}
+use Rattle.slp_headers.specs.Headers.{heading_in}
 use Rattle.directory_questions.specs.Calls.{call_in}
-use Rattle.directory_questions.specs.declared.question.Question.{Question}
-use Rattle.slp_answer.specs.Gathering.{is_always_gathered, is_gathered, IsBegunAt, IsGatheredFor}
-use Rattle.directory_state.specs.declared.gathered.Gathered.{Gathered}
-use Rattle.slp_answer.specs.declared.gathering.Begun.TheVariants.{Left}
-use Rattle.slp_answer.proofs.LeftQuestions.{gathered-at}
+use Rattle.directory_questions.specs.Readings.{IsAsked, IsUnread}
+use Rattle.slp_answer.proofs.AnswersTold.{fault-replies}
 use Rattle.slp_answer.proofs.gathering.begin_asked.Goals as goal
 
-pub returns-clause-told : goal.returns-clause-told
-returns-clause-told g c = λ o h fold legal.
-    let answer = c.args.answer.now in
-    let posed = c.in-Ok.posed in
-    let s = c.args.directory.now in
-    let is = subst (λ (o : Option Gathered). MatchOption o (is_always_gathered posed ≡ false) (λ g. (is_gathered posed ≡ true) × IsGatheredFor posed s g)) c.in-Some.is c.in_ok-gathered.ensures in
-    subst (λ (r : Result Question WireFault). IsBegunAt o h (call_in c.args.heard.now.call.now) r (Left c.in-Some.gathered) answer.bytes.items answer.audit.items) (sym c.in-Ok.is)
-    (gathered-at o h s posed c.in-Some.gathered fold is.1)
+pub returns-in_ok-sent-in-Err-clause-told : goal.returns-in_ok-sent-in-Err-clause-told
+returns-in_ok-sent-in-Err-clause-told g c = λ o h fold legal.
+    let heard = c.args.heard.now in
+    let bytes : List ℕ = heard.call.now.bytes.now in
+    let answer = c.fault.new.answer in
+    let unread : IsUnread bytes c.in-Err.fault = subst (λ r. MatchResult r (IsAsked heard.call.now.own bytes) (IsUnread bytes)) c.in-Err.is c.requires.read in
+    fault-replies o h (call_in heard.call.now) c.in_ok-sent-in-Err.sent answer.bytes.items answer.audit.items (heading_in heard.header) c.in-Err.fault c.rules.result.now (c.rules.ensures ∙ fold.ruled) heard.headed unread
+    c.in_ok-sent-in-Err.ensures
