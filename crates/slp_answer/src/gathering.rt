@@ -25,17 +25,16 @@ pub enum Begun {
     Left(Gathered),
 }
 
-/// While the directory is read, a question with a filter looks at so many entries that these times its bytes are no more: that is a few milliseconds, if the
-/// entries are not long.
-const MOST_AT_ONCE: usize = 200_000;
+/// While the directory is read, a question with a filter looks at so many entries that these times the square of its bytes are no more. A look takes time for
+/// the bytes and for the values of its entry: that is a millisecond or two of entries with few values, and 200 of such as have 5,000 each.
+const MOST_AT_ONCE: usize = 4_000_000;
 
-// How many entries a question of so many bytes looks at while the directory is read: with a filter no more than that takes a short while. That decides where
-// it is answered, and not what.
+// How many entries a question of so many bytes looks at while the directory is read. That decides where it is answered, and not what.
 fn looks_at_once(query: &ServiceQuery, bytes: usize) -> usize
     ensures { is_some query.now.filter ≡ false → result ≡ 2 ^ 64 - 1 }
 {
     match &query.filter {
-        Some(_) => MOST_AT_ONCE / bytes.max(1),
+        Some(_) => MOST_AT_ONCE / bytes.saturating_mul(bytes).max(1),
         None => usize::MAX,
     }
 }
