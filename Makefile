@@ -97,11 +97,11 @@ scripts:
 	@contrib/try
 
 bench:
-	@bench/instructions bin/slpreplay
 	@make/build script_rows
-	@bench/views bin/script_rows
-	@bench/worst bin/slpreplay
-	@bench/server bin/slpda
+	@status=0; \
+	for each in "instructions bin/slpreplay" "views bin/script_rows" "worst bin/slpreplay" "server bin/slpda"; do \
+	  bench/$$each || status=1; \
+	done; exit $$status
 
 refusals:
 	@make/build $(programs)
