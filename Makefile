@@ -111,6 +111,7 @@ refusals:
 # Another seed=TEXT than 1 brings other messages.
 hostile:
 	@hostile/try bin/slpda $(or $(count),10000000) $(seed)
+	@hostile/beside
 
 # One program alone, with what it needs.
 .PHONY: $(addprefix bin/,$(programs))

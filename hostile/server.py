@@ -22,8 +22,8 @@ RULES = [
 ]
 RULE = '[[rule]]\nname = "{}"\nfrom = ["{}"]\naction = "{}"\ntype = "*"\nscopes = ["{}"]\nverdict = "allow"\n'
 CONFIGURATION = """scopes = "{scopes}"
-listen = ["127.0.0.1:{port}", "127.0.0.2:{port}"]
-capacity = 1024
+listen = [{listen}]
+capacity = {capacity}
 connections = {connections}
 sweep = 1
 rules = "rules.toml"
@@ -33,15 +33,15 @@ LINE = re.compile(
 )
 
 
-def free_port():
-    """A port that is free at both addresses for datagrams and for streams."""
+def free_port(addresses):
+    """A port that is free at all addresses for datagrams and for streams."""
     for _ in range(100):
-        sockets = [socket.socket(type=it) for it in (socket.SOCK_STREAM, socket.SOCK_DGRAM) * 2]
+        sockets = [socket.socket(type=it) for it in (socket.SOCK_STREAM, socket.SOCK_DGRAM) for _ in addresses]
         try:
-            sockets[0].bind((ATTACKED, 0))
-            port = sockets[0].getsockname()[1]
-            for it, address in zip(sockets[1:], (ATTACKED, ASKED, ASKED)):
+            port = 0
+            for it, address in zip(sockets, addresses * 2):
                 it.bind((address, port))
+                port = it.getsockname()[1]
             return port
         except OSError:
             continue
@@ -72,12 +72,13 @@ def read_log(server, told):
 class Server:
     """A slpda with this site. Whoever enters it gets it once it is ready; it is ended by its own process number."""
 
-    def __init__(self, program, folder, rules=RULES, scopes="DEFAULT,quiet"):
-        self.port, self.lines, self.calm = free_port(), [], 0
+    def __init__(self, program, folder, rules=RULES, scopes="DEFAULT,quiet", addresses=(ATTACKED, ASKED), capacity=1024):
+        self.port, self.lines, self.calm = free_port(addresses), [], 0
         with open(f"{folder}/rules.toml", "w") as it:
             it.write("version = 1\n" + "".join(RULE.format(*rule) for rule in rules))
         with open(f"{folder}/slpda.toml", "w") as it:
-            it.write(CONFIGURATION.format(scopes=scopes, port=self.port, connections=CONNECTIONS))
+            listen = ", ".join(f'"{address}:{self.port}"' for address in addresses)
+            it.write(CONFIGURATION.format(scopes=scopes, listen=listen, capacity=capacity, connections=CONNECTIONS))
         self.process = subprocess.Popen([program, "slpda.toml"], cwd=folder, stdin=subprocess.PIPE, stdout=subprocess.PIPE, text=True)
         fcntl.fcntl(self.process.stdout, fcntl.F_SETPIPE_SZ, 1 << 20)
         self.told, telling = multiprocessing.Pipe(False)
