@@ -9,11 +9,12 @@ ghost use Rattle.published_view.specs.Changes.{written_at};
 ghost use Rattle.published_view.specs.declared.fault.ViewFault.{ViewFault};
 
 use crate::fault::{ReloadFault, refused_rules, unread_rules};
+use crate::sweeping::wait_for_loops;
 use crate::threads::Task;
 use access_rules::Rules;
 use agent_watch::{Act, Input, Word, hear};
 use arrayvec::ArrayVec;
-use published_view::{DirectoryWriter, Naming, ViewFault};
+use published_view::{DirectoryWriter, Gate, Naming, ViewFault};
 use rule_files::RuleFault;
 use site_opening::rules_at;
 use site_reports::print_rules;
@@ -29,12 +30,13 @@ use std::time::Clock;
 /// No text of a reload is longer.
 const LONGEST_TEXT: usize = 64;
 
-/// What acts on words: the writer, which it shares with the loops, the output, the rule file and the clock. Contracts see the output.
+/// What acts on words: the writer and the gate, which it shares with the loops, the output, the rule file and the clock. Contracts see the output.
 #[derive(Drop)]
-pub(crate) struct Console<'r, 's, J: Naming, R: Wait + Clock, L: Log + Drop> {
+pub(crate) struct Console<'r, 's, J: Naming, R: Wait + Clock, G: Gate, L: Log + Drop> {
     pub rt: &'r R,
     pub alloc: Global,
     pub writer: &'s Mutex<DirectoryWriter<J, &'r R>>,
+    pub gate: &'s G,
     pub output: L,
     pub rules: Option<&'s Text>,
     pub clock: WallClock<'r, R>,
@@ -91,10 +93,11 @@ fn sweep_and_tell<J: Naming, Q: Wait + Drop>(
     sweep_line(writer.sweep(moment))
 }
 
-impl<'r, 's, J, R, L> Console<'r, 's, J, R, L>
+impl<'r, 's, J, R, G, L> Console<'r, 's, J, R, G, L>
 where
     J: Naming,
     R: Files + Wait + Clock,
+    G: Gate,
     L: Log + Drop,
 {
     // Lets these rules decide from now on, and answers how many there are.
@@ -102,9 +105,12 @@ where
         ensures output { self.new.output ≡ self.old.output }
         ensures refused { IfErr result IsRefused }
     {
+        wait_for_loops(self.rt, self.gate);
         let moment = self.clock.now();
         let mut writer = self.writer.lock(self.rt);
-        put_rules(&mut *writer, self.alloc, moment, rules)
+        let told = put_rules(&mut *writer, self.alloc, moment, rules);
+        self.gate.changed();
+        told
     }
 
     // Reads the rule file again. Its rules decide from then on, unless they are refused.
@@ -131,16 +137,20 @@ where
     fn sweep(&mut self) -> &'static str
         ensures { (self.new.output ≡ self.old.output) × ((told : Result (Unit {0}) ViewFault) × (result.now ≡ sweep_text told)) }
     {
+        wait_for_loops(self.rt, self.gate);
         let moment = self.clock.now();
         let mut writer = self.writer.lock(self.rt);
-        sweep_and_tell(&mut *writer, moment)
+        let line = sweep_and_tell(&mut *writer, moment);
+        self.gate.changed();
+        line
     }
 }
 
-impl<'r, 's, J, R, L> Act for Console<'r, 's, J, R, L>
+impl<'r, 's, J, R, G, L> Act for Console<'r, 's, J, R, G, L>
 where
     J: Naming,
     R: Files + Wait + Clock,
+    G: Gate,
     L: Log + Drop,
 {
     ghost use Rattle.std.specs.Prelude.{◌≡◌};
@@ -171,15 +181,24 @@ where
 
 /// A console and the input of its words.
 #[derive(Drop)]
-pub(crate) struct Operator<'r, 's, J: Naming, R: Wait + Clock, L: Log + Drop, I: Input + Drop> {
-    pub console: Console<'r, 's, J, R, L>,
+pub(crate) struct Operator<
+    'r,
+    's,
+    J: Naming,
+    R: Wait + Clock,
+    G: Gate,
+    L: Log + Drop,
+    I: Input + Drop,
+> {
+    pub console: Console<'r, 's, J, R, G, L>,
     pub input: I,
 }
 
-impl<'r, 's, J, R, L, I> Task for Operator<'r, 's, J, R, L, I>
+impl<'r, 's, J, R, G, L, I> Task for Operator<'r, 's, J, R, G, L, I>
 where
     J: Naming,
     R: Files + Wait + Clock,
+    G: Gate,
     L: Log + Drop,
     I: Input + Drop,
 {

@@ -6,7 +6,7 @@ ghost use Rattle.agent_program.specs.Statuses.{usage_text};
 ghost use Rattle.site_opening.specs.Words.{path_in};
 
 use crate::starting::{Ends, start_loops};
-use published_view::OpenGate;
+use published_view::CountingGate;
 use site_opening::config_path;
 use std::alloc::Global;
 use std::io::{self, ErrorKind, Read, Write};
@@ -67,10 +67,11 @@ where
         return USAGE;
     };
     let (input, output) = (Mutex::new(reader), Mutex::new(writer));
+    let gate = CountingGate::new();
     let ends = Ends {
         input: &input,
         output: &output,
-        gate: &OpenGate,
+        gate: &gate,
     };
     start_loops(rt, alloc, path, &ends)
 }

@@ -41,7 +41,7 @@ type AgentDesk<'r, 's, J, R, G, W> = Desk<
     SharedOutput<'r, 's, R, W>,
 >;
 
-type AgentJob<'r, 's, J, R, G, W> = Job<AgentDesk<'r, 's, J, R, G, W>, Sweeping<'r, 's, J, R>>;
+type AgentJob<'r, 's, J, R, G, W> = Job<AgentDesk<'r, 's, J, R, G, W>, Sweeping<'r, 's, J, R, G>>;
 
 // The desk for messages that come to one of the addresses of a configuration.
 fn desk_at<'r, 's, J, R, G, W>(
@@ -121,7 +121,7 @@ where
         let job = loop_at(config, jobs.len(), view, shared)?;
         jobs.push(job)?;
     }
-    let sweeping = Sweeping::new(shared.rt, shared.writer, config.sweep);
+    let sweeping = Sweeping::new(shared.rt, shared.writer, shared.gate, config.sweep);
     jobs.push(Job::Other(sweeping))?;
     Ok(jobs)
 }
@@ -146,6 +146,7 @@ where
         rt: shared.rt,
         alloc: shared.alloc,
         writer: shared.writer,
+        gate: shared.gate,
         output: SharedOutput {
             rt: shared.rt,
             output: shared.output,

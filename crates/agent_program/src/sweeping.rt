@@ -5,29 +5,44 @@ ghost use Rattle.expiry_sweep.specs.Schedules.{timing_after};
 use crate::threads::Task;
 use agent_watch::{Watch, sweep_on};
 use expiry_sweep::{Schedule, Sweeper};
-use published_view::{DirectoryWriter, Naming};
+use published_view::{DirectoryWriter, Gate, Naming};
 use slp_loops::{Moments, WallClock};
 use std::sync::atomic::{AtomicBool, Ordering};
 use std::sync::{Mutex, Wait};
 use std::thread;
 use std::time::{Clock, Duration};
 
+/// How many milliseconds a sweep or a reload leaves to loops that are inside, at most.
+const PATIENCE: u32 = 1_000;
+
+/// Naps while a change would wait for a loop that is inside, so that it waits without the writer's lock. Takes no memory.
+pub(crate) fn wait_for_loops<R: Wait + Clock, G: Gate>(rt: &R, gate: &G) {
+    for _ in 0..PATIENCE {
+        if !gate.is_waited_for() {
+            return;
+        }
+        thread::sleep(rt, Duration::from_millis(1));
+    }
+}
+
 /// Turns a sweeper once a second.
 #[derive(Drop)]
-pub(crate) struct Sweeping<'r, 's, J: Naming, R: Wait + Clock> {
+pub(crate) struct Sweeping<'r, 's, J: Naming, R: Wait + Clock, G: Gate> {
     rt: &'r R,
     writer: &'s Mutex<DirectoryWriter<J, &'r R>>,
+    gate: &'s G,
     clock: WallClock<'r, R>,
     sweeper: Sweeper,
 }
 
-impl<'r, 's, J: Naming, R: Wait + Clock> Sweeping<'r, 's, J, R> {
+impl<'r, 's, J: Naming, R: Wait + Clock, G: Gate> Sweeping<'r, 's, J, R, G> {
     /// Sweeps first when so many seconds have passed.
     pub(crate) fn new(
         rt: &'r R,
         writer: &'s Mutex<DirectoryWriter<J, &'r R>>,
+        gate: &'s G,
         interval: u32,
-    ) -> Sweeping<'r, 's, J, R>
+    ) -> Sweeping<'r, 's, J, R, G>
         ensures { (moment : ℕ) × (result.sweeper ≡ record { interval = interval; last = moment }) }
     {
         let mut clock = WallClock::new(rt);
@@ -35,6 +50,7 @@ impl<'r, 's, J: Naming, R: Wait + Clock> Sweeping<'r, 's, J, R> {
         Sweeping {
             rt,
             writer,
+            gate,
             clock,
             sweeper: Sweeper::new(schedule),
         }
@@ -44,12 +60,15 @@ impl<'r, 's, J: Naming, R: Wait + Clock> Sweeping<'r, 's, J, R> {
     fn sweep(&mut self)
         ensures { self.new.sweeper ≡ timing_after self.old.sweeper self.new.clock }
     {
+        wait_for_loops(self.rt, self.gate);
         let now = self.clock.now();
-        let _ = self.sweeper.turn(self.rt, now, self.writer);
+        if let Ok(true) = self.sweeper.turn(self.rt, now, self.writer) {
+            self.gate.changed();
+        }
     }
 }
 
-impl<'r, 's, J: Naming, R: Wait + Clock> Watch for Sweeping<'r, 's, J, R> {
+impl<'r, 's, J: Naming, R: Wait + Clock, G: Gate> Watch for Sweeping<'r, 's, J, R, G> {
     ghost use Rattle.agent_program.specs.Turns.{Moves};
 
     // Nothing is said of the flag, of how long a nap lasts, or of what lies under the lock.
@@ -68,7 +87,7 @@ impl<'r, 's, J: Naming, R: Wait + Clock> Watch for Sweeping<'r, 's, J, R> {
     }
 }
 
-impl<'r, 's, J: Naming, R: Wait + Clock> Task for Sweeping<'r, 's, J, R> {
+impl<'r, 's, J: Naming, R: Wait + Clock, G: Gate> Task for Sweeping<'r, 's, J, R, G> {
     fn run(&mut self, stop: &AtomicBool) {
         sweep_on(self.rt, self, stop);
     }

@@ -5,7 +5,7 @@
 
 use agent_program::{Ends, agent_run, start_loops};
 use agent_scenes::{CONFIG, Meeting, PATIENT, Props, Scene, open_terminal, words_of};
-use published_view::Gate;
+use published_view::{CountingGate, Gate};
 use std::alloc::Global;
 use std::io::{self, Read, Write};
 use std::net::Net;
@@ -21,12 +21,26 @@ const START: &str = "\nstart";
 // The gate of an agent with a meeting.
 #[derive(Drop)]
 struct MeetingGate<'x> {
+    counting: CountingGate,
     meeting: &'x Meeting,
 }
 
 impl<'x> Gate for MeetingGate<'x> {
     fn inside(&self, place: usize) {
+        self.counting.inside(place);
         self.meeting.hold(place);
+    }
+
+    fn outside(&self, place: usize) {
+        self.counting.outside(place);
+    }
+
+    fn changed(&self) {
+        self.counting.changed();
+    }
+
+    fn is_waited_for(&self) -> bool {
+        self.counting.is_waited_for()
     }
 }
 
@@ -58,6 +72,7 @@ where
     W: Write + Send,
 {
     let gate = MeetingGate {
+        counting: CountingGate::new(),
         meeting: &props.meeting,
     };
     let (input, output) = (Mutex::new(reader), Mutex::new(writer));

@@ -65,6 +65,8 @@ pub(crate) enum AgentRow {
     /// A line is typed, and this after it.
     Console(&'static str),
     TwoLoopsAtOnce,
+    Enter,
+    Leave,
     Pause,
     Idle,
 }
@@ -81,7 +83,7 @@ pub(crate) enum ToolRow {
 }
 
 /// The rows by their words.
-static ROWS: [(&str, Row); 43] = [
+static ROWS: [(&str, Row); 45] = [
     ("at", Row::Place(PlaceRow::At)),
     ("from", Row::Place(PlaceRow::From)),
     ("near", Row::Place(PlaceRow::Near)),
@@ -116,6 +118,8 @@ static ROWS: [(&str, Row); 43] = [
     ("console", Row::Agent(AgentRow::Console("\n"))),
     ("unended", Row::Agent(AgentRow::Console(""))),
     ("two_loops_at_once", Row::Agent(AgentRow::TwoLoopsAtOnce)),
+    ("enter", Row::Agent(AgentRow::Enter)),
+    ("leave", Row::Agent(AgentRow::Leave)),
     ("pause", Row::Agent(AgentRow::Pause)),
     ("idle", Row::Agent(AgentRow::Idle)),
     ("tool", Row::Tool(ToolRow::Tool)),

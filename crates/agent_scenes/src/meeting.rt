@@ -3,15 +3,15 @@ use std::sync::atomic::{AtomicBool, Ordering};
 use std::thread;
 use std::time::{Clock, Duration};
 
-/// So often it is looked whether the second loop has answered.
-const TURNS: u64 = 200_000_000;
+/// So often it is looked whether the second loop has answered, or the first may go on.
+const TURNS: u64 = 5_000_000_000;
 
 /// How often it is looked whether the first loop is inside, and how long between, in milliseconds.
 const LOOKS: u32 = 1_000;
 
 const NAP: u64 = 5;
 
-/// Keeps the first loop inside an entry until the second has answered. It does so once, and only where it was called.
+/// Keeps the first loop inside an entry until the second has answered. It does so once each time it is called.
 #[derive(Drop)]
 pub struct Meeting {
     is_called: AtomicBool,
@@ -32,6 +32,8 @@ impl Meeting {
 
     /// The next entry of the first loop is held.
     pub(crate) fn call(&self) {
+        self.is_first_inside.store(false, Ordering::SeqCst);
+        self.has_second_answered.store(false, Ordering::SeqCst);
         self.is_called.store(true, Ordering::SeqCst);
     }
 
@@ -40,14 +42,15 @@ impl Meeting {
         self.has_second_answered.store(true, Ordering::SeqCst);
     }
 
-    /// Waits until the first loop is inside, for five seconds at most.
-    pub(crate) fn wait_for_first<R: Clock>(&self, rt: &R) {
+    /// Waits until the first loop is inside, for five seconds at most, and answers whether it is.
+    pub(crate) fn wait_for_first<R: Clock>(&self, rt: &R) -> bool {
         for _ in 0..LOOKS {
             if self.is_first_inside.load(Ordering::SeqCst) {
-                return;
+                return true;
             }
             thread::sleep(rt, Duration::from_millis(NAP));
         }
+        false
     }
 
     /// Whether the second loop answered while the first was inside.

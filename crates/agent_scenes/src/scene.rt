@@ -77,7 +77,7 @@ pub struct Scene<'r, R> {
     streams: Vec<TcpStream>,
     sent: Vec<Sent>,
     answers: Answers,
-    held: Option<UdpSocket>,
+    pub(crate) held: Option<UdpSocket>,
     taken: Option<TcpListener>,
     files: Vec<File>,
     block: Option<Block>,
@@ -307,6 +307,8 @@ where
                 Ok(())
             }
             AgentRow::TwoLoopsAtOnce => self.two_loops_at_once(rest, out),
+            AgentRow::Enter => self.enter(rest, out),
+            AgentRow::Leave => self.leave(out),
             AgentRow::Pause => {
                 thread::sleep(self.rt, Duration::from_millis(number_of(rest, 10_000)));
                 Ok(())

@@ -209,6 +209,7 @@ impl<'a> Shortlist<'a> {
     }
 
     // The URL after which nothing is kept, where there is no room for more.
+    #[inline(always)]
     fn bound(&self) -> Option<&'a Url>
         requires { IsKept self.now }
         ensures { IfSome result (λ url. IsBound (cost_in self.now.room) (bytes_in self.now.room) url.now self.now.latest) }
@@ -232,6 +233,7 @@ impl<'a> Shortlist<'a> {
     }
 
     // The next entry of the type that may be kept, with the number to go on from.
+    #[inline(always)]
     fn next<R: Registry>(
         &self,
         registry: &'a R,
@@ -255,10 +257,10 @@ impl<'a> Shortlist<'a> {
     }
 
     // Finds the entries that are live now, of a type that is covered, and open to the asker. Where nothing is found,
-    // it says what was seen, by its language. It gives up where it would have to look at more entries than `looks`.
-    // A function of its own in the machine's code as well, so that its loop keeps its registers.
+    // it says what was seen, by its language. Where it is bounded, it gives up where it would have to look at more entries than `looks`.
+    // A function of its own in the machine's code as well, for each of both, so that its loop keeps its registers.
     #[inline(never)]
-    fn collect<R: Registry>(
+    fn collect<R: Registry, const IS_BOUNDED: bool>(
         &mut self,
         registry: &'a R,
         question: &Search<'_>,
@@ -277,10 +279,12 @@ impl<'a> Shortlist<'a> {
         let mut from = 0;
         let mut left = looks;
         while let Some((entry, next)) = self.next(registry, question, from) {
-            if left == 0 {
-                return Ok(None);
+            if IS_BOUNDED {
+                if left == 0 {
+                    return Ok(None);
+                }
+                left -= 1;
             }
-            left -= 1;
             spoken = self.look(entry, question, spoken, &mut last)?;
             from = next;
         }
@@ -328,8 +332,11 @@ impl<'a> Shortlist<'a> {
         ensures ended { IfOk result (λ o. IfNone o (¬ IsUnbounded source.now)) }
     {
         match source {
+            Source::Whole(directory, usize::MAX) => {
+                self.collect::<R, false>(directory.registry(), question, usize::MAX)
+            }
             Source::Whole(directory, looks) => {
-                self.collect(directory.registry(), question, *looks)
+                self.collect::<R, true>(directory.registry(), question, *looks)
             }
             Source::Part(gathered) => {
                 let spoken = self.collect_shares(&gathered.entries, question)?;

@@ -93,7 +93,9 @@ pub fn unheard<J: Naming, G: Gate, Q: Asks>(
     match reader.enter_as::<Sees<J, Q>>() {
         Ok(reading) => {
             gate.inside(place);
-            (reading.leave(), Ok(Sent::Silence))
+            let reader = reading.leave();
+            gate.outside(place);
+            (reader, Ok(Sent::Silence))
         }
         Err(reader) => (reader, Err(ViewFault::Closed)),
     }
@@ -124,6 +126,7 @@ pub fn answered<J: Naming, G: Gate, Q: Asks>(
             let copy = reading.get();
             let begun = begin_asked(alloc, &copy.directory, heard, read, answer);
             let reader = reading.leave();
+            gate.outside(place);
             let sent = end_asked::<SiteRegistry>(alloc, begun, heard, read, answer);
             (reader, Ok(sent))
         }

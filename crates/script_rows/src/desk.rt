@@ -22,6 +22,10 @@ impl Moments for Still {
     fn now(&mut self) -> u32 {
         self.0
     }
+
+    fn micros(&self) -> u64 {
+        0
+    }
 }
 
 /// What a desk and a sweeper share.

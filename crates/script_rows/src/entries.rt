@@ -41,6 +41,14 @@ impl Gate for Meeting {
             self.were_both_inside.store(true, Ordering::SeqCst);
         }
     }
+
+    fn outside(&self, _place: usize) {}
+
+    fn changed(&self) {}
+
+    fn is_waited_for(&self) -> bool {
+        false
+    }
 }
 
 // What was seen of a loop that was held.
@@ -131,6 +139,14 @@ impl<'a, J: Naming, R: Wait> Gate for Hold<'a, J, R> {
         let is_published = self.is_second_published.load(Ordering::SeqCst);
         self.was_second_published
             .store(is_published, Ordering::SeqCst);
+    }
+
+    fn outside(&self, _place: usize) {}
+
+    fn changed(&self) {}
+
+    fn is_waited_for(&self) -> bool {
+        false
     }
 }
 

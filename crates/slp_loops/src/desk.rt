@@ -1,5 +1,5 @@
 //! The desk: what serves the messages of one address.
-ghost use Rattle.std.specs.Prelude.{◌≡◌, ◌⊎◌, [], true, None, IfOk, OnErr, OnOk};
+ghost use Rattle.std.specs.Prelude.{◌≡◌, ◌⊎◌, ◌↔◌, [], true, None, Some, slice_get, IfOk, IsTrue, OnErr, OnOk};
 ghost use Rattle.directory_questions.specs.Calls.{call_in};
 ghost use Rattle.directory_questions.specs.Requests.{function_in, is_change_function};
 ghost use Rattle.directory_questions.specs.Verdicts.{IsLegal};
@@ -13,11 +13,15 @@ use crate::log::{Lines, Log, SharedOutput};
 use addresses::Addr;
 use published_view::{DirectoryWriter, Gate, LoopView, Naming, Note, ViewFault};
 use slp_answer::{Answer, Call, Heard, Sent, refused_line_of};
+use slp_messages::function::{ATTRIBUTE_REQUEST, REGISTRATION, WITHDRAWAL};
 use slp_sockets::{Moments, Serve};
 use slp_text::NoMemory;
 use std::alloc::Global;
 use std::io::Write;
 use std::sync::{Mutex, Wait};
+
+/// A message of no more bytes that is not about attributes is not timed.
+const SHORT: usize = 128;
 
 /// What the threads of a server share: the writer, what is called inside each entry, and the output to which lines are written.
 #[derive(Drop)]
@@ -60,6 +64,20 @@ impl<'r, 's, J: Naming, R: Wait, M: Moments + Drop, G: Gate, L: Log + Drop> Drop
             told: _,
         } = self;
     }
+}
+
+// Whether a message with which these bytes begin asks for a change, by the function in its header.
+fn asks_for_change(bytes: &[u8]) -> bool
+    ensures { IsTrue result ↔ ((slice_get bytes.now 1 ≡ Some 3) ⊎ (slice_get bytes.now 1 ≡ Some 4)) }
+{
+    matches!(bytes.get(1), Some(&(REGISTRATION | WITHDRAWAL)))
+}
+
+// The same of attributes.
+fn asks_for_attributes(bytes: &[u8]) -> bool
+    ensures { IsTrue result ↔ (slice_get bytes.now 1 ≡ Some 6) }
+{
+    bytes.get(1) == Some(&ATTRIBUTE_REQUEST)
 }
 
 // What came of a change, and how far its writer then was.
@@ -138,6 +156,7 @@ impl<'r, 's, J: Naming, R: Wait, M: Moments + Drop, G: Gate, L: Log + Drop> Desk
     {
         let mut writer = self.writer.lock(self.rt);
         let changed = change_and_note(&mut *writer, self.alloc, heard, answer);
+        self.gate.changed();
         drop(writer);
         let (sent, note) = changed?;
         self.told = match note {
@@ -186,6 +205,19 @@ impl<'r, 's, J: Naming, R: Wait, M: Moments + Drop, G: Gate, L: Log + Drop> Serv
         (record { own = after.own; moments = after.moments; view = after.view; told = after.told; lines = after.lines }) };
 
     ghost settles = { λ before after. (after ≡ record before { lines = after.lines }) × IsOut L.writes before.lines after.lines };
+
+    // A change waits where its publish would have to wait for a loop that is inside. A question waits for nothing.
+    fn waits(&self, bytes: &[u8]) -> bool {
+        asks_for_change(bytes) && self.gate.is_waited_for()
+    }
+
+    fn may_last(&self, message: &[u8]) -> bool {
+        message.len() > SHORT || asks_for_attributes(message)
+    }
+
+    fn micros(&self) -> u64 {
+        self.moments.micros()
+    }
 
     fn serve(
         &mut self,

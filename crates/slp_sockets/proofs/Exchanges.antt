@@ -1,16 +1,16 @@
 -- The exchanges of a loop, one after the other.
-use Rattle.std.proofs.Common.{◌≡◌, ◌≤◌, ◌<◌, ℕ, ◌+◌, List, [], ◌∷◌, ◌++◌, map, take, drop, set, length, get_or, Option, Some, None, Result, Ok, refl, sym, ap, ◌∙◌, subst, arith, length-drop}
-use Rattle.std.proofs.lemmas.List.{append-nil, map-append, length-map, map_more, take_more, take_more_set, take-set, take_all, length-take-le, drop_more, drop-set-lt}
+use Rattle.std.proofs.Common.{◌≡◌, ◌≤◌, ◌<◌, ℕ, ◌+◌, List, [], ◌∷◌, ◌++◌, map, take, drop, set, length, get_or, Option, Some, None, Result, Ok, refl, sym, ap, ◌∙◌, subst, arith, inl, inr, length-drop}
+use Rattle.std.proofs.lemmas.List.{append-nil, append_assoc, map-append, length-map, map_more, take_more, take_more_set, take-set, take_all, length-take-le, drop_more, drop-set-lt}
 use Rattle.std.proofs.lemmas.Grind.{flat_map-append}
 use Rattle.std.specs.declared.io.Error.{Error}
 use Rattle.slp_sockets.specs.Exchanging.{back, datagram, datagrams, dues, all_dues, Stopped}
-use Rattle.slp_sockets.specs.Ports.{Datagram, Happening, Came, Paused, Left, Ports, Runs, ServedFor, AreAnswered, IsRound, Says, IsThrough, asker_of, owed, pausing}
+use Rattle.slp_sockets.specs.Ports.{Datagram, Happening, Came, Paused, Left, Ports, Runs, ServedFor, IsMet, AreMet, AreTakenUp, IsRound, Says, IsThrough, asker_of, owed, pausing}
 use Rattle.slp_sockets.specs.Serving.{Steps, Settles}
 use Rattle.slp_sockets.specs.declared.exchange.Exchange.{Exchange}
 use Rattle.slp_sockets.specs.declared.exchange.Rest.{Rest}
 use Rattle.slp_sockets.specs.declared.exchange.Rest.TheVariants.{More}
 use Rattle.slp_sockets.specs.declared.fault.LoopFault.{LoopFault}
-use Rattle.slp_sockets.proofs.Ports.{runs_on, runs_one, answered_on, answered_one, through}
+use Rattle.slp_sockets.proofs.Ports.{runs_on, runs_one, met_on, met_one, first_is, others_are, taken_next, taken_none, through}
 
 module _ {P : Type 0} (may : Ports P) (es : List Exchange) (i : ℕ) (lt : i < length es) where
   came_more : (y : Exchange) → map Came (datagrams (take (i + 1) (set es i y))) ≡ map Came (datagrams (take i es)) ++ Came (datagram y) ∷ []
@@ -44,13 +44,6 @@ module _ {P : Type 0} (may : Ports P) (es : List Exchange) (i : ℕ) (lt : i < l
       ap (map Left) ds ∙ map-append Left (all_dues (take i es)) (dues x) in
       subst (λ hs. Runs may a hs c) (sym is) (runs_on may a (map Left (all_dues (take i es))) (map Left (dues x)) b c before one)
 
--- the first of a list and the others
-first_is : {X : Type 0} (a b : X) (xs ys : List X) → a ∷ xs ≡ b ∷ ys → a ≡ b
-first_is a b xs ys is = cc
-
-others_are : {X : Type 0} (a b : X) (xs ys : List X) → a ∷ xs ≡ b ∷ ys → xs ≡ ys
-others_are a b xs ys is = cc
-
 -- lists that are the same from a place on
 module _ (fs es : List Exchange) (i : ℕ) (x : Exchange) (lt : i < length es) (same : drop i es ≡ drop i fs) where
   pub within : i < length fs
@@ -65,24 +58,32 @@ module _ (fs es : List Exchange) (i : ℕ) (x : Exchange) (lt : i < length es) (
   pub same_later : (y : Exchange) → drop (i + 1) (set es i y) ≡ drop (i + 1) fs
   same_later y = drop-set-lt (i + 1) es i y (omega arith) ∙ others_are (get_or es i x) (get_or fs i x) (drop (i + 1) es) (drop (i + 1) fs) parts
 
--- one more was served
-pub served_more : {S : Type 0} (steps : Steps S) (fs es : List Exchange) (i : ℕ) (x y : Exchange) (a b c : S) → i < length es → x ≡ get_or es i x → drop i es ≡ drop i fs
-    → datagram y ≡ datagram x → ServedFor steps (asker_of x.from) b (datagram x).bytes (back y) c
-    → AreAnswered steps a (datagrams (take i fs)) (all_dues (take i es)) b → AreAnswered steps a (datagrams (take (i + 1) fs)) (all_dues (take (i + 1) (set es i y))) c
-served_more steps fs es i x y a b c lt read same kept one before =
+-- what a round came to so far: which were put aside behind those that were
+abbrev pub Meets : {S : Type 0} → Steps S → S → List Datagram → List Datagram → List Datagram → List Datagram → S → Type 0
+Meets steps a ds dues aside asides b = (put : List Datagram) × (asides ≡ aside ++ put) × AreMet steps a ds dues put b
+
+-- one more was served, or put aside
+pub met_more : {S : Type 0} (steps : Steps S) (fs es : List Exchange) (i : ℕ) (x y : Exchange) (a b c : S) (aside between asides : List Datagram) → i < length es → x ≡ get_or es i x → drop i es ≡ drop i fs
+    → (bytes : List ℕ) × (put : List Datagram) × (dues y ≡ owed x.from bytes) × (asides ≡ between ++ put) × IsMet steps b (datagram x) bytes put c
+    → Meets steps a (datagrams (take i fs)) (all_dues (take i es)) aside between b → Meets steps a (datagrams (take (i + 1) fs)) (all_dues (take (i + 1) (set es i y))) aside asides c
+met_more steps fs es i x y a b c aside between asides lt read same (bytes, put, due, is, one) (puts, was, before) =
     let here : get_or fs i x ≡ x = sym (read ∙ same_here fs es i x lt same) in
     let cs : datagrams (take (i + 1) fs) ≡ datagrams (take i fs) ++ datagram x ∷ [] =
     map_more datagram fs i x (within fs es i x lt same) ∙ ap (λ e. datagrams (take i fs) ++ datagram e ∷ []) here in
-    let ds : all_dues (take (i + 1) (set es i y)) ≡ all_dues (take i es) ++ owed x.from (back y) =
-    ap all_dues (take_more_set es i y lt) ∙ (flat_map-append dues (take i es) (y ∷ []) ∙ ap (λ l. all_dues (take i es) ++ l) (append-nil (dues y) ∙ ap (λ (d : Datagram). owed d.peer (back y)) kept)) in
-    let next = answered_one steps b (datagram x) (back y) c one in
-    let all = answered_on steps a (datagrams (take i fs)) (datagram x ∷ []) (all_dues (take i es)) (owed x.from (back y)) b c before next in
-    subst (λ xs. AreAnswered steps a xs (all_dues (take (i + 1) (set es i y))) c) (sym cs) (subst (λ xs. AreAnswered steps a (datagrams (take i fs) ++ datagram x ∷ []) xs c) (sym ds) all)
+    let ds : all_dues (take (i + 1) (set es i y)) ≡ all_dues (take i es) ++ owed x.from bytes =
+    ap all_dues (take_more_set es i y lt) ∙ (flat_map-append dues (take i es) (y ∷ []) ∙ ap (λ l. all_dues (take i es) ++ l) (append-nil (dues y) ∙ due)) in
+    let next = met_one steps b (datagram x) bytes put c one in
+    let all = met_on steps a (datagrams (take i fs)) (datagram x ∷ []) (all_dues (take i es)) (owed x.from bytes) puts put b c before next in (
+      puts ++ put,
+      is ∙ (ap (λ xs. xs ++ put) was ∙ append_assoc aside puts put),
+      subst (λ xs. AreMet steps a xs (all_dues (take (i + 1) (set es i y))) (puts ++ put) c) (sym cs) (subst (λ xs. AreMet steps a (datagrams (take i fs) ++ datagram x ∷ []) xs (puts ++ put) c) (sym ds) all),
+    )
 
 -- where all were gone through
-pub served_end : {S : Type 0} (steps : Steps S) (fs es : List Exchange) (i : ℕ) (a b : S) → length fs ≤ i → length es ≤ i → AreAnswered steps a (datagrams (take i fs)) (all_dues (take i es)) b → AreAnswered steps a (datagrams fs) (all_dues es) b
-served_end steps fs es i a b first second all =
-    subst (λ xs. AreAnswered steps a (datagrams xs) (all_dues es) b) (take_all i fs first) (subst (λ xs. AreAnswered steps a (datagrams (take i fs)) (all_dues xs) b) (take_all i es second) all)
+pub met_end : {S : Type 0} (steps : Steps S) (fs es : List Exchange) (i : ℕ) (a b : S) (aside asides : List Datagram) → length fs ≤ i → length es ≤ i → Meets steps a (datagrams (take i fs)) (all_dues (take i es)) aside asides b
+    → Meets steps a (datagrams fs) (all_dues es) aside asides b
+met_end steps fs es i a b aside asides first second all =
+    subst (λ xs. Meets steps a (datagrams xs) (all_dues es) aside asides b) (take_all i fs first) (subst (λ xs. Meets steps a (datagrams (take i fs)) (all_dues xs) aside asides b) (take_all i es second) all)
 
 pub sent_end : {P : Type 0} (may : Ports P) (es : List Exchange) (i : ℕ) (a b : P) → length es ≤ i → Runs may a (map Left (all_dues (take i es))) b → Runs may a (map Left (all_dues es)) b
 sent_end may es i a b all runs = subst (λ xs. Runs may a (map Left (all_dues xs)) b) (take_all i es all) runs
@@ -95,20 +96,52 @@ received_end may es i count a b same all runs = (
   (same ∙ all, refl),
 )
 
+-- what is owed for one that was served
+served_dues : (e x : Exchange) → datagram x ≡ datagram e → dues x ≡ owed e.from (back x)
+served_dues e x same = ap (λ (d : Datagram). owed d.peer (back x)) same
+
+-- one is served, with no other put aside
+pub met_served : {S : Type 0} (steps : Steps S) (x y : Exchange) (a b : S) (aside : List Datagram) → datagram y ≡ datagram x → ServedFor steps (asker_of x.from) a (datagram x).bytes (back y) b
+    → (bytes : List ℕ) × (put : List Datagram) × (dues y ≡ owed x.from bytes) × (aside ≡ aside ++ put) × IsMet steps a (datagram x) bytes put b
+met_served steps x y a b aside same one = (back y, [], served_dues x y same, sym (append-nil aside), inl (one, refl))
+
+-- one is put aside behind others
+pub met_aside : {S : Type 0} (steps : Steps S) (x y : Exchange) (a : S) (es fs : List Exchange) → fs ≡ es ++ x ∷ [] → dues y ≡ []
+    → (bytes : List ℕ) × (put : List Datagram) × (dues y ≡ owed x.from bytes) × (datagrams fs ≡ datagrams es ++ put) × IsMet steps a (datagram x) bytes put a
+met_aside steps x y a es fs is none = ([], datagram x ∷ [], none, ap datagrams is ∙ map-append datagram es (x ∷ []), inr (refl, refl, refl))
+
 -- a round
 module _ {P S : Type 0} (may : Ports P) (steps : Steps S) (settles : Settles S) where
-  pub round : (es front : List Exchange) (count : ℕ) (told : Result Rest LoopFault) (a b c : P) (s t u : S) (ds : List Datagram) → count ≤ length es → length es ≡ 16 → front ≡ take count es
+  -- what was served of those that were aside
+  abbrev pub TookUp : P → S → List Datagram → P → S → List Datagram → Type 0
+  TookUp p a aside q b asides = (hs : List Happening) × Runs may p hs q × AreTakenUp steps settles a aside hs b asides
+
+  pub took_none : (p : P) (a : S) (aside : List Datagram) → TookUp p a aside p a aside
+  took_none p a aside = ([], refl, taken_none steps settles a aside)
+
+  -- one more
+  pub took_more : (p q r : P) (a b s t : S) (aside : List Datagram) (es rest : List Exchange) (e x : Exchange) → es ≡ e ∷ rest → datagram x ≡ datagram e → ServedFor steps (asker_of e.from) b (datagram e).bytes (back x) s
+      → settles s t → Runs may q (map Left (dues x)) r → TookUp p a aside q b (datagrams es) → TookUp p a aside r t (datagrams rest)
+  took_more p q r a b s t aside es rest e x is same one then sent (hs, runs, taken) = (
+    hs ++ map Left (owed e.from (back x)),
+    runs_on may p hs (map Left (owed e.from (back x))) q r runs (subst (λ ds. Runs may q (map Left ds) r) (served_dues e x same) sent),
+    taken_next steps settles a aside hs b (datagram e) (datagrams rest) (back x) s t (subst (λ xs. AreTakenUp steps settles a aside hs b xs) (ap datagrams is) taken) one then,
+  )
+
+  pub round : (es front : List Exchange) (count : ℕ) (told : Result Rest LoopFault) (a b c : P) (s t u : S) (ds aside asides : List Datagram) → count ≤ length es → length es ≡ 16 → front ≡ take count es
       → (pause : Option Error) × Runs may a (map Came (datagrams (take count es)) ++ pausing pause) b × Stopped count (length es) told pause
-      → AreAnswered steps s (datagrams front) ds t → settles t u → Runs may b (map Left ds) c → (hs : List Happening) × Runs may a hs c × IsRound steps settles s hs u × IsThrough 16 told hs
-  round es front count told a b c s t u ds most sixteen is (pause, received, stopped) served settled sent = (
+      → Meets steps s (datagrams front) ds aside asides t → settles t u → Runs may b (map Left ds) c → (hs : List Happening) × Runs may a hs c × IsRound steps settles s aside hs u asides × IsThrough 16 told hs
+  round es front count told a b c s t u ds aside asides most sixteen is (pause, received, stopped) (put, kept, met) settled sent = (
     (map Came (datagrams (take count es)) ++ pausing pause) ++ map Left ds,
     runs_on may a (map Came (datagrams (take count es)) ++ pausing pause) (map Left ds) b c received sent,
     record {
       came = datagrams (take count es);
       pause = pause;
       dues = ds;
+      put = put;
       between = t;
-      answered = subst (λ xs. AreAnswered steps s (datagrams xs) ds t) is served;
+      met = subst (λ xs. AreMet steps s (datagrams xs) ds put t) is met;
+      kept = kept;
       settled = settled;
       order = refl;
     },

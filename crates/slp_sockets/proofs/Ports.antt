@@ -1,10 +1,10 @@
 -- What happens at a port, one part after the other.
-use Rattle.std.proofs.Common.{◌≡◌, ◌≤◌, ℕ, ◌+◌, List, [], ◌∷◌, ◌++◌, map, length, Option, Some, None, Result, Ok, Err, refl, sym, ap, ◌∙◌, subst, arith, inl, inr}
+use Rattle.std.proofs.Common.{◌≡◌, ◌≢◌, ◌≤◌, ℕ, ◌+◌, List, [], ◌∷◌, ◌++◌, map, length, Option, Some, None, Result, Ok, Err, refl, sym, ap, ◌∙◌, subst, arith, inl, inr}
 use Rattle.std.proofs.lemmas.List.{append-nil, append_assoc}
 use Rattle.std.specs.declared.io.Error.{Error}
 use Rattle.slp_sockets.specs.Exchanging.{Stopped}
-use Rattle.slp_sockets.specs.Ports.{Datagram, Happening, Came, Paused, Left, Ports, Runs, ServedFor, AreAnswered, Says, GoOnTo, NoPause, IsEnough, IsThrough, asker_of, owed, pausing, pause_after, effort}
-use Rattle.slp_sockets.specs.Serving.{Steps}
+use Rattle.slp_sockets.specs.Ports.{Datagram, Happening, Came, Paused, Left, Ports, Runs, ServedFor, IsMet, AreMet, AreTakenUp, Says, GoOnTo, NoPause, IsEnough, IsThrough, asker_of, owed, pausing, pause_after, effort}
+use Rattle.slp_sockets.specs.Serving.{Steps, Settles}
 use Rattle.slp_sockets.specs.declared.exchange.Rest.{Rest}
 use Rattle.slp_sockets.specs.declared.exchange.Rest.TheVariants.{Nothing, More, Later}
 use Rattle.slp_sockets.specs.declared.fault.LoopFault.{LoopFault}
@@ -19,20 +19,69 @@ pub runs_one : {P : Type 0} (may : Ports P) (a : P) (h : Happening) (b : P) → 
 runs_one may a h b one = (b, one, refl)
 
 module _ {S : Type 0} (steps : Steps S) where
-  pub answered_on : (a : S) (ds es : List Datagram) (first more : List Datagram) (b c : S) → AreAnswered steps a ds first b → AreAnswered steps b es more c → AreAnswered steps a (ds ++ es) (first ++ more) c
-  answered_on a [] es first more b c (none, same) next = subst (λ xs. AreAnswered steps a es (xs ++ more) c) (sym none) (subst (λ s. AreAnswered steps s es more c) same next)
-  answered_on a (d ∷ ds) es first more b c (back, between, later, one, rest, is) next = (
+  pub met_on : (a : S) (ds es : List Datagram) (first more put later : List Datagram) (b c : S) → AreMet steps a ds first put b → AreMet steps b es more later c → AreMet steps a (ds ++ es) (first ++ more) (put ++ later) c
+  met_on a [] es first more put later b c (none, nothing, same) next =
+      subst (λ xs. AreMet steps a es (xs ++ more) (put ++ later) c) (sym none) (subst (λ xs. AreMet steps a es more (xs ++ later) c) (sym nothing) (subst (λ s. AreMet steps s es more later c) same next))
+  met_on a (d ∷ ds) es first more put later b c (back, here, between, owing, rest, one, others, is, puts) next = (
     back,
+    here,
     between,
-    later ++ more,
+    owing ++ more,
+    rest ++ later,
     one,
-    answered_on between ds es later more b c rest next,
-    ap (λ xs. xs ++ more) is ∙ append_assoc (owed d.peer back) later more,
+    met_on between ds es owing more rest later b c others next,
+    ap (λ xs. xs ++ more) is ∙ append_assoc (owed d.peer back) owing more,
+    ap (λ xs. xs ++ later) puts ∙ append_assoc here rest later,
   )
 
   -- one alone
-  pub answered_one : (a : S) (d : Datagram) (back : List ℕ) (b : S) → ServedFor steps (asker_of d.peer) a d.bytes back b → AreAnswered steps a (d ∷ []) (owed d.peer back) b
-  answered_one a d back b one = (back, b, [], one, (refl, refl), sym (append-nil (owed d.peer back)))
+  pub met_one : (a : S) (d : Datagram) (back : List ℕ) (put : List Datagram) (b : S) → IsMet steps a d back put b → AreMet steps a (d ∷ []) (owed d.peer back) put b
+  met_one a d back put b one = (back, put, b, [], [], one, (refl, refl, refl), sym (append-nil (owed d.peer back)), sym (append-nil put))
+
+-- the first of a list and the others
+pub first_is : {X : Type 0} (a b : X) (xs ys : List X) → a ∷ xs ≡ b ∷ ys → a ≡ b
+first_is a b xs ys is = cc
+
+pub others_are : {X : Type 0} (a b : X) (xs ys : List X) → a ∷ xs ≡ b ∷ ys → xs ≡ ys
+others_are a b xs ys is = cc
+
+not_none : {X : Type 0} (a : X) (xs : List X) → a ∷ xs ≢ []
+not_none a xs is = absurd cc
+
+-- those that are aside, one after the other
+module _ {S : Type 0} (steps : Steps S) (settles : Settles S) where
+  pub taken_none : (a : S) (ds : List Datagram) → AreTakenUp steps settles a ds [] a ds
+  taken_none a [] = (refl, refl, refl)
+  taken_none a (d ∷ ds) = inl (refl, refl, refl)
+
+  -- one more
+  pub taken_next : (a : S) (ds : List Datagram) (hs : List Happening) (b : S) (d : Datagram) (rest : List Datagram) (back : List ℕ) (served settled : S) → AreTakenUp steps settles a ds hs b (d ∷ rest)
+      → ServedFor steps (asker_of d.peer) b d.bytes back served → settles served settled → AreTakenUp steps settles a ds (hs ++ map Left (owed d.peer back)) settled rest
+  taken_next a [] hs b d rest back served settled (none, same, is) one then = absurd (not_none d rest is)
+  taken_next a (e ∷ es) hs b d rest back served settled (inl (none, same, is)) one then =
+      let here : d ≡ e = first_is d e rest es is in
+      let others : rest ≡ es = others_are d e rest es is in
+      inr (
+        back,
+        served,
+        settled,
+        [],
+        subst (λ s. ServedFor steps (asker_of e.peer) s e.bytes back served) same (subst (λ (x : Datagram). ServedFor steps (asker_of x.peer) b x.bytes back served) here one),
+        then,
+        subst (λ xs. AreTakenUp steps settles settled es [] settled xs) (sym others) (taken_none settled es),
+        ap (λ xs. xs ++ map Left (owed d.peer back)) none ∙ (ap (λ (x : Datagram). map Left (owed x.peer back)) here ∙ sym (append-nil (map Left (owed e.peer back)))),
+      )
+  taken_next a (e ∷ es) hs b d rest back served settled (inr (before, first, between, later, front, settles, more, is)) one then =
+      inr (
+        before,
+        first,
+        between,
+        later ++ map Left (owed d.peer back),
+        front,
+        settles,
+        taken_next between es later b d rest back served settled more one then,
+        ap (λ xs. xs ++ map Left (owed d.peer back)) is ∙ append_assoc (map Left (owed e.peer before)) later (map Left (owed d.peer back)),
+      )
 
 -- how many came in both
 pub effort_on : (hs gs : List Happening) → effort (hs ++ gs) ≡ effort hs + effort gs

@@ -8,10 +8,10 @@ use Rattle.mio.specs.Event.{event_token}
 use Rattle.mio.specs.declared.event.event.Event.{Event}
 use Rattle.mio.specs.declared.token.Token.{Token}
 use Rattle.slp_sockets.specs.Holding.{Seat}
-use Rattle.slp_sockets.specs.Ports.{ServesRound}
+use Rattle.slp_sockets.specs.Ports.{AreTakenUp, Datagram, Happening, Ports, Runs, ServesRound, TakesUp}
 use Rattle.slp_sockets.specs.Readiness.{token_of}
 use Rattle.slp_sockets.specs.Serving.{Steps, Settles}
-use Rattle.slp_sockets.specs.Turning.{Tended, AreServedAt, ComeOrGo, IsBegun, IsByPeers, IsPart, IsServedAt, IsSettled, Passes, Reaches, ReceivesAgain, ServesAt, SettlesFirst, SettlesLast, datagrams_token, listener_token}
+use Rattle.slp_sockets.specs.Turning.{Tended, AreResumed, AreServedAt, ComeOrGo, IsBegun, IsByAside, IsByPeers, IsPart, IsServedAt, IsSettled, Passes, Reaches, ReceivesAgain, Resumes, ServesAt, SettlesFirst, SettlesLast, datagrams_token, listener_token}
 
 module _ {S : Type 0} (steps : Steps S) (settles : Settles S) where
   passes_on : (a : Tended S) (ss ts : List (Tended S)) (b c : Tended S) → Passes steps settles a ss b → Passes steps settles b ts c → Passes steps settles a (ss ++ ts) c
@@ -46,7 +46,16 @@ module _ {S : Type 0} (steps : Steps S) (settles : Settles S) where
 
   -- streams come, or are closed
   pub reach_peers : (a b : Tended S) → IsByPeers steps settles a b → Reaches steps settles a b
-  reach_peers a b one = reach_part a b (inr (inr (inr one)))
+  reach_peers a b one = reach_part a b (inr (inr (inr (inl one))))
+
+  -- what was put aside
+  reach_aside : (a b : Tended S) → IsByAside steps settles a b → Reaches steps settles a b
+  reach_aside a b one = reach_part a b (inr (inr (inr (inr one))))
+
+  -- streams of which a message was
+  reach_resumed : (a : Tended S) (keys : List ℕ) (b : Tended S) → AreResumed steps settles a keys b → Reaches steps settles a b
+  reach_resumed a [] b same = ([], same)
+  reach_resumed a (key ∷ keys) b (between, one, rest) = reach_on a between b (reach_stream key a between one) (reach_resumed between keys b rest)
 
   -- such parts, and then a turn
   pub reach_turn : (a b c : Tended S) → Reaches steps settles a b → SettlesFirst steps settles b c → Reaches steps settles a c
@@ -61,7 +70,7 @@ module _ {S : Type 0} (steps : Steps S) (settles : Settles S) where
   reach_token token a b one = elim (cases_eq token datagrams_token) [
     | inl is ↦ reach_part a b (inr (inl (one.datagrams is)))
     | inr not ↦ elim (cases_eq token listener_token) [
-      | inl is ↦ reach_part a b (inr (inr (inr (one.listener is))))
+      | inl is ↦ reach_peers a b (one.listener is)
       | inr nor ↦ reach_stream token a b (one.stream not nor)
     ]
   ]
@@ -76,19 +85,48 @@ module _ {S : Type 0} (steps : Steps S) (settles : Settles S) where
   served_more a [] token b c same one = (c, subst (λ s. IsServedAt steps settles token s c) same one, refl)
   served_more a (t ∷ ts) token b c (between, first, rest) one = (between, first, served_more between ts token b c rest one)
 
+  -- nothing is taken up
+  pub takes_none : (a : S) → TakesUp steps settles a a
+  takes_none a = ([], [], [], (refl, refl, refl))
+
+  -- what was taken up of a mailbox
+  pub taken_up : {P : Type 0} (may : Ports P) (p q : P) (a b : S) (aside asides : List Datagram) → (hs : List Happening) × Runs may p hs q × AreTakenUp steps settles a aside hs b asides → TakesUp steps settles a b
+  taken_up may p q a b aside asides (hs, runs, taken) = (aside, asides, hs, taken)
+
+  -- no stream goes on
+  pub resumes_none : (a : Tended S) → Resumes steps settles a a
+  resumes_none a = ([], refl)
+
+  resumed_more : (a : Tended S) (keys : List ℕ) (key : ℕ) (b c : Tended S) → AreResumed steps settles a keys b → ServesAt steps settles key b c → AreResumed steps settles a (keys ++ key ∷ []) c
+  resumed_more a [] key b c same one = (c, subst (λ s. ServesAt steps settles key s c) same one, refl)
+  resumed_more a (k ∷ ks) key b c (between, first, rest) one = (between, first, resumed_more between ks key b c rest one)
+
+  -- one more goes on
+  pub resumes_next : (key : ℕ) (a b c : Tended S) → Resumes steps settles a b → ServesAt steps settles key b c → Resumes steps settles a c
+  resumes_next key a b c (keys, before) one = (keys ++ key ∷ [], resumed_more a keys key b c before one)
+
   -- what begins a turn
-  pub begins : (s : Tended S) (before between after : List (Option Seat)) (a b c : S) → record { seats = before; server = a } ≡ s → settles a b → between ≡ before → ComeOrGo between after → ServesRound steps settles b c ⊎ (c ≡ b)
-      → IsBegun steps settles s (record { seats = after; server = c })
-  begins s before between after a b c is settled same come served = subst (λ t. IsBegun steps settles t (record { seats = after; server = c })) is (record {
+  pub begins : (s : Tended S) (before between after went : List (Option Seat)) (a b t u c : S) → record { seats = before; server = a } ≡ s → settles a b → between ≡ before → ComeOrGo between after → TakesUp steps settles b t
+      → Resumes steps settles (record { seats = after; server = t }) (record { seats = went; server = u }) → ServesRound steps settles u c ⊎ (c ≡ u) → IsBegun steps settles s (record { seats = went; server = c })
+  begins s before between after went a b t u c is settled same come takes resumes served = subst (λ x. IsBegun steps settles x (record { seats = went; server = c })) is (record {
     settled = record { seats = before; server = b };
     accepted = record { seats = after; server = b };
+    taken = record { seats = after; server = t };
+    resumed = record { seats = went; server = u };
     settles_first = (settled, refl);
     accepts = (subst (λ seats. ComeOrGo seats after) same come, refl);
-    receives = received_again after b c served;
+    takes_up = (takes, refl);
+    resumes = resumes;
+    receives = received_again went u c served;
   })
 
   pub begun_first : (a b : Tended S) → IsBegun steps settles a b → SettlesFirst steps settles a b
-  begun_first a b one = (one.settled, one.settles_first, reach_on one.settled one.accepted b (reach_peers one.settled one.accepted one.accepts) (reach_again one.accepted b one.receives))
+  begun_first a b one = (
+    one.settled,
+    one.settles_first,
+    reach_on one.settled one.accepted b (reach_peers one.settled one.accepted one.accepts)
+        (reach_on one.accepted one.taken b (reach_aside one.accepted one.taken one.takes_up) (reach_on one.taken one.resumed b (reach_resumed one.taken one.resumes.0 one.resumed one.resumes.1) (reach_again one.resumed b one.receives))),
+  )
 
   -- it settled first, and more was done
   pub first_on : (a b c : Tended S) → SettlesFirst steps settles a b → Reaches steps settles b c → SettlesFirst steps settles a c

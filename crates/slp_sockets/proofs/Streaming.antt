@@ -7,7 +7,7 @@ use Rattle.slp_sockets.specs.Serving.{Steps, Settles}
 use Rattle.slp_sockets.specs.Streaming.{Talk, end_of, IsRead, IsStep, Goes}
 use Rattle.slp_sockets.specs.Writing.{Wrote, Writes}
 use Rattle.slp_sockets.specs.declared.connection.Next.{Next}
-use Rattle.slp_sockets.specs.declared.connection.Next.TheVariants.{More}
+use Rattle.slp_sockets.specs.declared.connection.Next.TheVariants.{More, Blocked}
 use Rattle.slp_sockets.specs.declared.fault.LoopFault.{LoopFault}
 
 -- one of the steps that are left
@@ -30,7 +30,11 @@ module _ {S : Type 0} (steps : Steps S) (settles : Settles S) (i : ℕ) (served 
 module _ {S : Type 0} (steps : Steps S) (settles : Settles S) (i : ℕ) (lt : i < 16) (served : Bool) (a : Talk S) (waits : Bool) (same : waits ≡ has_message a.link) where
   -- another message waits, where one was served
   pub next_waits : (waits && served) ≡ true → Goes steps settles (16 - i) served a (Ok More) a
-  next_waits next = subst (λ n. Goes steps settles n served a (Ok More) a) (one_left i lt) (inl (ap (λ b. b && served) (sym same) ∙ next, refl, refl))
+  next_waits next = subst (λ n. Goes steps settles n served a (Ok More) a) (one_left i lt) (inl (inr (ap (λ b. b && served) (sym same) ∙ next, refl), refl))
+
+  -- the message that waits is put aside
+  pub left_aside : waits ≡ true → Goes steps settles (16 - i) served a (Ok Blocked) a
+  left_aside next = subst (λ n. Goes steps settles n served a (Ok Blocked) a) (one_left i lt) (inl (inl (sym same ∙ next, refl), refl))
 
   module _ (none : (waits && served) ≡ false) where
     free : (has_message a.link && served) ≡ false

@@ -14,6 +14,11 @@ use Rattle.slp_sockets.specs.declared.fault.LoopFault.{LoopFault}
 abbrev pub datagram : Exchange → Datagram
 datagram e = record { peer = e.from; bytes = take e.length e.buffer.items }
 
+-- what the datagrams of a loop are to contracts: their port, and those that are put aside, in the order in which they came
+pub record Mailbox (P : Type 0) : Type 0 where
+  pub port : P
+  pub aside : List Datagram
+
 -- those of some exchanges
 abbrev pub datagrams : List Exchange → List Datagram
 datagrams = map datagram

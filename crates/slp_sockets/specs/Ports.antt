@@ -1,5 +1,5 @@
 -- What happens at a socket of datagrams, and what it is to serve those that come.
-use Rattle.std.specs.Prelude.{◌≡◌, ◌⊎◌, ◌≤◌, ℕ, ◌+◌, List, [], ◌∷◌, ◌++◌, map, take, Option, Some, None, Result, Ok, Err}
+use Rattle.std.specs.Prelude.{◌≡◌, ◌⊎◌, ◌≤◌, ◌<◌, ℕ, ◌+◌, List, [], ◌∷◌, ◌++◌, map, length, take, Option, Some, None, Result, Ok, Err}
 use Rattle.std.specs.IoError.{error_kind}
 use Rattle.std.specs.declared.io.Error.{Error}
 use Rattle.std.specs.declared.io.ErrorKind.{ErrorKind}
@@ -68,23 +68,37 @@ module _ {S : Type 0} (steps : Steps S) where
   ServedFor (Some asker) before message back after = IsServed steps asker most_back before message back after
   ServedFor None before message back after = (back ≡ []) × (after ≡ before)
 
-  -- datagrams are served once each, one after the other, and this is owed to their senders then
-  abbrev pub AreAnswered : S → List Datagram → List Datagram → S → Type 0
-  AreAnswered before [] dues after = (dues ≡ []) × (after ≡ before)
-  AreAnswered before (d ∷ ds) dues after =
-      (back : List ℕ) × (between : S) × (later : List Datagram) × ServedFor (asker_of d.peer) before d.bytes back between × AreAnswered between ds later after × (dues ≡ owed d.peer back ++ later)
+  -- a datagram is served for its sender, and this goes back, or it is put aside
+  abbrev pub IsMet : S → Datagram → List ℕ → List Datagram → S → Type 0
+  IsMet before d back put after = (ServedFor (asker_of d.peer) before d.bytes back after × (put ≡ [])) ⊎ ((back ≡ []) × (put ≡ d ∷ []) × (after ≡ before))
+
+  -- datagrams are served or put aside, once each, one after the other: what is owed to their senders then, and which are aside
+  abbrev pub AreMet : S → List Datagram → List Datagram → List Datagram → S → Type 0
+  AreMet before [] dues put after = (dues ≡ []) × (put ≡ []) × (after ≡ before)
+  AreMet before (d ∷ ds) dues put after =
+      (back : List ℕ) × (here : List Datagram) × (between : S) × (owing more : List Datagram) × IsMet before d back here between × AreMet between ds owing more after × (dues ≡ owed d.peer back ++ owing) × (put ≡ here ++ more)
 
 module _ {S : Type 0} (steps : Steps S) (settles : Settles S) where
-  -- A round: datagrams come, until none is left or there are enough. Each is served once, in their order. The server settles, and what is owed leaves, in order: nothing that is not owed,
-  -- and nothing twice.
-  pub record IsRound (before : S) (hs : List Happening) (after : S) : Type 0 where
+  -- A round: datagrams come, until none is left or there are enough. Each is served once or put aside, in their order, behind those that are aside. The server settles, and what is owed
+  -- leaves, in order: nothing that is not owed, and nothing twice.
+  pub record IsRound (before : S) (aside : List Datagram) (hs : List Happening) (after : S) (asides : List Datagram) : Type 0 where
     pub came : List Datagram
     pub pause : Option Error
     pub dues : List Datagram
+    pub put : List Datagram
     pub between : S
-    pub answered : AreAnswered steps before came dues between
+    pub met : AreMet steps before came dues put between
+    pub kept : asides ≡ aside ++ put
     pub settled : settles between after
     pub order : hs ≡ (map Came came ++ pausing pause) ++ map Left dues
+
+  -- those in front that are aside are served, one after the other: before what is owed to one leaves, the server settles
+  abbrev pub AreTakenUp : S → List Datagram → List Happening → S → List Datagram → Type 0
+  AreTakenUp before [] hs after asides = (hs ≡ []) × (after ≡ before) × (asides ≡ [])
+  AreTakenUp before (d ∷ ds) hs after asides =
+      ((hs ≡ []) × (after ≡ before) × (asides ≡ d ∷ ds))
+      ⊎ ((back : List ℕ) × (served settled : S) × (later : List Happening) × ServedFor steps (asker_of d.peer) before d.bytes back served × settles served settled × AreTakenUp settled ds later after asides
+      × (hs ≡ map Left (owed d.peer back) ++ later))
 
 -- what there may be after a failed receive of a socket that is still of use
 abbrev pub rest_by : ErrorKind → Rest
@@ -142,7 +156,18 @@ IsEnough least (Err e) hs = IsPausedBy (Err e) hs
 abbrev pub IsThrough : ℕ → Result Rest LoopFault → List Happening → Type 0
 IsThrough least told hs = IsEnough least told hs × GoOnTo told hs
 
+-- where more are aside, no more are received
+abbrev pub most_aside : ℕ
+most_aside = 48
+
 module _ {S : Type 0} (steps : Steps S) (settles : Settles S) where
-  -- A round, until 16 have come, where a pause counts for as many, or a pause says that no more are to be received now.
+  -- a round, until 16 have come, where a pause counts for as many, or a pause says that no more are to be received now; where too many are aside, nothing happens, and it is tried again
+  abbrev pub TriesRound : S → List Datagram → List Happening → Result Rest LoopFault → S → List Datagram → Type 0
+  TriesRound before aside hs told after asides =
+      (IsRound steps settles before aside hs after asides × IsThrough 16 told hs) ⊎ ((most_aside < length aside) × (hs ≡ []) × (told ≡ Ok Later) × (after ≡ before) × (asides ≡ aside))
+
   abbrev pub ServesRound : S → S → Type 0
-  ServesRound before after = (hs : List Happening) × (told : Result Rest LoopFault) × IsRound steps settles before hs after × IsThrough 16 told hs
+  ServesRound before after = (aside asides : List Datagram) × (hs : List Happening) × (told : Result Rest LoopFault) × TriesRound before aside hs told after asides
+
+  abbrev pub TakesUp : S → S → Type 0
+  TakesUp before after = (aside asides : List Datagram) × (hs : List Happening) × AreTakenUp steps settles before aside hs after asides

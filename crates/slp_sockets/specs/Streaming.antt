@@ -21,6 +21,10 @@ end_of read Closed = Some Closed
 end_of Blocked Blocked = Some Blocked
 end_of read written = None
 
+-- whether a message waits, whether one was served, and what is answered where the one that waits is left: it is put aside, or has its turn when the others have had theirs
+abbrev pub IsLeft : Bool → Bool → Result Next LoopFault → Type 0
+IsLeft waits served told = ((waits ≡ true) × (told ≡ Ok Blocked)) ⊎ (((waits && served) ≡ true) × (told ≡ Ok More))
+
 module _ {S : Type 0} (steps : Steps S) (settles : Settles S) where
   -- it is read once, at most, or the message in front is served
   abbrev pub IsRead : Talk S → Result Next LoopFault → Talk S → Type 0
@@ -40,11 +44,11 @@ module _ {S : Type 0} (steps : Steps S) (settles : Settles S) where
     pub settled : settles between.server server
     pub written_is : IsWritten (record between { server = server }) written b
 
-  -- at most so many steps, one after the other, until one of them fails or ends it; and none that serves a message, where one was served before
+  -- At most so many steps, one after the other, until one of them fails or ends it. A message that waits may be left where it is, and none is served where one was before.
   abbrev pub Goes : ℕ → Bool → Talk S → Result Next LoopFault → Talk S → Type 0
   Goes zero served a told b = (told ≡ Ok More) × (b ≡ a)
   Goes (suc n) served a told b =
-      (((has_message a.link && served) ≡ true) × (told ≡ Ok More) × (b ≡ a))
+      (IsLeft (has_message a.link) served told × (b ≡ a))
       ⊎ (((has_message a.link && served) ≡ false) × (((e : LoopFault) × (told ≡ Err e) × IsRead a (Err e) b)
       ⊎ (((read : Next) × (e : LoopFault) × (told ≡ Err e) × IsStep a read (Err e) b)
       ⊎ ((read : Next) × (written : Next) × (c : Talk S) × IsStep a read (Ok written) c

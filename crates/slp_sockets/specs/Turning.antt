@@ -3,7 +3,7 @@ use Rattle.std.specs.Prelude.{◌≡◌, ◌≢◌, ◌⊎◌, ℕ, ⊤, Bool, t
 use Rattle.std.specs.declared.net.socket_addr.SocketAddr.{SocketAddr}
 use Rattle.slp_sockets.specs.Holding.{Seat, Looping, seat_at}
 use Rattle.slp_sockets.specs.Linking.{Link}
-use Rattle.slp_sockets.specs.Ports.{ServesRound, asker_of}
+use Rattle.slp_sockets.specs.Ports.{ServesRound, TakesUp, asker_of}
 use Rattle.slp_sockets.specs.Serving.{Steps, Settles}
 use Rattle.slp_sockets.specs.Streaming.{Talk, Goes}
 use Rattle.slp_sockets.specs.declared.connection.Next.{Next}
@@ -113,9 +113,21 @@ module _ {S : Type 0} (steps : Steps S) (settles : Settles S) where
   abbrev pub IsByDatagrams : Tended S → Tended S → Type 0
   IsByDatagrams before after = ServesRound steps settles before.server after.server × (after.seats ≡ before.seats)
 
+  -- datagrams that were put aside are served
+  abbrev pub IsByAside : Tended S → Tended S → Type 0
+  IsByAside before after = TakesUp steps settles before.server after.server × (after.seats ≡ before.seats)
+
   -- the same, if there were any that could not be received at the last turn
   abbrev pub ReceivesAgain : Tended S → Tended S → Type 0
   ReceivesAgain before after = IsByDatagrams before after ⊎ (after ≡ before)
+
+  -- the streams with these keys go on, one after the other
+  abbrev pub AreResumed : Tended S → List ℕ → Tended S → Type 0
+  AreResumed before [] after = after ≡ before
+  AreResumed before (key ∷ keys) after = (between : Tended S) × ServesAt key before between × AreResumed between keys after
+
+  abbrev pub Resumes : Tended S → Tended S → Type 0
+  Resumes before after = (keys : List ℕ) × AreResumed before keys after
 
   -- streams come, or are closed
   abbrev pub IsByPeers : Tended S → Tended S → Type 0
@@ -132,9 +144,9 @@ module _ {S : Type 0} (steps : Steps S) (settles : Settles S) where
   AreServedAt before [] after = after ≡ before
   AreServedAt before (token ∷ tokens) after = (between : Tended S) × IsServedAt token before between × AreServedAt between tokens after
 
-  -- it settles, since the loop waits next or ends; or serves datagrams that came, or a stream; or streams come, or are closed
+  -- it settles, since the loop waits next or ends; or serves datagrams that came or were put aside, or a stream; or streams come, or are closed
   abbrev pub IsPart : Tended S → Tended S → Type 0
-  IsPart before after = IsSettled before after ⊎ (IsByDatagrams before after ⊎ (((key : ℕ) × IsByStream key before after) ⊎ IsByPeers before after))
+  IsPart before after = IsSettled before after ⊎ (IsByDatagrams before after ⊎ (((key : ℕ) × IsByStream key before after) ⊎ (IsByPeers before after ⊎ IsByAside before after)))
 
   -- these parts are done, one after the other; it is so after each
   abbrev pub Passes : Tended S → List (Tended S) → Tended S → Type 0
@@ -153,13 +165,17 @@ module _ {S : Type 0} (steps : Steps S) (settles : Settles S) where
   abbrev pub SettlesLast : Tended S → Tended S → Type 0
   SettlesLast before after = (s : Tended S) × Reaches before s × IsSettled s after
 
-  -- The server settles. Streams and datagrams come that could not at the last turn.
+  -- The server settles. Streams come that could not at the last turn, what was put aside is taken up, and datagrams come that could not.
   pub record IsBegun (before after : Tended S) : Type 0 where
     pub settled : Tended S
     pub accepted : Tended S
+    pub taken : Tended S
+    pub resumed : Tended S
     pub settles_first : IsSettled before settled
     pub accepts : IsByPeers settled accepted
-    pub receives : ReceivesAgain accepted after
+    pub takes_up : IsByAside accepted taken
+    pub resumes : Resumes taken resumed
+    pub receives : ReceivesAgain resumed after
 
   -- it is begun, and each socket that is ready is served
   abbrev pub IsServing : Tended S → List ℕ → Tended S → Type 0

@@ -24,6 +24,9 @@ use std::time::{Clock, Duration};
 /// The longest wait of a turn, in milliseconds.
 const LONGEST_WAIT: u64 = 500;
 
+/// The same where a message is put aside that waits for others.
+const SHORT_WAIT: u64 = 1;
+
 /// How many events one wait gives.
 const EVENTS: usize = 256;
 
@@ -272,7 +275,7 @@ impl<S: Serve + Drop> AgentLoop<S> {
         self.streams.len()
     }
 
-    /// Waits until a socket is ready, for 500 ms at most, and serves what is. Then each stream is closed that has sat there for 300 seconds
+    /// Waits until a socket is ready, for 500 ms at most, or 1 where a message that was put aside waits for others, and serves what was put aside and what is ready. Then each stream is closed that has sat there for 300 seconds
     /// of a steady clock. `Io` is answered only where the wait failed, or a socket of the loop's own is of no use any more. `NoMemory` is answered once all is served that
     /// was ready: a connection that found none is closed.
     pub fn turn<M: Moments>(&mut self, steady: &mut M) -> Result<(), LoopFault>
@@ -295,6 +298,17 @@ impl<S: Serve + Drop> AgentLoop<S> {
         told
     }
 
+    // The longest wait of the next turn, in milliseconds.
+    fn wait(&self) -> u64 {
+        if self.datagrams.has_ready(&self.server) {
+            0
+        } else if self.datagrams.has_aside() || self.streams.has_aside() {
+            SHORT_WAIT
+        } else {
+            LONGEST_WAIT
+        }
+    }
+
     // Has the lines of the last turn out, waits, and serves what could not be served then.
     fn begin<M: Moments>(&mut self, steady: &mut M) -> Result<(), LoopFault>
         ensures limit { self.new.limit ≡ self.old.limit }
@@ -303,10 +317,12 @@ impl<S: Serve + Drop> AgentLoop<S> {
         ensures begun { IfOk result (λ _. IsBegun S.steps S.settles (tended self.old) (tended self.new)) }
     {
         self.server.settle();
-        let wait = Duration::from_millis(LONGEST_WAIT);
+        let wait = Duration::from_millis(self.wait());
         self.poll.poll(&mut self.events, Some(wait))?;
         self.streams.go_on_to(steady.now());
         self.streams.accept_again(self.poll.registry())?;
+        self.datagrams.take_up(&mut self.server);
+        self.streams.resume(self.poll.registry(), &mut self.server);
         self.datagrams
             .serve_again(self.poll.registry(), &mut self.server)
     }

@@ -11,6 +11,18 @@ pub trait Moments {
     /// The moment that it is, in seconds.
     fn now(&mut self) -> u32
         ensures { may self.old result self.new };
+
+    /// The microseconds of a clock that never goes back, from some start on; 0 where it can't be read. No clause speaks of it: it may say when
+    /// something is done, and never what.
+    fn micros(&self) -> u64;
+}
+
+// The microseconds of the steady clock, or 0 where it can't be read.
+fn steady_micros<R: Clock>(rt: &R) -> u64 {
+    match rt.monotonic() {
+        Ok(since) => since.as_micros().min(u128::from(u64::MAX)) as u64,
+        Err(_) => 0,
+    }
 }
 
 /// The seconds of a clock that never goes back, from some start on, at most 4,294,967,295. Where it can't be read, it is still the last moment
@@ -51,6 +63,10 @@ impl<'r, R: Clock> Moments for SteadyClock<'r, R> {
             self.last = self.last.max(seconds);
         }
         self.last
+    }
+
+    fn micros(&self) -> u64 {
+        steady_micros(self.rt)
     }
 }
 
@@ -98,5 +114,9 @@ impl<'r, R: Clock> Moments for WallClock<'r, R> {
             self.last = seconds;
         }
         self.last
+    }
+
+    fn micros(&self) -> u64 {
+        steady_micros(self.rt)
     }
 }

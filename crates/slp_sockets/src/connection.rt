@@ -1,4 +1,4 @@
-ghost use Rattle.std.specs.Prelude.{◌≡◌, ◌≢◌, ◌⊎◌, ◌≤◌, ℕ, Option, List, [], ◌++◌, true, false, None, Some, Ok, length, drop, IfOk, IfSome, IfNone, MatchOption, MatchResult};
+ghost use Rattle.std.specs.Prelude.{◌≡◌, ◌≢◌, ◌⊎◌, ◌≤◌, ℕ, Option, List, [], ◌++◌, ◌&&◌, true, false, is_none, None, Some, Ok, length, drop, IfOk, IfSome, IfNone, MatchOption, MatchResult};
 ghost use Rattle.slp_sockets.specs.Linking.{Link, unread, unwritten, ending_next, has_message, next_written};
 ghost use Rattle.slp_sockets.specs.Reading.{Reads, ReadsBy, Takes};
 ghost use Rattle.slp_sockets.specs.Serving.{IsServed};
@@ -223,6 +223,20 @@ impl Connection {
         ensures { result ≡ has_message self.now }
     {
         matches!(self.stage, Stage::Reading) && self.framer.has_whole()
+    }
+
+    /// Whether the message in front can be served now: it is whole, and not too much waits to be written.
+    pub fn is_ready(&self) -> bool
+        ensures { result ≡ (has_message self.now && is_none (unread self.now)) }
+    {
+        self.has_message() && self.unread().is_none()
+    }
+
+    /// What was read and is not served.
+    pub fn unserved(&self) -> &[u8]
+        ensures { result.now ≡ self.now.unserved }
+    {
+        self.framer.waiting()
     }
 
     // Serves the message in front, if it is whole. A bad length there is the end. What is answered then; nothing where more bytes are wanted.

@@ -1,7 +1,7 @@
 //! The datagrams of a loop: they are received, served and answered together.
-ghost use Rattle.std.specs.Prelude.{◌≡◌, ◌⊎◌, ◌≤◌, ◌++◌, take, map, length, List, Option, IfErr, IfOk};
+ghost use Rattle.std.specs.Prelude.{◌≡◌, ◌≢◌, ◌⊎◌, ◌↔◌, ◌≤◌, ◌++◌, ◌∷◌, ℕ, [], take, map, length, List, Option, IfErr, IfOk, IsTrue, IsFalse, MatchOption};
 ghost use Rattle.std.specs.declared.io.Error.{Error};
-ghost use Rattle.slp_sockets.specs.Ports.{Happening, Came, Left, Runs, ServedFor, AreAnswered, IsRound, ServesRound, Says, IsThrough, owed, pausing};
+ghost use Rattle.slp_sockets.specs.Ports.{Datagram, Happening, Came, Left, Runs, ServedFor, IsMet, AreMet, AreTakenUp, IsRound, ServesRound, TriesRound, Says, IsThrough, owed, pausing};
 ghost use Rattle.slp_sockets.specs.Ports as spec;
 ghost use Rattle.slp_sockets.specs.Exchanging.{datagram, datagrams, back, dues, all_dues, received_into, Stopped};
 ghost use Rattle.slp_sockets.specs.declared.fault.LoopFault.TheVariants.{Io as Failing};
@@ -15,6 +15,7 @@ use mio::net::UdpSocket;
 use mio::{Interest, Registry, Token};
 use slp_replies::refused_reply;
 use std::alloc::{AllocError, Global};
+use std::collections::VecDeque;
 use std::io::{self, ErrorKind};
 use std::marker::Model;
 use std::net::SocketAddr;
@@ -28,6 +29,12 @@ const LONGEST_REPLY: usize = 1_400;
 /// How many datagrams one event may bring. They are received before the first is served, and served before the first answer is
 /// sent: more of them are answered a second so than one by one. What is left is reported again, so that the streams get their turn.
 const TOGETHER: usize = 16;
+
+/// How many microseconds a datagram may take, for which those that came with it do not wait: longer, and they have their turn after the streams.
+const LATE: u64 = 1_000;
+
+/// Where more datagrams are put aside, no more are received.
+const MOST_ASIDE: usize = 48;
 
 // What a socket has after a failed receive, unless the socket itself is of no use any more.
 fn rest_after(error: &io::Error) -> Result<Rest, LoopFault>
@@ -89,6 +96,53 @@ impl Exchange {
         };
     }
 
+    // Puts it aside, behind those that are, and answers whether there was memory for that. Then it is one into which nothing came.
+    fn put_aside(&mut self, aside: &mut VecDeque<Exchange>) -> bool
+        ensures put { IsTrue result → (aside.new.items ≡ aside.old.items ++ self.old ∷ []) × (dues self.new ≡ []) }
+        ensures kept { IsFalse result → (aside.new.items ≡ aside.old.items) × (self.new ≡ self.old) }
+    {
+        let Ok(other) = Exchange::new(*self.buffer.allocator()) else {
+            return false;
+        };
+        match aside.push_back(std::mem::replace(self, other)) {
+            Ok(()) => true,
+            Err(refused) => {
+                *self = refused.value;
+                false
+            }
+        }
+    }
+
+    // Serves it, and answers whether that took long.
+    fn serve_timed<S: Serve>(&mut self, server: &mut S) -> bool
+        ensures kept { datagram self.new ≡ datagram self.old }
+        ensures served { ServedFor S.steps (spec.asker_of self.old.from) server.old (datagram self.old).bytes (back self.new) server.new }
+    {
+        if !server.may_last(&self.buffer[..self.length]) {
+            self.serve(server);
+            return false;
+        }
+        let began = server.micros();
+        self.serve(server);
+        server.micros().saturating_sub(began) > LATE
+    }
+
+    // Serves it, and answers whether that took long; or puts it aside, where one before it took long or it would wait, and there is memory for that.
+    fn meet<S: Serve>(
+        &mut self,
+        is_late: bool,
+        aside: &mut VecDeque<Exchange>,
+        server: &mut S,
+    ) -> bool
+        ensures { (bytes : List ℕ) × (put : List Datagram) × (dues self.new ≡ owed self.old.from bytes) × (datagrams aside.new.items ≡ datagrams aside.old.items ++ put)
+            × IsMet S.steps server.old (datagram self.old) bytes put server.new }
+    {
+        if (is_late || server.waits(&self.buffer[..self.length])) && self.put_aside(aside) {
+            return is_late;
+        }
+        self.serve_timed(server)
+    }
+
     // Sends what goes back.
     fn send<P: Port>(&self, port: &mut P, settled: &Settled)
         ensures { Runs P.may port.old (map Left (dues self.now)) port.new }
@@ -122,12 +176,13 @@ fn receive_all<P: Port>(
     (count, Ok(Rest::More))
 }
 
-// Serves those that were received, in their order.
-fn serve_all<S: Serve>(exchanges: &mut [Exchange], server: &mut S)
-    ensures { AreAnswered S.steps server.old (datagrams exchanges.old) (all_dues exchanges.new) server.new }
+// Serves those that were received, in their order, or puts them aside: those behind one that took long, and those that would wait.
+fn serve_all<S: Serve>(exchanges: &mut [Exchange], aside: &mut VecDeque<Exchange>, server: &mut S)
+    ensures { (put : List Datagram) × (datagrams aside.new.items ≡ datagrams aside.old.items ++ put) × AreMet S.steps server.old (datagrams exchanges.old) (all_dues exchanges.new) put server.new }
 {
+    let mut is_late = false;
     for exchange in exchanges.iter_mut() {
-        exchange.serve(server);
+        is_late = exchange.meet(is_late, aside, server);
     }
 }
 
@@ -140,27 +195,53 @@ fn send_all<P: Port>(exchanges: &[Exchange], port: &mut P, settled: Settled)
     }
 }
 
-// Receives as many as there are exchanges, at most, and answers them. The lines of all are out before the first answer is.
+// Receives as many as there are exchanges, at most, and answers them, but for those that are put aside. The lines of all are out before the first answer is.
 fn serve_round<P: Port, S: Serve>(
     exchanges: &mut [Exchange],
+    aside: &mut VecDeque<Exchange>,
     port: &mut P,
     server: &mut S,
 ) -> Result<Rest, LoopFault>
     requires { length exchanges.old ≡ 16 }
-    ensures { (hs : List Happening) × Runs P.may port.old hs port.new × IsRound S.steps S.settles server.old hs server.new × IsThrough 16 result hs }
+    ensures { (hs : List Happening) × Runs P.may port.old hs port.new × IsRound S.steps S.settles server.old (datagrams aside.old.items) hs server.new (datagrams aside.new.items) × IsThrough 16 result hs }
 {
     let (count, told) = receive_all(exchanges, port);
     let front = &mut exchanges[..count];
-    serve_all(front, server);
+    serve_all(front, aside, server);
     let settled = settle(server);
     send_all(front, port, settled);
     told
 }
 
-/// A socket of datagrams, with what serving takes. Contracts see the socket.
+// Takes out the first that is put aside, unless it would wait still.
+fn next_aside<S: Serve>(aside: &mut VecDeque<Exchange>, server: &S) -> Option<Exchange>
+    ensures { MatchOption result (aside.new.items ≡ aside.old.items) (λ e. aside.old.items ≡ e ∷ aside.new.items) }
+{
+    let first = aside.front()?;
+    if server.waits(&first.buffer[..first.length]) {
+        return None;
+    }
+    aside.pop_front()
+}
+
+// Serves those that are put aside, in their order, up to the first that would wait still, or that took long. The lines of each are out before its answer is.
+fn take_up_all<P: Port, S: Serve>(aside: &mut VecDeque<Exchange>, port: &mut P, server: &mut S)
+    ensures { (hs : List Happening) × Runs P.may port.old hs port.new × AreTakenUp S.steps S.settles server.old (datagrams aside.old.items) hs server.new (datagrams aside.new.items) }
+{
+    while let Some(mut first) = next_aside(aside, server) {
+        let is_late = first.serve_timed(server);
+        first.send(port, &settle(server));
+        if is_late {
+            return;
+        }
+    }
+}
+
+/// A socket of datagrams, with what serving takes. Contracts see the socket, and the datagrams that are put aside.
 pub struct Datagrams<P: Port + Drop> {
     port: P,
     exchanges: Vec<Exchange>,
+    aside: VecDeque<Exchange>,
     // Whether a datagram may wait that no event will report.
     receives_again: bool,
 }
@@ -170,6 +251,7 @@ impl<P: Port + Drop> Drop for Datagrams<P> {
         let Datagrams {
             port: _,
             exchanges: _,
+            aside: _,
             receives_again: _,
         } = self;
     }
@@ -177,17 +259,18 @@ impl<P: Port + Drop> Drop for Datagrams<P> {
 
 impl<P: Port + Drop> Model for Datagrams<P> {
     ghost use Rattle.std.specs.Prelude.{◌≡◌, length};
+    ghost use Rattle.slp_sockets.specs.Exchanging.{Mailbox, datagrams};
 
-    ghost Value = { P };
+    ghost Value = { Mailbox P };
 
-    ghost view = { λ d. d.port };
+    ghost view = { λ d. record { port = d.port; aside = datagrams d.aside.items } };
 
     ghost invariant = { λ d. length d.exchanges.items ≡ 16 };
 }
 
 impl<P: Port + Drop> Datagrams<P> {
     pub fn new(alloc: Global, port: P) -> Result<Datagrams<P>, AllocError>
-        ensures { IfOk result (λ d. d ≡ port) }
+        ensures { IfOk result (λ d. d ≡ record { port = port; aside = [] }) }
     {
         let mut exchanges = Vec::with_capacity(alloc, TOGETHER)?;
         for _ in 0..TOGETHER {
@@ -196,15 +279,47 @@ impl<P: Port + Drop> Datagrams<P> {
         Ok(Datagrams {
             port,
             exchanges,
+            aside: VecDeque::new(alloc),
             receives_again: false,
         })
     }
 
-    /// Serves what has come, 16 datagrams at most: what the socket has then, or `Io` where the socket itself failed.
+    /// Serves what has come, 16 datagrams at most, or puts it aside: what the socket has then, or `Io` where the socket itself failed. Where over 48 are put
+    /// aside, the others wait in the socket.
     pub fn serve<S: Serve>(&mut self, server: &mut S) -> Result<Rest, LoopFault>
-        ensures { (hs : List Happening) × Runs P.may self.old hs self.new × IsRound S.steps S.settles server.old hs server.new × IsThrough 16 result hs }
+        ensures { (hs : List Happening) × Runs P.may self.old.port hs self.new.port × TriesRound S.steps S.settles server.old self.old.aside hs result server.new self.new.aside }
     {
-        serve_round(self.exchanges.as_mut_slice(), &mut self.port, server)
+        if self.aside.len() > MOST_ASIDE {
+            return Ok(Rest::Later);
+        }
+        serve_round(
+            self.exchanges.as_mut_slice(),
+            &mut self.aside,
+            &mut self.port,
+            server,
+        )
+    }
+
+    /// Serves those that were put aside, in their order, up to the first that would wait still, or that took long.
+    pub fn take_up<S: Serve>(&mut self, server: &mut S)
+        ensures { (hs : List Happening) × Runs P.may self.old.port hs self.new.port × AreTakenUp S.steps S.settles server.old self.old.aside hs server.new self.new.aside }
+    {
+        take_up_all(&mut self.aside, &mut self.port, server);
+    }
+
+    /// Whether any are put aside.
+    pub fn has_aside(&self) -> bool
+        ensures { IsTrue result ↔ (self.now.aside ≢ []) }
+    {
+        !self.aside.is_empty()
+    }
+
+    /// Whether one is put aside that would wait no more.
+    pub fn has_ready<S: Serve>(&self, server: &S) -> bool {
+        match self.aside.front() {
+            Some(first) => !server.waits(&first.buffer[..first.length]),
+            None => false,
+        }
     }
 }
 

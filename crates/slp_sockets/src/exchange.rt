@@ -1,4 +1,5 @@
-ghost use Rattle.std.specs.Prelude.{◌≤◌, vec_len};
+ghost use Rattle.std.specs.Prelude.{◌≡◌, ◌≤◌, vec_len, IfOk};
+ghost use Rattle.slp_sockets.specs.declared.exchange.Back.TheVariants.{Nothing as Nothings};
 
 use slp_replies::Answer;
 use std::alloc::{AllocError, Global};
@@ -42,7 +43,9 @@ pub(crate) struct Exchange {
 
 impl Exchange {
     /// One into which nothing came.
-    pub fn new(alloc: Global) -> Result<Exchange, AllocError> {
+    pub fn new(alloc: Global) -> Result<Exchange, AllocError>
+        ensures { IfOk result (λ e. e.back ≡ Nothings) }
+    {
         Ok(Exchange {
             buffer: vec![in alloc; 0; LONGEST_DATAGRAM]?,
             length: 0,

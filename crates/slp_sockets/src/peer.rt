@@ -1,6 +1,6 @@
 //! A stream of a loop. Nothing else reads it, or writes to it.
-ghost use Rattle.std.specs.Prelude.{◌≡◌, true, false, Result};
-ghost use Rattle.slp_sockets.specs.Linking.{Link};
+ghost use Rattle.std.specs.Prelude.{◌≡◌, true, false, IsTrue, Result};
+ghost use Rattle.slp_sockets.specs.Linking.{Link, has_message};
 ghost use Rattle.slp_sockets.specs.Sitting.{seat};
 ghost use Rattle.slp_sockets.specs.Streaming.{Advances, Goes};
 ghost use Rattle.slp_sockets.specs.Streaming as spec;
@@ -39,7 +39,14 @@ fn end_of(read: Next, written: Next) -> Option<Next>
     }
 }
 
-// Reads and writes until the stream is blocked, and serves one message at most. `More` where it is not blocked yet, or another message waits. What was told of the message is out
+// Whether the message in front is put aside: it can be served, and would wait.
+fn is_put_aside<S: Serve>(connection: &Connection, server: &S) -> bool
+    ensures { IsTrue result → has_message connection.now ≡ true }
+{
+    connection.is_ready() && server.waits(connection.unserved())
+}
+
+// Reads and writes until the stream is blocked, and serves one message at most. One that would wait is left where it is, and nothing is read behind it. `More` where it is not blocked yet, or another message waits. What was told of the message is out
 // before its reply is written.
 fn take_steps<T: Read + Write, S: Serve>(
     connection: &mut Connection,
@@ -55,6 +62,9 @@ fn take_steps<T: Read + Write, S: Serve>(
         if is_next & has_served {
             return Ok(Next::More);
         }
+        if is_next && is_put_aside(connection, server) {
+            return Ok(Next::Blocked);
+        }
         has_served = is_next | has_served;
         let read = connection.on_readable(stream, server)?;
         let settled = settle(server);
@@ -66,6 +76,11 @@ fn take_steps<T: Read + Write, S: Serve>(
     Ok(Next::More)
 }
 
+// Whether a message was put aside, by what the steps of its stream came to: else it would have been served.
+fn is_left(told: Result<Next, LoopFault>, connection: &Connection) -> bool {
+    matches!(told, Ok(Next::Blocked)) && connection.is_ready()
+}
+
 /// A stream and what is known of it.
 #[derive(Drop)]
 pub(crate) struct Peer<T: Drop> {
@@ -73,6 +88,8 @@ pub(crate) struct Peer<T: Drop> {
     connection: Connection,
     // When it moved last, in seconds of the loop's own clock.
     moved: u32,
+    // Whether its message in front was put aside.
+    is_aside: bool,
 }
 
 impl<T: Drop> Peer<T> {
@@ -85,7 +102,13 @@ impl<T: Drop> Peer<T> {
             stream,
             connection: Connection::new(alloc, asker),
             moved: now,
+            is_aside: false,
         }
+    }
+
+    /// Whether its message in front was put aside, at its last turn.
+    pub fn is_aside(&self) -> bool {
+        self.is_aside
     }
 
     /// When it moved last.
@@ -103,6 +126,7 @@ impl<T: Read + Write + Drop> Peer<T> {
             result (record { brings = T.remaining self.new.stream; taken = T.contents self.new.stream; link = self.new.connection; server = server.new }) self.new.moved }
     {
         let told = take_steps(&mut self.connection, &mut self.stream, server);
+        self.is_aside = is_left(told, &self.connection);
         if self.connection.has_moved() {
             self.moved = now;
         }

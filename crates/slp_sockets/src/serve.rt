@@ -15,6 +15,16 @@ pub trait Serve {
     // Holds of the server before and after it settled.
     ghost settles: { Settles Self };
 
+    /// Whether a message with which these bytes begin would wait for others, if it were served now. It decides when a message is
+    /// served, and nothing else.
+    fn waits(&self, bytes: &[u8]) -> bool;
+
+    /// Whether to serve a message may take long, so that it is timed. It decides how many are served in a turn, and nothing else.
+    fn may_last(&self, message: &[u8]) -> bool;
+
+    /// The microseconds of a clock that never goes back, from some start on. It decides the same.
+    fn micros(&self) -> u64;
+
     /// Answers one message, by no more than `limit` bytes.
     fn serve(
         &mut self,

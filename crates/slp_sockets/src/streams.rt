@@ -3,7 +3,7 @@ ghost use Rattle.slab.specs.Slab.{slab_len};
 ghost use Rattle.slp_sockets.specs.Holding.{HasNoOther, IsStillest, KeepsOthers, NoneSits, least_stay, longest_stay, moment_of};
 ghost use Rattle.slp_sockets.specs.Holding as holding;
 ghost use Rattle.slp_sockets.specs.Sitting.{seats};
-ghost use Rattle.slp_sockets.specs.Turning.{AdvancesAt, Admits, ComeOrGo, ServesAt};
+ghost use Rattle.slp_sockets.specs.Turning.{AdvancesAt, Admits, ComeOrGo, Resumes, ServesAt};
 ghost use Rattle.slp_sockets.specs.Turning as turning;
 ghost use Rattle.slp_sockets.specs.declared.fault.LoopFault.TheVariants.{Io as Failing};
 
@@ -40,6 +40,8 @@ pub struct Streams {
     limit: usize,
     // Whether a connection may wait that no event will report.
     accepts_again: bool,
+    // Whether a message of a stream was put aside since they were last resumed.
+    has_aside: bool,
     // The moment of the loop's own clock, and the one at which it was looked which streams sit there.
     moment: u32,
     looked: u32,
@@ -53,6 +55,7 @@ impl Drop for Streams {
             peers: _,
             limit: _,
             accepts_again: _,
+            has_aside: _,
             moment: _,
             looked: _,
         } = self;
@@ -83,6 +86,7 @@ impl Streams {
             peers: Slab::with_capacity(alloc, limit)?,
             limit,
             accepts_again: false,
+            has_aside: false,
             moment: 0,
             looked: 0,
         })
@@ -229,11 +233,40 @@ impl Streams {
         ensures served { ServesAt S.steps S.settles key (record { seats = self.old.seats; server = server.old }) (record { seats = self.new.seats; server = server.new }) }
     {
         let told = advance_at(&mut self.peers, server, registry, key, self.moment);
+        self.has_aside = self.has_aside | is_aside(&self.peers, key);
         if !is_closed(told) {
             return Ok(());
         }
         drop(self.peers.try_remove(key));
         lack_of(told)
+    }
+
+    /// Whether a message of a stream was put aside since they were last resumed.
+    pub fn has_aside(&self) -> bool {
+        self.has_aside
+    }
+
+    /// Lets those streams go on of which a message was put aside.
+    pub fn resume<S: Serve>(&mut self, registry: &Registry, server: &mut S)
+        ensures limit { self.new.limit ≡ self.old.limit }
+        ensures served { Resumes S.steps S.settles (record { seats = self.old.seats; server = server.old }) (record { seats = self.new.seats; server = server.new }) }
+    {
+        if !std::mem::take(&mut self.has_aside) {
+            return;
+        }
+        for key in 0..self.peers.capacity() {
+            if is_aside(&self.peers, key) {
+                let _ = self.advance(registry, key, server);
+            }
+        }
+    }
+}
+
+// Whether the message in front of the stream with a key was put aside.
+fn is_aside(peers: &Slab<Peer<TcpStream>>, key: usize) -> bool {
+    match peers.get(key) {
+        Some(peer) => peer.is_aside(),
+        None => false,
     }
 }
 

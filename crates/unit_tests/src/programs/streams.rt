@@ -26,6 +26,18 @@ impl<'a> Serve for Replying<'a> {
 
     ghost settles = { λ before after. after ≡ before };
 
+    fn waits(&self, _bytes: &[u8]) -> bool {
+        false
+    }
+
+    fn may_last(&self, _message: &[u8]) -> bool {
+        false
+    }
+
+    fn micros(&self) -> u64 {
+        0
+    }
+
     fn serve(
         &mut self,
         _asker: Addr,

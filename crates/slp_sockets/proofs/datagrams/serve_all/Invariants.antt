@@ -1,10 +1,10 @@
 use Rattle.std.proofs.Common.{◌≡◌, take, drop}
 use Rattle.slp_sockets.specs.Exchanging.{datagrams, all_dues}
-use Rattle.slp_sockets.specs.Ports.{AreAnswered}
+use Rattle.slp_sockets.proofs.Exchanges.{Meets}
 use Rattle.slp_sockets.proofs.datagrams.serve_all.Given as goal
 
 abbrev pub invariant-loop-exchange : goal.invariant-loop-exchange
 invariant-loop-exchange g l = record {
   same : drop l.exchange-index l.exchanges ≡ drop l.exchange-index l.fn.exchanges;
-  answered : AreAnswered g.S.Serve.steps l.fn.server (datagrams (take l.exchange-index l.fn.exchanges)) (all_dues (take l.exchange-index l.exchanges)) l.server;
+  met : Meets g.S.Serve.steps l.fn.server (datagrams (take l.exchange-index l.fn.exchanges)) (all_dues (take l.exchange-index l.exchanges)) (datagrams l.fn.aside.items) (datagrams l.aside.items) l.server;
 }

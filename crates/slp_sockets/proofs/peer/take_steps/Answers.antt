@@ -1,6 +1,6 @@
 use Rattle.std.proofs.Common.{Ok, Err, sym, ◌∙◌}
 use Rattle.std.proofs.lemmas.Result.{err_from_is_err_and}
-use Rattle.slp_sockets.proofs.Streaming.{talk, next_waits, is_read, is_step, read_failed, write_failed, ended, went_on, over}
+use Rattle.slp_sockets.proofs.Streaming.{talk, next_waits, left_aside, is_read, is_step, read_failed, write_failed, ended, went_on, over}
 use Rattle.slp_sockets.proofs.peer.take_steps.Goals as goal
 
 pub returns-then-is_next-has_served : goal.returns-then-is_next-has_served
@@ -41,3 +41,8 @@ loop-preserved g c = λ told b rest.
 
 pub returns : goal.returns
 returns g c = c.loop.invariant (Ok _) _ (over g.S.Serve.steps g.S.Serve.settles c.loop.counter c.loop.has_served c.loop-test.false (talk g.T.Read.remaining g.T.Write.contents c.loop.stream c.loop.connection c.loop.server))
+
+pub returns-then-is_put_aside : goal.returns-then-is_put_aside
+returns-then-is_put_aside g c =
+    c.loop.invariant (Ok _) _
+    (left_aside g.S.Serve.steps g.S.Serve.settles c.loop.counter c.loop-test.true c.loop.has_served (talk g.T.Read.remaining g.T.Write.contents c.loop.stream c.loop.connection c.loop.server) c.has_message-is_next.result c.has_message-is_next.ensures c.if-is_next.true)

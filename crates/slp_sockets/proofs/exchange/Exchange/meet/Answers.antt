@@ -1,0 +1,8 @@
+use Rattle.std.proofs.Common.{refl}
+use Rattle.slp_sockets.proofs.Exchanges.{met_aside}
+use Rattle.slp_sockets.proofs.exchange.Exchange.meet.Goals as goal
+
+pub returns-then-put_aside : goal.returns-then-put_aside
+returns-then-put_aside g c =
+    let p = c.if-put_aside.ensures.put refl in
+    met_aside g.S.Serve.steps c.args.self.now c.put_aside.new.self c.args.server.now c.args.aside.now.items c.put_aside.new.aside.items p.0 p.1
