@@ -50,25 +50,19 @@ where
         self.reply_of(&first, out)
     }
 
-    /// Asks the first loop, which stays in its entry until it may go on.
-    pub(crate) fn enter(&mut self, text: &str, out: &mut Vec<u8>) -> io::Result<()> {
-        let message = self.message(text)?;
+    /// Sends the first loop what is no message. It enters what is published all the same, and stays there until it may go on.
+    pub(crate) fn enter(&self, out: &mut Vec<u8>) -> io::Result<()> {
         self.props.meeting.call();
-        let first = self.send_to_loop(1, message.as_slice())?;
-        if !self.props.meeting.wait_for_first(self.rt) {
-            out.write_all(b"(not inside)\n")?;
+        self.send_to_loop(1, &[0])?;
+        if self.props.meeting.wait_for_first(self.rt) {
+            return Ok(());
         }
-        self.held = Some(first);
-        Ok(())
+        out.write_all(b"(not inside)\n")
     }
 
-    /// Lets the first loop go on, and prints what it answered.
-    pub(crate) fn leave(&mut self, out: &mut Vec<u8>) -> io::Result<()> {
+    /// Lets the first loop go on.
+    pub(crate) fn leave(&self) {
         self.props.meeting.end();
-        match self.held.take() {
-            Some(first) => self.reply_of(&first, out),
-            None => out.write_all(b"(not inside)\n"),
-        }
     }
 
     /// The first loop stays in its entry until the second has answered the same.

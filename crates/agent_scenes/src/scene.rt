@@ -77,7 +77,7 @@ pub struct Scene<'r, R> {
     streams: Vec<TcpStream>,
     sent: Vec<Sent>,
     answers: Answers,
-    pub(crate) held: Option<UdpSocket>,
+    held: Option<UdpSocket>,
     taken: Option<TcpListener>,
     files: Vec<File>,
     block: Option<Block>,
@@ -307,8 +307,11 @@ where
                 Ok(())
             }
             AgentRow::TwoLoopsAtOnce => self.two_loops_at_once(rest, out),
-            AgentRow::Enter => self.enter(rest, out),
-            AgentRow::Leave => self.leave(out),
+            AgentRow::Enter => self.enter(out),
+            AgentRow::Leave => {
+                self.leave();
+                Ok(())
+            }
             AgentRow::Pause => {
                 thread::sleep(self.rt, Duration::from_millis(number_of(rest, 10_000)));
                 Ok(())

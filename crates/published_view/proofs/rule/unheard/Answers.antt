@@ -17,5 +17,5 @@ returns-in-Ok g c =
     let shown : PublishedCopy = c.in-Ok.reading.part.value in
     let sees : SeesAll g.J.Naming.book o g.Q.Asks.call v shown shown (view c.in-Ok.reading.place) = c.in-Ok.ensures.1 in (
       refl,
-      subst (λ (x : Trace). IsAsked o v (Some (call_in c.args.call.now)) x) (sym c.leave.ensures.1) (subst (λ (q : Option Call). IsAsked o v q (view c.in-Ok.reading.place)) c.requires.asks sees.0),
+      subst (λ (x : Trace). IsAsked o v (Some (call_in c.args.call.now)) x) (sym c.leave-reader.ensures.1) (subst (λ (q : Option Call). IsAsked o v q (view c.in-Ok.reading.place)) c.requires.asks sees.0),
     )

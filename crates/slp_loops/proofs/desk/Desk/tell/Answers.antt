@@ -1,4 +1,4 @@
-use Rattle.std.proofs.Common.{None, Result, Err, Option, refl, sym, ap, subst, ◌∙◌, inl}
+use Rattle.std.proofs.Common.{None, Result, Option, refl, sym, ap, subst, ◌∙◌, inl}
 use Rattle.std.specs.Borrow.{Bor}
 use Rattle.std.proofs.lemmas.List.{append-nil}
 use Rattle.directory_questions.specs.declared.heard.Heard.{Heard}
