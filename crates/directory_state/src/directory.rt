@@ -23,7 +23,7 @@ ghost use Rattle.directory_state.specs.Folds.{IsJudgedAs};
 use crate::arranging::by_type;
 use crate::asked::{Asked, Viewer};
 use crate::gathered::Gathered;
-use crate::gathering::{shares_of_kind, shares_of_url};
+use crate::gathering::shares_of_url;
 use access_rules::Rules;
 use addresses::Addr;
 use directory_judge::{Change, Decision, Grounds, Site};
@@ -224,7 +224,7 @@ impl<R: Registry> Directory<R> {
     pub fn gather_kind(&self, alloc: Global, kind: &ServiceType) -> Result<Gathered, NoMemory>
         ensures { IfOk result (IsGathered (Kind kind.now) self.now) }
     {
-        let entries = shares_of_kind(alloc, &self.registry, kind)?;
+        let entries = self.registry.shares_of_kind(alloc, kind)?;
         self.gathered(entries)
     }
 

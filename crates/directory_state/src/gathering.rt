@@ -1,8 +1,8 @@
 //! How what a question is about is gathered.
-ghost use Rattle.std.specs.Prelude.{◌≡◌, map, Some, IfOk, IfNone, IfSome, IsTrue, false};
+ghost use Rattle.std.specs.Prelude.{◌≡◌, map, IfOk, IfNone, IfSome, IsTrue, false};
 ghost use Rattle.std.specs.Arc.{arc_value};
 ghost use Rattle.std.specs.List.{list_any};
-ghost use Rattle.registry_core.specs.Entries.{is_kind, is_of_url, IsListing};
+ghost use Rattle.registry_core.specs.Entries.{is_of_url, IsListing};
 ghost use Rattle.directory_judge.specs.Judgements.{supports};
 ghost use Rattle.directory_questions.specs.declared.query.Target.{Target as Targets};
 ghost use Rattle.directory_state.specs.Sources.{IsGathered};
@@ -14,28 +14,11 @@ use crate::gathered::Gathered;
 use access_rules::Rules;
 use addresses::Addr;
 use registry_core::{Entry, Registry};
-use service_url::{ServiceType, Url};
+use service_url::Url;
 use slp_scopes::ScopeList;
 use slp_text::NoMemory;
 use std::alloc::Global;
 use std::sync::Arc;
-
-// Shares of the entries of a type, in the order of their walk.
-pub(crate) fn shares_of_kind<R: Registry>(
-    alloc: Global,
-    registry: &R,
-    kind: &ServiceType,
-) -> Result<Vec<Arc<Entry>>, NoMemory>
-    ensures { IfOk result (λ v. IsListing (is_kind (Some kind.now)) (R.contents registry.now) (map arc_value v.items)) }
-{
-    let mut shares = Vec::new(alloc);
-    let mut from = 0;
-    while let Some((share, next)) = registry.share_by_kind(kind, from) {
-        shares.push(Arc::try_clone(share)?)?;
-        from = next;
-    }
-    Ok(shares)
-}
 
 // Shares of the entries of a URL, in the order of their walk.
 pub(crate) fn shares_of_url<R: Registry>(

@@ -9,7 +9,7 @@ use crate::entry::Entry;
 use crate::registry::{Registry, RegistryFault};
 use service_url::{ServiceType, Url};
 use slp_scopes::ScopeList;
-use slp_text::Key;
+use slp_text::{Key, NoMemory};
 use std::alloc::Global;
 use std::marker::Model;
 use std::sync::Arc;
@@ -248,14 +248,19 @@ impl Registry for ListRegistry {
         None
     }
 
-    fn share_by_kind(&self, kind: &ServiceType, from: usize) -> Option<(&Arc<Entry>, usize)> {
-        for at in from..self.entries.len() {
+    fn shares_of_kind(
+        &self,
+        alloc: Global,
+        kind: &ServiceType,
+    ) -> Result<Vec<Arc<Entry>>, NoMemory> {
+        let mut shares = Vec::new(alloc);
+        for at in 0..self.entries.len() {
             let share = &self.entries[at];
             if kind.covers(&share.kind) {
-                return Some((share, at + 1));
+                shares.push(Arc::try_clone(share)?)?;
             }
         }
-        None
+        Ok(shares)
     }
 
     fn share_by_url(&self, url: &Url, from: usize) -> Option<(&Arc<Entry>, usize)> {

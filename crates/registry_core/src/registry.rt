@@ -1,4 +1,4 @@
-ghost use Rattle.std.specs.Prelude.{◌≡◌, ◌<◌, ◌≤◌, ◌∷◌, [], ◌↔◌, length, filter, is_some, not, true, IsErrOf, OnOk, OnErr, IfSome, IsTrue, MatchOption, None, Some};
+ghost use Rattle.std.specs.Prelude.{◌≡◌, ◌<◌, ◌≤◌, ◌∷◌, [], ◌↔◌, length, filter, map, is_some, not, true, IsErrOf, OnOk, OnErr, IfOk, IfSome, IsTrue, MatchOption, None, Some};
 ghost use Rattle.std.specs.Arc.{arc_value};
 ghost use Rattle.std.specs.FinMap as fin;
 ghost use Rattle.std.specs.Option.{option_copied};
@@ -8,8 +8,8 @@ ghost use Rattle.registry_core.specs.declared.registry.RegistryFault.TheVariants
 use crate::entry::Entry;
 use service_url::{ServiceType, Url};
 use slp_scopes::ScopeList;
-use slp_text::Key;
-use std::alloc::AllocError;
+use slp_text::{Key, NoMemory};
+use std::alloc::{AllocError, Global};
 use std::sync::Arc;
 use thiserror::Error;
 
@@ -33,7 +33,7 @@ impl From<AllocError> for RegistryFault {
 }
 
 /// Entries by URL and language, in memory that was taken when the registry was made: no call takes
-/// more. They are held as shares, and never change.
+/// more, but for a list that it answers. They are held as shares, and never change.
 pub trait Registry {
     ghost use Rattle.std.specs.Prelude.{ℕ, List, Option};
     ghost use Rattle.registry_core.specs.declared.entry.Entry.{Entry};
@@ -136,12 +136,12 @@ pub trait Registry {
         ensures next { MatchOption result (rest_of_url self.now url.now from ≡ []) (λ p. rest_of_url self.now url.now from ≡ p.0.now ∷ rest_of_url self.now url.now p.1) }
         ensures whole { IsListing (is_of_url url.now) (contents self.now) (rest_of_url self.now url.now 0) };
 
-    /// What `by_kind` gives of a type, lent as the share that the registry holds: another one of it may be kept.
-    fn share_by_kind(&self, kind: &ServiceType, from: usize) -> Option<(&Arc<Entry>, usize)>
-        ensures next { MatchOption result (rest_of_kind self.now (Some kind.now) from ≡ []) (λ p. rest_of_kind self.now (Some kind.now) from ≡ arc_value p.0.now ∷ rest_of_kind self.now (Some kind.now) p.1) }
-        ensures whole { IsListing (is_kind (Some kind.now)) (contents self.now) (rest_of_kind self.now (Some kind.now) 0) };
+    /// Shares of the entries of a type that the given one covers, in the order of `by_kind`: a list of its own.
+    fn shares_of_kind(&self, alloc: Global, kind: &ServiceType) -> Result<Vec<Arc<Entry>>, NoMemory>
+        ensures order { IfOk result (λ v. map arc_value v.items ≡ rest_of_kind self.now (Some kind.now) 0) }
+        ensures whole { IfOk result (λ v. IsListing (is_kind (Some kind.now)) (contents self.now) (map arc_value v.items)) };
 
-    /// What `by_url` gives, in the same way.
+    /// What `by_url` gives, lent as the share that the registry holds: another one of it may be kept.
     fn share_by_url(&self, url: &Url, from: usize) -> Option<(&Arc<Entry>, usize)>
         ensures next { MatchOption result (rest_of_url self.now url.now from ≡ []) (λ p. rest_of_url self.now url.now from ≡ arc_value p.0.now ∷ rest_of_url self.now url.now p.1) }
         ensures whole { IsListing (is_of_url url.now) (contents self.now) (rest_of_url self.now url.now 0) };

@@ -44,7 +44,7 @@ begins (x ∷ xs) (y ∷ ys) h =
     let b = and_parts (nat_eq y x) (starts_with nat_eq xs ys) h in
     ap₂ (λ z zs. z ∷ zs) (sym (eqb-true y x b.0)) (begins xs ys b.1)
 
-root_made : (x : List ℕ) → root_of (service_word ++ x) ≡ service_word ++ take (position_or_len is_colon x) x
+pub root_made : (x : List ℕ) → root_of (service_word ++ x) ≡ service_word ++ take (position_or_len is_colon x) x
 root_made x = take_more service_word x (position_or_len is_colon x)
 
 -- an abstract type is its own root

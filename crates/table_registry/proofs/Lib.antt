@@ -1,4 +1,5 @@
 pub mod Along
 pub mod Contents
 pub mod OneType
+pub mod Ranges
 pub mod TypeOrder

@@ -17,7 +17,7 @@ use registry_slots::{By, Slots, find_slot, keep_held, put_in, stand_of, take_out
 use service_url::{ServiceType, Url};
 use slot_list::SlotList;
 use slp_scopes::ScopeList;
-use slp_text::Key;
+use slp_text::{Key, NoMemory};
 use std::alloc::Global;
 use std::marker::Model;
 use std::sync::Arc;
@@ -321,12 +321,19 @@ impl Registry for TableRegistry {
         }
     }
 
-    fn share_by_kind(&self, kind: &ServiceType, from: usize) -> Option<(&Arc<Entry>, usize)> {
+    // What a type covers stands together, so that no entry is looked at.
+    fn shares_of_kind(
+        &self,
+        alloc: Global,
+        kind: &ServiceType,
+    ) -> Result<Vec<Arc<Entry>>, NoMemory> {
         let order = self.order(by_for(Some(kind)));
-        match self.next_wanted(None, Some(kind), None, from) {
-            Some(at) => Some((self.slots.share(order.at(at)), at + 1)),
-            None => None,
+        let (start, end) = self.range_of(kind);
+        let mut shares = Vec::new(alloc);
+        for at in start..end {
+            shares.push(Arc::try_clone(self.slots.share(order.at(at)))?)?;
         }
+        Ok(shares)
     }
 
     fn share_by_url(&self, url: &Url, from: usize) -> Option<(&Arc<Entry>, usize)> {

@@ -252,6 +252,20 @@ impl TableRegistry {
         None
     }
 
+    // Where what a type covers stands in the order for the type: from the first number up to the second.
+    #[inline(never)]
+    pub(super) fn range_of(&self, kind: &ServiceType) -> (usize, usize)
+        ensures start { result.0 ≡ place_in (by_for_kind (Some kind.now)) self.now.slots (order_of (by_for_kind (Some kind.now)) self.now) (kind.now, ([], [])) }
+        ensures end { result.1 ≡ place_in (by_for_kind (Some kind.now)) self.now.slots (order_of (by_for_kind (Some kind.now)) self.now) (rank_behind kind.now) }
+    {
+        let by = by_for(Some(kind));
+        let order = self.order(by);
+        let front = kind.text().as_bytes();
+        let start = place_of(&self.slots, order, by, &Spot::before(front));
+        let end = place_of(&self.slots, order, by, &Spot::behind(front));
+        (start, end)
+    }
+
     // Where the entries of a type end in the order by type.
     #[inline(never)]
     pub(super) fn end_of_kind(&self, kind: &ServiceType) -> usize
