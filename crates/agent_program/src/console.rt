@@ -108,6 +108,7 @@ where
         wait_for_loops(self.rt, self.gate);
         let moment = self.clock.now();
         let mut writer = self.writer.lock(self.rt);
+        self.gate.changing();
         let told = put_rules(&mut *writer, self.alloc, moment, rules);
         self.gate.changed();
         told
@@ -140,6 +141,7 @@ where
         wait_for_loops(self.rt, self.gate);
         let moment = self.clock.now();
         let mut writer = self.writer.lock(self.rt);
+        self.gate.changing();
         let line = sweep_and_tell(&mut *writer, moment);
         self.gate.changed();
         line

@@ -62,9 +62,9 @@ impl<'r, 's, J: Naming, R: Wait + Clock, G: Gate> Sweeping<'r, 's, J, R, G> {
     {
         wait_for_loops(self.rt, self.gate);
         let now = self.clock.now();
-        if let Ok(true) = self.sweeper.turn(self.rt, now, self.writer) {
-            self.gate.changed();
-        }
+        self.gate.changing();
+        let _ = self.sweeper.turn(self.rt, now, self.writer);
+        self.gate.changed();
     }
 }
 

@@ -35,6 +35,10 @@ impl<'x> Gate for MeetingGate<'x> {
         self.counting.outside(place);
     }
 
+    fn changing(&self) {
+        self.counting.changing();
+    }
+
     fn changed(&self) {
         self.counting.changed();
     }

@@ -17,7 +17,7 @@ pub fn serve<S: Serve>(
 ) -> Result<Sent, NoMemory>
     requires least { 1400 ≤ limit }
     requires most { limit ≤ 65535 }
-    ensures { S.steps server.old asker message.now limit result answer.new server.new }
+    ensures { S.manner.steps server.old asker message.now limit result answer.new server.new }
 {
     let told = server.serve(asker, message, limit, answer);
     told

@@ -44,6 +44,8 @@ impl Gate for Meeting {
 
     fn outside(&self, _place: usize) {}
 
+    fn changing(&self) {}
+
     fn changed(&self) {}
 
     fn is_waited_for(&self) -> bool {
@@ -142,6 +144,8 @@ impl<'a, J: Naming, R: Wait> Gate for Hold<'a, J, R> {
     }
 
     fn outside(&self, _place: usize) {}
+
+    fn changing(&self) {}
 
     fn changed(&self) {}
 

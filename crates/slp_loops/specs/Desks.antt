@@ -1,5 +1,5 @@
 -- What a desk does with a message.
-use Rattle.std.specs.Prelude.{◌≡◌, ◌⊎◌, ℕ, Bool, true, false, List, [], Option, Result, Ok, Err, Some, None, IfOk, OnErr, OnOk}
+use Rattle.std.specs.Prelude.{◌≡◌, ◌⊎◌, ◌<◌, ℕ, Bool, true, false, List, [], length, slice_get, Option, Result, Ok, Err, Some, None, IfOk, OnErr, OnOk}
 use Rattle.std.specs.Borrow.{Bor}
 use Rattle.std.specs.Option.{option_map}
 use Rattle.slp_text.specs.declared.faults.NoMemory.{NoMemory}
@@ -29,6 +29,14 @@ pub record Standing (M L : Type 0) : Type 0 where
   pub view : Trace
   pub told : Bool
   pub lines : Logging L
+
+-- what begins with these bytes asks for a change, by the function in its header: a registration, or a withdrawal
+abbrev pub AsksForChange : List ℕ → Type 0
+AsksForChange bytes = (slice_get bytes 1 ≡ Some 3) ⊎ (slice_get bytes 1 ≡ Some 4)
+
+-- the messages that may take long: those of over 128 bytes, and those about attributes
+abbrev pub MayLast : List ℕ → Type 0
+MayLast message = (128 < length message) ⊎ (slice_get message 1 ≡ Some 6)
 
 -- the line of a message: that of its answer, or of a refusal where no memory was found
 abbrev pub told_line : ℕ → List ℕ → Result Sent NoMemory → Answer → List ℕ

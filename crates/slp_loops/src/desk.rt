@@ -6,7 +6,7 @@ ghost use Rattle.directory_questions.specs.Verdicts.{IsLegal};
 ghost use Rattle.history_log.specs.Pasts.{IsPast};
 ghost use Rattle.directory_runs.specs.Changes.{IsChanged};
 ghost use Rattle.published_view.specs.Traces.{last_at, IsAsked};
-ghost use Rattle.slp_loops.specs.Desks.{heard_lent, line_told, IsOutcomeOf, IsServedChange};
+ghost use Rattle.slp_loops.specs.Desks.{AsksForChange, heard_lent, line_told, IsOutcomeOf, IsServedChange};
 ghost use Rattle.slp_loops.specs.Logging.{Lined};
 
 use crate::log::{Lines, Log, SharedOutput};
@@ -68,7 +68,7 @@ impl<'r, 's, J: Naming, R: Wait, M: Moments + Drop, G: Gate, L: Log + Drop> Drop
 
 // Whether a message with which these bytes begin asks for a change, by the function in its header.
 fn asks_for_change(bytes: &[u8]) -> bool
-    ensures { IsTrue result ↔ ((slice_get bytes.now 1 ≡ Some 3) ⊎ (slice_get bytes.now 1 ≡ Some 4)) }
+    ensures { IsTrue result ↔ AsksForChange bytes.now }
 {
     matches!(bytes.get(1), Some(&(REGISTRATION | WITHDRAWAL)))
 }
@@ -155,6 +155,7 @@ impl<'r, 's, J: Naming, R: Wait, M: Moments + Drop, G: Gate, L: Log + Drop> Desk
         ensures kept { self.new ≡ record self.old { view = self.new.view; told = self.new.told } }
     {
         let mut writer = self.writer.lock(self.rt);
+        self.gate.changing();
         let changed = change_and_note(&mut *writer, self.alloc, heard, answer);
         self.gate.changed();
         drop(writer);
@@ -196,15 +197,18 @@ impl<'r, 's, J: Naming, R: Wait, M: Moments + Drop, G: Gate, L: Log + Drop> Desk
 impl<'r, 's, J: Naming, R: Wait, M: Moments + Drop, G: Gate, L: Log + Drop> Serve
     for Desk<'r, 's, J, R, M, G, L> {
     ghost use Rattle.std.specs.Prelude.{◌≡◌};
-    ghost use Rattle.slp_loops.specs.Desks.{DeskSteps};
+    ghost use Rattle.slp_loops.specs.Desks.{AsksForChange, DeskSteps, MayLast};
     ghost use Rattle.slp_loops.specs.Logging.{IsOut};
 
-    ghost steps = { λ before asker message limit outcome answer after. DeskSteps J.opening M.may L.writes
-        (record { own = before.own; moments = before.moments; view = before.view; told = before.told; lines = before.lines })
-        asker message limit outcome answer
-        (record { own = after.own; moments = after.moments; view = after.view; told = after.told; lines = after.lines }) };
-
-    ghost settles = { λ before after. (after ≡ record before { lines = after.lines }) × IsOut L.writes before.lines after.lines };
+    ghost manner = { record {
+      steps = λ before asker message limit outcome answer after. DeskSteps J.opening M.may L.writes
+          (record { own = before.own; moments = before.moments; view = before.view; told = before.told; lines = before.lines })
+          asker message limit outcome answer
+          (record { own = after.own; moments = after.moments; view = after.view; told = after.told; lines = after.lines });
+      settles = λ before after. (after ≡ record before { lines = after.lines }) × IsOut L.writes before.lines after.lines;
+      may_wait = AsksForChange;
+      may_last = MayLast;
+    } };
 
     // A change waits where its publish would have to wait for a loop that is inside. A question waits for nothing.
     fn waits(&self, bytes: &[u8]) -> bool {

@@ -7,7 +7,7 @@ use Rattle.std.proofs.lemmas.Option.{same_Some}
 use Rattle.slab.specs.Slab.{Slab, Updates, get, with_value}
 use Rattle.slp_sockets.specs.Holding.{Seat, moment_of, seat_at}
 use Rattle.slp_sockets.specs.Linking.{Link}
-use Rattle.slp_sockets.specs.Serving.{Steps, Settles}
+use Rattle.slp_sockets.specs.Serving.{Manner}
 use Rattle.slp_sockets.specs.Sitting.{seat, seats}
 use Rattle.slp_sockets.specs.Streaming.{Advances}
 use Rattle.slp_sockets.specs.Turning.{Tended, AdvancesAt, Remains, is_closed, ServesAt, TakesSteps, Tells, rested}
@@ -45,12 +45,12 @@ gone was (Err e) is (inr (more, io)) end slot none = subst (λ t. Remains end t 
 not_blocked : (told : Result Next LoopFault) → is_closed told ≡ true → told ≢ Ok Blocked
 not_blocked told is blocked = absurd (true≢false (sym is ∙ ap is_closed blocked))
 
-module _ {S : Type 0} (steps : Steps S) (settles : Settles S) where
+module _ {S : Type 0} (manner : Manner S) where
   -- a stream went on, and was waited for again or not
   pub gone_on : {T : Type 0} (p n q : Peer T) (now : ℕ) (a b : S) (r w x y : Option (List ℕ)) (was told : Result Next LoopFault)
-      → Advances steps settles now (record { brings = r; taken = w; link = p.connection; server = a }) p.moved was (record { brings = x; taken = y; link = n.connection; server = b }) n.moved
+      → Advances manner now (record { brings = r; taken = w; link = p.connection; server = a }) p.moved was (record { brings = x; taken = y; link = n.connection; server = b }) n.moved
       → seat q ≡ seat n → Tells was told
-      → (was : Result Next LoopFault) × (end : Link) × TakesSteps steps settles p.connection a was end b × Tells was told × (seat q ≡ rested now end p.moved)
+      → (was : Result Next LoopFault) × (end : Link) × TakesSteps manner p.connection a was end b × Tells was told × (seat q ≡ rested now end p.moved)
   gone_on p n q now a b r w x y was told on same tells = (
     was,
     on.end,
@@ -69,8 +69,8 @@ module _ {S : Type 0} (steps : Steps S) (settles : Settles S) where
 
   module _ {T : Type 0} (peers : Slab (Peer T)) (key : ℕ) (p q : Peer T) (held : get peers key ≡ Some p) (now : ℕ) (a b : S) (told : Result Next LoopFault) where
     -- it is the one with a key
-    pub advanced : (was : Result Next LoopFault) × (end : Link) × TakesSteps steps settles p.connection a was end b × Tells was told × (seat q ≡ rested now end p.moved)
-        → AdvancesAt steps settles now key (record { seats = seats peers; server = a }) told (record { seats = seats (with_value peers key q); server = b })
+    pub advanced : (was : Result Next LoopFault) × (end : Link) × TakesSteps manner p.connection a was end b × Tells was told × (seat q ≡ rested now end p.moved)
+        → AdvancesAt manner now key (record { seats = seats peers; server = a }) told (record { seats = seats (with_value peers key q); server = b })
     advanced (was, end, takes, tells, is) =
         let put = updated peers key p q held in
         inl (
@@ -88,7 +88,7 @@ module _ {S : Type 0} (steps : Steps S) (settles : Settles S) where
         )
 
   -- each stream is there since it moved, or it moved now
-  pub advanced_moments : (now key : ℕ) (before after : Tended S) (told : Result Next LoopFault) → AdvancesAt steps settles now key before told after
+  pub advanced_moments : (now key : ℕ) (before after : Tended S) (told : Result Next LoopFault) → AdvancesAt manner now key before told after
       → (k at : ℕ) → moment_of after.seats k ≡ Some at → (moment_of before.seats k ≡ Some at) ⊎ (at ≡ now)
   advanced_moments now key before after told (inl (was, end, known, on, tells, there)) k at is = elim (cases_eq k key) [
     | inl same ↦
@@ -102,13 +102,13 @@ module _ {S : Type 0} (steps : Steps S) (settles : Settles S) where
   advanced_moments now key before after told (inr (none, same, is)) k at at_is = inl (subst (λ (s : Tended S). moment_of s.seats k ≡ Some at) same at_is)
 
   -- it stays
-  pub stayed : (now key : ℕ) (before after : Tended S) (told : Result Next LoopFault) → is_closed told ≡ false → AdvancesAt steps settles now key before told after → ServesAt steps settles key before after
+  pub stayed : (now key : ℕ) (before after : Tended S) (told : Result Next LoopFault) → is_closed told ≡ false → AdvancesAt manner now key before told after → ServesAt manner key before after
   stayed now key before after told not (inl (was, end, known, on, tells, there)) = inl (was, end, known, on, remains was told not tells (seat_at after.seats key) end (rested now end known) there refl)
   stayed now key before after told not (inr (none, same, is)) = inr (none, same)
 
   -- it is closed
   pub ended : {T : Type 0} (now key : ℕ) (before : Tended S) (old new : Slab (Peer T)) (server : S) (told : Result Next LoopFault) → is_closed told ≡ true → Updates old new key None
-      → AdvancesAt steps settles now key before told (record { seats = seats old; server = server }) → ServesAt steps settles key before (record { seats = seats new; server = server })
+      → AdvancesAt manner now key before told (record { seats = seats old; server = server }) → ServesAt manner key before (record { seats = seats new; server = server })
   ended now key before old new server told over removed (inl (was, end, known, on, tells, here)) =
       inl (
         was,

@@ -1,10 +1,11 @@
 -- What happens at a port, one part after the other.
-use Rattle.std.proofs.Common.{◌≡◌, ◌≢◌, ◌≤◌, ℕ, ◌+◌, List, [], ◌∷◌, ◌++◌, map, length, Option, Some, None, Result, Ok, Err, refl, sym, ap, ◌∙◌, subst, arith, inl, inr}
+use Rattle.std.specs.Prelude.{IsFalse}
+use Rattle.std.proofs.Common.{true, ◌≡◌, ◌≢◌, ◌≤◌, ℕ, ◌+◌, List, [], ◌∷◌, ◌++◌, map, length, Option, Some, None, Result, Ok, Err, refl, sym, ap, ◌∙◌, subst, arith, inl, inr}
 use Rattle.std.proofs.lemmas.List.{append-nil, append_assoc}
 use Rattle.std.specs.declared.io.Error.{Error}
 use Rattle.slp_sockets.specs.Exchanging.{Stopped}
-use Rattle.slp_sockets.specs.Ports.{Datagram, Happening, Came, Paused, Left, Ports, Runs, ServedFor, IsMet, AreMet, AreTakenUp, Says, GoOnTo, NoPause, IsEnough, IsThrough, asker_of, owed, pausing, pause_after, effort}
-use Rattle.slp_sockets.specs.Serving.{Steps, Settles}
+use Rattle.slp_sockets.specs.Ports.{Datagram, Happening, Came, Paused, Left, Ports, Round, Runs, IsTimed, IsMet, AreMet, AreStillAside, AreTakenUp, Says, GoOnTo, NoPause, IsEnough, IsThrough, owed, pausing, pause_after, effort}
+use Rattle.slp_sockets.specs.Serving.{Manner}
 use Rattle.slp_sockets.specs.declared.exchange.Rest.{Rest}
 use Rattle.slp_sockets.specs.declared.exchange.Rest.TheVariants.{Nothing, More, Later}
 use Rattle.slp_sockets.specs.declared.fault.LoopFault.{LoopFault}
@@ -18,10 +19,10 @@ runs_on may a (h ∷ hs) gs b c (between, one, rest) next = (between, one, runs_
 pub runs_one : {P : Type 0} (may : Ports P) (a : P) (h : Happening) (b : P) → may a h b → Runs may a (h ∷ []) b
 runs_one may a h b one = (b, one, refl)
 
-module _ {S : Type 0} (steps : Steps S) where
-  pub met_on : (a : S) (ds es : List Datagram) (first more put later : List Datagram) (b c : S) → AreMet steps a ds first put b → AreMet steps b es more later c → AreMet steps a (ds ++ es) (first ++ more) (put ++ later) c
+module _ {S : Type 0} (manner : Manner S) where
+  pub met_on : (a : Round S) (ds es : List Datagram) (first more put later : List Datagram) (b c : Round S) → AreMet manner a ds first put b → AreMet manner b es more later c → AreMet manner a (ds ++ es) (first ++ more) (put ++ later) c
   met_on a [] es first more put later b c (none, nothing, same) next =
-      subst (λ xs. AreMet steps a es (xs ++ more) (put ++ later) c) (sym none) (subst (λ xs. AreMet steps a es more (xs ++ later) c) (sym nothing) (subst (λ s. AreMet steps s es more later c) same next))
+      subst (λ xs. AreMet manner a es (xs ++ more) (put ++ later) c) (sym none) (subst (λ xs. AreMet manner a es more (xs ++ later) c) (sym nothing) (subst (λ s. AreMet manner s es more later c) same next))
   met_on a (d ∷ ds) es first more put later b c (back, here, between, owing, rest, one, others, is, puts) next = (
     back,
     here,
@@ -35,7 +36,7 @@ module _ {S : Type 0} (steps : Steps S) where
   )
 
   -- one alone
-  pub met_one : (a : S) (d : Datagram) (back : List ℕ) (put : List Datagram) (b : S) → IsMet steps a d back put b → AreMet steps a (d ∷ []) (owed d.peer back) put b
+  pub met_one : (a : Round S) (d : Datagram) (back : List ℕ) (put : List Datagram) (b : Round S) → IsMet manner a d back put b → AreMet manner a (d ∷ []) (owed d.peer back) put b
   met_one a d back put b one = (back, put, b, [], [], one, (refl, refl, refl), sym (append-nil (owed d.peer back)), sym (append-nil put))
 
 -- the first of a list and the others
@@ -49,39 +50,47 @@ not_none : {X : Type 0} (a : X) (xs : List X) → a ∷ xs ≢ []
 not_none a xs is = absurd cc
 
 -- those that are aside, one after the other
-module _ {S : Type 0} (steps : Steps S) (settles : Settles S) where
-  pub taken_none : (a : S) (ds : List Datagram) → AreTakenUp steps settles a ds [] a ds
+module _ {S : Type 0} (manner : Manner S) where
+  pub taken_none : (a : Round S) (ds : List Datagram) → AreTakenUp manner a ds [] a ds
   taken_none a [] = (refl, refl, refl)
   taken_none a (d ∷ ds) = inl (refl, refl, refl)
 
   -- one more
-  pub taken_next : (a : S) (ds : List Datagram) (hs : List Happening) (b : S) (d : Datagram) (rest : List Datagram) (back : List ℕ) (served settled : S) → AreTakenUp steps settles a ds hs b (d ∷ rest)
-      → ServedFor steps (asker_of d.peer) b d.bytes back served → settles served settled → AreTakenUp steps settles a ds (hs ++ map Left (owed d.peer back)) settled rest
-  taken_next a [] hs b d rest back served settled (none, same, is) one then = absurd (not_none d rest is)
-  taken_next a (e ∷ es) hs b d rest back served settled (inl (none, same, is)) one then =
+  pub taken_next : (a : Round S) (ds : List Datagram) (hs : List Happening) (b : Round S) (d : Datagram) (rest : List Datagram) (back : List ℕ) (served : Round S) (settled : S) → AreTakenUp manner a ds hs b (d ∷ rest)
+      → IsFalse b.is_late → IsTimed manner b.server d back served → manner.settles served.server settled → AreTakenUp manner a ds (hs ++ map Left (owed d.peer back)) (record served { server = settled }) rest
+  taken_next a [] hs b d rest back served settled (none, same, is) free one then = absurd (not_none d rest is)
+  taken_next a (e ∷ es) hs b d rest back served settled (inl (none, same, is)) free one then =
       let here : d ≡ e = first_is d e rest es is in
       let others : rest ≡ es = others_are d e rest es is in
+      let after : Round S = record served { server = settled } in
       inr (
         back,
         served,
         settled,
         [],
-        subst (λ s. ServedFor steps (asker_of e.peer) s e.bytes back served) same (subst (λ (x : Datagram). ServedFor steps (asker_of x.peer) b x.bytes back served) here one),
+        subst (λ (r : Round S). IsFalse r.is_late) same free,
+        subst (λ (r : Round S). IsTimed manner r.server e back served) same (subst (λ (x : Datagram). IsTimed manner b.server x back served) here one),
         then,
-        subst (λ xs. AreTakenUp steps settles settled es [] settled xs) (sym others) (taken_none settled es),
+        subst (λ xs. AreTakenUp manner after es [] after xs) (sym others) (taken_none after es),
         ap (λ xs. xs ++ map Left (owed d.peer back)) none ∙ (ap (λ (x : Datagram). map Left (owed x.peer back)) here ∙ sym (append-nil (map Left (owed e.peer back)))),
       )
-  taken_next a (e ∷ es) hs b d rest back served settled (inr (before, first, between, later, front, settles, more, is)) one then =
+  taken_next a (e ∷ es) hs b d rest back served settled (inr (before, first, between, later, was, front, settles, more, is)) free one then =
       inr (
         before,
         first,
         between,
         later ++ map Left (owed d.peer back),
+        was,
         front,
         settles,
-        taken_next between es later b d rest back served settled more one then,
+        taken_next (record first { server = between }) es later b d rest back served settled more free one then,
         ap (λ xs. xs ++ map Left (owed d.peer back)) is ∙ append_assoc (map Left (owed e.peer before)) later (map Left (owed d.peer back)),
       )
+
+  -- where one took long, those that are aside stay there
+  pub still_late : (ds : List Datagram) → AreStillAside manner true ds
+  still_late [] = tt
+  still_late (d ∷ ds) = inl refl
 
 -- how many came in both
 pub effort_on : (hs gs : List Happening) → effort (hs ++ gs) ≡ effort hs + effort gs

@@ -3,7 +3,7 @@ use Rattle.std.proofs.Common.{◌≡◌, ◌≤◌, ◌<◌, ◌&&◌, ◌||◌,
 use Rattle.std.specs.Prelude.{IfSome, IfNone}
 use Rattle.slp_sockets.specs.Linking.{Link, has_message, unread, unwritten}
 use Rattle.slp_sockets.specs.Reading.{Reads}
-use Rattle.slp_sockets.specs.Serving.{Steps, Settles}
+use Rattle.slp_sockets.specs.Serving.{Manner}
 use Rattle.slp_sockets.specs.Streaming.{Talk, end_of, IsRead, IsStep, Goes}
 use Rattle.slp_sockets.specs.Writing.{Wrote, Writes}
 use Rattle.slp_sockets.specs.declared.connection.Next.{Next}
@@ -22,45 +22,45 @@ goes_so : (Y : Type 0) (o : Option Next) → o ≡ None → (P : Next → Type 0
 goes_so Y None is P y = (tt, y)
 goes_so Y (Some n) is P y = absurd cc
 
-module _ {S : Type 0} (steps : Steps S) (settles : Settles S) (i : ℕ) (served : Bool) where
+module _ {S : Type 0} (manner : Manner S) (i : ℕ) (served : Bool) where
   -- no step is left
-  pub over : 16 ≤ i → (a : Talk S) → Goes steps settles (16 - i) served a (Ok More) a
-  over past a = let none : 0 ≡ 16 - i = omega (arith, past) in subst (λ n. Goes steps settles n served a (Ok More) a) none (refl, refl)
+  pub over : 16 ≤ i → (a : Talk S) → Goes manner (16 - i) served a (Ok More) a
+  over past a = let none : 0 ≡ 16 - i = omega (arith, past) in subst (λ n. Goes manner n served a (Ok More) a) none (refl, refl)
 
-module _ {S : Type 0} (steps : Steps S) (settles : Settles S) (i : ℕ) (lt : i < 16) (served : Bool) (a : Talk S) (waits : Bool) (same : waits ≡ has_message a.link) where
+module _ {S : Type 0} (manner : Manner S) (i : ℕ) (lt : i < 16) (served : Bool) (a : Talk S) (waits : Bool) (same : waits ≡ has_message a.link) where
   -- another message waits, where one was served
-  pub next_waits : (waits && served) ≡ true → Goes steps settles (16 - i) served a (Ok More) a
-  next_waits next = subst (λ n. Goes steps settles n served a (Ok More) a) (one_left i lt) (inl (inr (ap (λ b. b && served) (sym same) ∙ next, refl), refl))
+  pub next_waits : (waits && served) ≡ true → Goes manner (16 - i) served a (Ok More) a
+  next_waits next = subst (λ n. Goes manner n served a (Ok More) a) (one_left i lt) (inl (inr (ap (λ b. b && served) (sym same) ∙ next, refl), refl))
 
   -- the message that waits is put aside
-  pub left_aside : waits ≡ true → Goes steps settles (16 - i) served a (Ok Blocked) a
-  left_aside next = subst (λ n. Goes steps settles n served a (Ok Blocked) a) (one_left i lt) (inl (inl (sym same ∙ next, refl), refl))
+  pub left_aside : waits ≡ true → manner.may_wait a.link.unserved → Goes manner (16 - i) served a (Ok Blocked) a
+  left_aside next may = subst (λ n. Goes manner n served a (Ok Blocked) a) (one_left i lt) (inl (inl (sym same ∙ next, may, refl), refl))
 
   module _ (none : (waits && served) ≡ false) where
     free : (has_message a.link && served) ≡ false
     free = ap (λ b. b && served) (sym same) ∙ none
 
     -- the read failed
-    pub read_failed : (e : LoopFault) (b : Talk S) → IsRead steps settles a (Err e) b → Goes steps settles (16 - i) served a (Err e) b
-    read_failed e b read = subst (λ n. Goes steps settles n served a (Err e) b) (one_left i lt) (inr (free, inl (e, refl, read)))
+    pub read_failed : (e : LoopFault) (b : Talk S) → IsRead manner a (Err e) b → Goes manner (16 - i) served a (Err e) b
+    read_failed e b read = subst (λ n. Goes manner n served a (Err e) b) (one_left i lt) (inr (free, inl (e, refl, read)))
 
     -- the write failed
-    pub write_failed : (read : Next) (e : LoopFault) (b : Talk S) → IsStep steps settles a read (Err e) b → Goes steps settles (16 - i) served a (Err e) b
-    write_failed read e b step = subst (λ n. Goes steps settles n served a (Err e) b) (one_left i lt) (inr (free, inr (inl (read, e, refl, step))))
+    pub write_failed : (read : Next) (e : LoopFault) (b : Talk S) → IsStep manner a read (Err e) b → Goes manner (16 - i) served a (Err e) b
+    write_failed read e b step = subst (λ n. Goes manner n served a (Err e) b) (one_left i lt) (inr (free, inr (inl (read, e, refl, step))))
 
     -- it ends there
-    pub ended : (read written next : Next) (b : Talk S) → IsStep steps settles a read (Ok written) b → end_of read written ≡ Some next → Goes steps settles (16 - i) served a (Ok next) b
+    pub ended : (read written next : Next) (b : Talk S) → IsStep manner a read (Ok written) b → end_of read written ≡ Some next → Goes manner (16 - i) served a (Ok next) b
     ended read written next b step is =
         let over = ends_so _ (end_of read written) next is (λ n. (Ok next ≡ Ok n) × (b ≡ b)) (refl, refl) in
-        subst (λ n. Goes steps settles n served a (Ok next) b) (one_left i lt) (inr (free, inr (inr (read, written, b, step, over.0, over.1))))
+        subst (λ n. Goes manner n served a (Ok next) b) (one_left i lt) (inr (free, inr (inr (read, written, b, step, over.0, over.1))))
 
     -- it goes on
-    pub went_on : (read written : Next) (c : Talk S) → IsStep steps settles a read (Ok written) c → end_of read written ≡ None
-        → (told : Result Next LoopFault) (b : Talk S) → Goes steps settles (16 - (i + 1)) (waits || served) c told b → Goes steps settles (16 - i) served a told b
+    pub went_on : (read written : Next) (c : Talk S) → IsStep manner a read (Ok written) c → end_of read written ≡ None
+        → (told : Result Next LoopFault) (b : Talk S) → Goes manner (16 - (i + 1)) (waits || served) c told b → Goes manner (16 - i) served a told b
     went_on read written c step is told b rest =
-        let on : Goes steps settles (16 - (i + 1)) (has_message a.link || served) c told b = subst (λ w. Goes steps settles (16 - (i + 1)) (w || served) c told b) same rest in
+        let on : Goes manner (16 - (i + 1)) (has_message a.link || served) c told b = subst (λ w. Goes manner (16 - (i + 1)) (w || served) c told b) same rest in
         let more = goes_so _ (end_of read written) is (λ n. (told ≡ Ok n) × (b ≡ c)) on in
-        subst (λ n. Goes steps settles n served a told b) (one_left i lt) (inr (free, inr (inr (read, written, c, step, more.0, more.1))))
+        subst (λ n. Goes manner n served a told b) (one_left i lt) (inr (free, inr (inr (read, written, c, step, more.0, more.1))))
 
 -- a stream of a type, its connection and its server
 module _ {T S : Type 0} (brings taken : T → Option (List ℕ)) where
@@ -80,14 +80,14 @@ module _ {T S : Type 0} (brings taken : T → Option (List ℕ)) where
   unwritten_same r q l m a told None same = tt
   unwritten_same r q l m a told (Some next) (is, link, stream) = (is, same_talk r q l m a a link stream refl)
 
-  module _ (steps : Steps S) (settles : Settles S) where
+  module _ (manner : Manner S) where
     pub is_read : (r q : T) (l m : Link) (a b : S) (told : Result Next LoopFault) → IfSome (unread l) (λ next. (told ≡ Ok next) × (m ≡ l) × (q ≡ r) × (b ≡ a))
-        → IfNone (unread l) (Reads steps (brings r) (brings q) l a told m b) → IsRead steps settles (talk r l a) told (talk q m b)
+        → IfNone (unread l) (Reads manner (brings r) (brings q) l a told m b) → IsRead manner (talk r l a) told (talk q m b)
     is_read r q l m a b told same reads = (unread_same r q l m a b told (unread l) same, reads)
 
-    pub is_step : (r q w : T) (l m n : Link) (a b s : S) (read : Next) (told : Result Next LoopFault) → IsRead steps settles (talk r l a) (Ok read) (talk q m b) → settles b s
+    pub is_step : (r q w : T) (l m n : Link) (a b s : S) (read : Next) (told : Result Next LoopFault) → IsRead manner (talk r l a) (Ok read) (talk q m b) → manner.settles b s
         → IfSome (unwritten m) (λ next. (told ≡ Ok next) × (n ≡ m) × (w ≡ q)) → Wrote (taken q) (taken w) m.waiting n.waiting → IfNone (unwritten m) (Writes m told n)
-        → IsStep steps settles (talk r l a) read told (talk w n s)
+        → IsStep manner (talk r l a) read told (talk w n s)
     is_step r q w l m n a b s read told reads settled same wrote writes = record {
       between = talk q m b;
       server = s;

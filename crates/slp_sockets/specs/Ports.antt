@@ -1,5 +1,5 @@
 -- What happens at a socket of datagrams, and what it is to serve those that come.
-use Rattle.std.specs.Prelude.{◌≡◌, ◌⊎◌, ◌≤◌, ◌<◌, ℕ, ◌+◌, List, [], ◌∷◌, ◌++◌, map, length, take, Option, Some, None, Result, Ok, Err}
+use Rattle.std.specs.Prelude.{◌≡◌, ◌⊎◌, ◌≤◌, ◌<◌, ℕ, ◌+◌, Bool, false, IsFalse, IsTrue, List, [], ◌∷◌, ◌++◌, map, length, take, Option, Some, None, Result, Ok, Err}
 use Rattle.std.specs.IoError.{error_kind}
 use Rattle.std.specs.declared.io.Error.{Error}
 use Rattle.std.specs.declared.io.ErrorKind.{ErrorKind}
@@ -9,7 +9,7 @@ use Rattle.std.specs.declared.net.socket_addr.SocketAddr.TheVariants.{V4, V6}
 use Rattle.std.specs.Net.Addr.{ipv4_bits}
 use Rattle.std.specs.Net.Socket.{v4_ip}
 use Rattle.std_io.specs.IoError.{raw_os_error}
-use Rattle.slp_sockets.specs.Serving.{Steps, Settles, IsServed}
+use Rattle.slp_sockets.specs.Serving.{Manner, IsServed}
 use Rattle.slp_sockets.specs.Sockets.{IsLost}
 use Rattle.slp_sockets.specs.declared.exchange.Rest.{Rest}
 use Rattle.slp_sockets.specs.declared.exchange.Rest.TheVariants.{Nothing, More, Later}
@@ -62,23 +62,41 @@ abbrev pub pausing : Option Error → List Happening
 pausing None = []
 pausing (Some e) = Paused e ∷ []
 
-module _ {S : Type 0} (steps : Steps S) where
+-- a server that serves one datagram after the other, and whether the last one took long
+pub record Round (S : Type 0) : Type 0 where
+  pub server : S
+  pub is_late : Bool
+
+module _ {S : Type 0} (manner : Manner S) where
   -- a message is served once, for its asker; where there is none, nothing is done
   abbrev pub ServedFor : Option ℕ → S → List ℕ → List ℕ → S → Type 0
-  ServedFor (Some asker) before message back after = IsServed steps asker most_back before message back after
+  ServedFor (Some asker) before message back after = IsServed manner asker most_back before message back after
   ServedFor None before message back after = (back ≡ []) × (after ≡ before)
 
-  -- a datagram is served for its sender, and this goes back, or it is put aside
-  abbrev pub IsMet : S → Datagram → List ℕ → List Datagram → S → Type 0
-  IsMet before d back put after = (ServedFor (asker_of d.peer) before d.bytes back after × (put ≡ [])) ⊎ ((back ≡ []) × (put ≡ d ∷ []) × (after ≡ before))
+  -- a datagram is served for its sender, and this goes back; only one that may last took long
+  abbrev pub IsTimed : S → Datagram → List ℕ → Round S → Type 0
+  IsTimed before d back after = ServedFor (asker_of d.peer) before d.bytes back after.server × (IsTrue after.is_late → manner.may_last d.bytes)
+
+  -- why a datagram is not served at once: the last one took long, or it may have to wait for others
+  abbrev pub MayBeAside : Bool → Datagram → Type 0
+  MayBeAside is_late d = IsTrue is_late ⊎ manner.may_wait d.bytes
+
+  -- a datagram is served, or put aside, where it may be
+  abbrev pub IsMet : Round S → Datagram → List ℕ → List Datagram → Round S → Type 0
+  IsMet before d back put after = (IsTimed before.server d back after × (put ≡ [])) ⊎ (MayBeAside before.is_late d × (back ≡ []) × (put ≡ d ∷ []) × (after ≡ before))
 
   -- datagrams are served or put aside, once each, one after the other: what is owed to their senders then, and which are aside
-  abbrev pub AreMet : S → List Datagram → List Datagram → List Datagram → S → Type 0
+  abbrev pub AreMet : Round S → List Datagram → List Datagram → List Datagram → Round S → Type 0
   AreMet before [] dues put after = (dues ≡ []) × (put ≡ []) × (after ≡ before)
   AreMet before (d ∷ ds) dues put after =
-      (back : List ℕ) × (here : List Datagram) × (between : S) × (owing more : List Datagram) × IsMet before d back here between × AreMet between ds owing more after × (dues ≡ owed d.peer back ++ owing) × (put ≡ here ++ more)
+      (back : List ℕ) × (here : List Datagram) × (between : Round S) × (owing more : List Datagram) × IsMet before d back here between × AreMet between ds owing more after × (dues ≡ owed d.peer back ++ owing) × (put ≡ here ++ more)
 
-module _ {S : Type 0} (steps : Steps S) (settles : Settles S) where
+  -- why those that are aside are not served: there is none, or the first of them is put aside still
+  abbrev pub AreStillAside : Bool → List Datagram → Type 0
+  AreStillAside is_late [] = Unit {0}
+  AreStillAside is_late (d ∷ ds) = MayBeAside is_late d
+
+module _ {S : Type 0} (manner : Manner S) where
   -- A round: datagrams come, until none is left or there are enough. Each is served once or put aside, in their order, behind those that are aside. The server settles, and what is owed
   -- leaves, in order: nothing that is not owed, and nothing twice.
   pub record IsRound (before : S) (aside : List Datagram) (hs : List Happening) (after : S) (asides : List Datagram) : Type 0 where
@@ -86,19 +104,19 @@ module _ {S : Type 0} (steps : Steps S) (settles : Settles S) where
     pub pause : Option Error
     pub dues : List Datagram
     pub put : List Datagram
-    pub between : S
-    pub met : AreMet steps before came dues put between
+    pub between : Round S
+    pub met : AreMet manner (record { server = before; is_late = false }) came dues put between
     pub kept : asides ≡ aside ++ put
-    pub settled : settles between after
+    pub settled : manner.settles between.server after
     pub order : hs ≡ (map Came came ++ pausing pause) ++ map Left dues
 
-  -- those in front that are aside are served, one after the other: before what is owed to one leaves, the server settles
-  abbrev pub AreTakenUp : S → List Datagram → List Happening → S → List Datagram → Type 0
+  -- Those in front that are aside are served, one after the other, until one took long. Before what is owed to one leaves, the server settles.
+  abbrev pub AreTakenUp : Round S → List Datagram → List Happening → Round S → List Datagram → Type 0
   AreTakenUp before [] hs after asides = (hs ≡ []) × (after ≡ before) × (asides ≡ [])
   AreTakenUp before (d ∷ ds) hs after asides =
       ((hs ≡ []) × (after ≡ before) × (asides ≡ d ∷ ds))
-      ⊎ ((back : List ℕ) × (served settled : S) × (later : List Happening) × ServedFor steps (asker_of d.peer) before d.bytes back served × settles served settled × AreTakenUp settled ds later after asides
-      × (hs ≡ map Left (owed d.peer back) ++ later))
+      ⊎ ((back : List ℕ) × (served : Round S) × (settled : S) × (later : List Happening) × IsFalse before.is_late × IsTimed manner before.server d back served × manner.settles served.server settled
+      × AreTakenUp (record served { server = settled }) ds later after asides × (hs ≡ map Left (owed d.peer back) ++ later))
 
 -- what there may be after a failed receive of a socket that is still of use
 abbrev pub rest_by : ErrorKind → Rest
@@ -160,14 +178,19 @@ IsThrough least told hs = IsEnough least told hs × GoOnTo told hs
 abbrev pub most_aside : ℕ
 most_aside = 48
 
-module _ {S : Type 0} (steps : Steps S) (settles : Settles S) where
+module _ {S : Type 0} (manner : Manner S) where
   -- a round, until 16 have come, where a pause counts for as many, or a pause says that no more are to be received now; where too many are aside, nothing happens, and it is tried again
   abbrev pub TriesRound : S → List Datagram → List Happening → Result Rest LoopFault → S → List Datagram → Type 0
   TriesRound before aside hs told after asides =
-      (IsRound steps settles before aside hs after asides × IsThrough 16 told hs) ⊎ ((most_aside < length aside) × (hs ≡ []) × (told ≡ Ok Later) × (after ≡ before) × (asides ≡ aside))
+      (IsRound manner before aside hs after asides × IsThrough 16 told hs) ⊎ ((most_aside < length aside) × (hs ≡ []) × (told ≡ Ok Later) × (after ≡ before) × (asides ≡ aside))
 
   abbrev pub ServesRound : S → S → Type 0
   ServesRound before after = (aside asides : List Datagram) × (hs : List Happening) × (told : Result Rest LoopFault) × TriesRound before aside hs told after asides
 
+  -- all that are aside are, up to one that may be aside still
+  abbrev pub IsTakenUp : S → List Datagram → List Happening → S → List Datagram → Type 0
+  IsTakenUp before aside hs after asides =
+      (is_late : Bool) × AreTakenUp manner (record { server = before; is_late = false }) aside hs (record { server = after; is_late = is_late }) asides × AreStillAside manner is_late asides
+
   abbrev pub TakesUp : S → S → Type 0
-  TakesUp before after = (aside asides : List Datagram) × (hs : List Happening) × AreTakenUp steps settles before aside hs after asides
+  TakesUp before after = (aside asides : List Datagram) × (hs : List Happening) × IsTakenUp before aside hs after asides

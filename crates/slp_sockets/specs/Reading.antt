@@ -3,7 +3,7 @@ use Rattle.std.specs.Prelude.{◌≡◌, ◌≢◌, ◌⊎◌, ◌≤◌, ◌<�
 use Rattle.std.specs.Io.KnownBytes.{Consumes, Keeps, IsAtEnd}
 use Rattle.slp_stream.specs.Cutting.{Front, Wanting, Whole, Bad, front_of}
 use Rattle.slp_sockets.specs.Linking.{Link, longest, most_read, ending_next}
-use Rattle.slp_sockets.specs.Serving.{Steps, IsServed}
+use Rattle.slp_sockets.specs.Serving.{Manner, IsServed}
 use Rattle.slp_sockets.specs.declared.connection.InFront.{InFront}
 use Rattle.slp_sockets.specs.declared.connection.InFront.TheVariants as front
 use Rattle.slp_sockets.specs.declared.connection.Next.{Next}
@@ -12,11 +12,11 @@ use Rattle.slp_sockets.specs.declared.connection.Stage.TheVariants.{Ending, Fail
 use Rattle.slp_sockets.specs.declared.fault.LoopFault.{LoopFault}
 use Rattle.slp_sockets.specs.declared.fault.LoopFault.TheVariants.{Io, NoMemory}
 
-module _ {S : Type 0} (steps : Steps S) where
+module _ {S : Type 0} (manner : Manner S) where
   -- the message in front of a stream is served, and what goes back is added to what waits; it is lost where memory is wanting
   pub record TakesOne {E : Type 0} (asker n : ℕ) (stream waiting : List ℕ) (before : S) (result : Result InFront E) (rest grown : List ℕ) (after : S) : Type 0 where
     pub bytes : List ℕ
-    pub served : IsServed steps asker longest before (take n stream) bytes after
+    pub served : IsServed manner asker longest before (take n stream) bytes after
     pub left : rest ≡ drop n stream
     pub grows : MatchResult result (λ told. (told ≡ front.Message) × (grown ≡ waiting ++ bytes)) (λ _. grown ≡ waiting)
 
@@ -29,7 +29,7 @@ module _ {S : Type 0} (steps : Steps S) where
   -- the message in front is served, and what goes back for it waits; where memory is wanting for that, it is lost
   pub record ServesOne (n : ℕ) (l : Link) (before : S) (result : Result Next LoopFault) (m : Link) (after : S) : Type 0 where
     pub bytes : List ℕ
-    pub served : IsServed steps l.asker longest before (take n l.unserved) bytes after
+    pub served : IsServed manner l.asker longest before (take n l.unserved) bytes after
     pub then : MatchResult result
         (λ next. (next ≡ More) × (m ≡ record l { unserved = drop n l.unserved; waiting = l.waiting ++ bytes; moved = true }))
         (λ fault. (fault ≡ NoMemory) × (m ≡ record l { unserved = drop n l.unserved; stage = Failed; moved = true }))

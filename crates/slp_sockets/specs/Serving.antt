@@ -18,14 +18,23 @@ Steps S = S → ℕ → List ℕ → ℕ → Result Sent NoMemory → Answer →
 abbrev pub Settles : Type 0 → Type 1
 Settles S = S → S → Type 0
 
+-- how a server serves
+pub record Manner (S : Type 0) : Type 1 where
+  pub steps : Steps S
+  pub settles : Settles S
+  -- what begins with these bytes may have to wait for others, so that it may be put aside
+  pub may_wait : List ℕ → Type 0
+  -- to serve this message may take long, so that those behind it may be put aside
+  pub may_last : List ℕ → Type 0
+
 -- what a clock may answer: the clock before, the moment and the clock after
 abbrev pub Ticks : Type 0 → Type 1
 Ticks M = M → ℕ → M → Type 0
 
-module _ {S : Type 0} (steps : Steps S) (asker limit : ℕ) where
+module _ {S : Type 0} (manner : Manner S) (asker limit : ℕ) where
   -- the bytes that go back for one served message: those of its answer, or of a refusal where no memory was found
   pub record IsServed (before : S) (message : List ℕ) (back : List ℕ) (after : S) : Type 0 where
     pub outcome : Result Sent NoMemory
     pub answer : Answer
-    pub step : steps before asker message limit outcome answer after
+    pub step : manner.steps before asker message limit outcome answer after
     pub given : MatchResult outcome (λ _. back ≡ answer.bytes.items) (λ _. back ≡ refused_reply message)

@@ -1,8 +1,8 @@
 -- What a stream, its connection and its server go through, where it is ready.
-use Rattle.std.specs.Prelude.{◌≡◌, ◌⊎◌, ◌&&◌, ◌||◌, ℕ, zero, suc, Bool, true, false, List, Option, Some, None, IfSome, IfNone, Result, Ok, Err, if◌then◌else◌}
+use Rattle.std.specs.Prelude.{◌≡◌, ◌⊎◌, ◌&&◌, ◌||◌, ℕ, zero, suc, Bool, false, IsTrue, List, Option, Some, None, IfSome, IfNone, Result, Ok, Err, if◌then◌else◌}
 use Rattle.slp_sockets.specs.Linking.{Link, has_message, unread, unwritten}
 use Rattle.slp_sockets.specs.Reading.{Reads}
-use Rattle.slp_sockets.specs.Serving.{Steps, Settles}
+use Rattle.slp_sockets.specs.Serving.{Manner}
 use Rattle.slp_sockets.specs.Writing.{Wrote, Writes}
 use Rattle.slp_sockets.specs.declared.connection.Next.{Next}
 use Rattle.slp_sockets.specs.declared.connection.Next.TheVariants.{More, Blocked, Closed}
@@ -21,14 +21,10 @@ end_of read Closed = Some Closed
 end_of Blocked Blocked = Some Blocked
 end_of read written = None
 
--- whether a message waits, whether one was served, and what is answered where the one that waits is left: it is put aside, or has its turn when the others have had theirs
-abbrev pub IsLeft : Bool → Bool → Result Next LoopFault → Type 0
-IsLeft waits served told = ((waits ≡ true) × (told ≡ Ok Blocked)) ⊎ (((waits && served) ≡ true) × (told ≡ Ok More))
-
-module _ {S : Type 0} (steps : Steps S) (settles : Settles S) where
+module _ {S : Type 0} (manner : Manner S) where
   -- it is read once, at most, or the message in front is served
   abbrev pub IsRead : Talk S → Result Next LoopFault → Talk S → Type 0
-  IsRead a told b = IfSome (unread a.link) (λ next. (told ≡ Ok next) × (b ≡ a)) × IfNone (unread a.link) (Reads steps a.brings b.brings a.link a.server told b.link b.server)
+  IsRead a told b = IfSome (unread a.link) (λ next. (told ≡ Ok next) × (b ≡ a)) × IfNone (unread a.link) (Reads manner a.brings b.brings a.link a.server told b.link b.server)
 
   -- what waits is written once, at most
   abbrev pub IsWritten : Talk S → Result Next LoopFault → Talk S → Type 0
@@ -41,14 +37,18 @@ module _ {S : Type 0} (steps : Steps S) (settles : Settles S) where
     pub between : Talk S
     pub server : S
     pub read_is : IsRead a (Ok read) between
-    pub settled : settles between.server server
+    pub settled : manner.settles between.server server
     pub written_is : IsWritten (record between { server = server }) written b
+
+  -- The message in front is left where it is, whether or not one was served before, and this is answered: it is put aside, since it may have to wait for others, or has its turn when other streams have had theirs.
+  abbrev pub IsLeft : Link → Bool → Result Next LoopFault → Type 0
+  IsLeft l served told = (IsTrue (has_message l) × manner.may_wait l.unserved × (told ≡ Ok Blocked)) ⊎ (IsTrue (has_message l && served) × (told ≡ Ok More))
 
   -- At most so many steps, one after the other, until one of them fails or ends it. A message that waits may be left where it is, and none is served where one was before.
   abbrev pub Goes : ℕ → Bool → Talk S → Result Next LoopFault → Talk S → Type 0
   Goes zero served a told b = (told ≡ Ok More) × (b ≡ a)
   Goes (suc n) served a told b =
-      (IsLeft (has_message a.link) served told × (b ≡ a))
+      (IsLeft a.link served told × (b ≡ a))
       ⊎ (((has_message a.link && served) ≡ false) × (((e : LoopFault) × (told ≡ Err e) × IsRead a (Err e) b)
       ⊎ (((read : Next) × (e : LoopFault) × (told ≡ Err e) × IsStep a read (Err e) b)
       ⊎ ((read : Next) × (written : Next) × (c : Talk S) × IsStep a read (Ok written) c

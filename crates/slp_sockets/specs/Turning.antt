@@ -4,7 +4,7 @@ use Rattle.std.specs.declared.net.socket_addr.SocketAddr.{SocketAddr}
 use Rattle.slp_sockets.specs.Holding.{Seat, Looping, seat_at}
 use Rattle.slp_sockets.specs.Linking.{Link}
 use Rattle.slp_sockets.specs.Ports.{ServesRound, TakesUp, asker_of}
-use Rattle.slp_sockets.specs.Serving.{Steps, Settles}
+use Rattle.slp_sockets.specs.Serving.{Manner}
 use Rattle.slp_sockets.specs.Streaming.{Talk, Goes}
 use Rattle.slp_sockets.specs.declared.connection.Next.{Next}
 use Rattle.slp_sockets.specs.declared.connection.Next.TheVariants.{More, Blocked, Closed}
@@ -73,14 +73,14 @@ Tells told (Err e) = (told ≡ Err e) ⊎ ((told ≡ Ok More) × (e ≡ Io))
 abbrev pub rested : ℕ → Link → ℕ → Seat
 rested now end known = record { link = record end { moved = false }; moved = if end.moved then now else known }
 
-module _ {S : Type 0} (steps : Steps S) (settles : Settles S) where
+module _ {S : Type 0} (manner : Manner S) where
   -- a connection takes at most 16 steps, of which one at most serves a message
   pub record TakesSteps (before : Link) (a : S) (told : Result Next LoopFault) (end : Link) (b : S) : Type 0 where
     pub begun : Talk S
     pub ended : Talk S
     pub link : begun.link ≡ before
     pub from : begun.server ≡ a
-    pub goes : Goes steps settles 16 false begun told ended
+    pub goes : Goes manner 16 false begun told ended
     pub is : end ≡ ended.link
     pub to : b ≡ ended.server
 
@@ -107,15 +107,15 @@ module _ {S : Type 0} (steps : Steps S) (settles : Settles S) where
 
   -- the server settles
   abbrev pub IsSettled : Tended S → Tended S → Type 0
-  IsSettled before after = settles before.server after.server × (after.seats ≡ before.seats)
+  IsSettled before after = manner.settles before.server after.server × (after.seats ≡ before.seats)
 
   -- datagrams are served in a round, until there were enough or no more are to be received now
   abbrev pub IsByDatagrams : Tended S → Tended S → Type 0
-  IsByDatagrams before after = ServesRound steps settles before.server after.server × (after.seats ≡ before.seats)
+  IsByDatagrams before after = ServesRound manner before.server after.server × (after.seats ≡ before.seats)
 
   -- datagrams that were put aside are served
   abbrev pub IsByAside : Tended S → Tended S → Type 0
-  IsByAside before after = TakesUp steps settles before.server after.server × (after.seats ≡ before.seats)
+  IsByAside before after = TakesUp manner before.server after.server × (after.seats ≡ before.seats)
 
   -- the same, if there were any that could not be received at the last turn
   abbrev pub ReceivesAgain : Tended S → Tended S → Type 0

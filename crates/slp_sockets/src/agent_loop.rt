@@ -39,7 +39,7 @@ fn serve_event<S: Serve>(
     server: &mut S,
 ) -> Result<(), LoopFault>
     ensures limit { streams.new.limit ≡ streams.old.limit }
-    ensures served { IsServedAt S.steps S.settles token.0 (record { seats = streams.old.seats; server = server.old }) (record { seats = streams.new.seats; server = server.new }) }
+    ensures served { IsServedAt S.manner token.0 (record { seats = streams.old.seats; server = server.old }) (record { seats = streams.new.seats; server = server.new }) }
 {
     if token.0 == DATAGRAMS.0 {
         let told = datagrams.serve(server);
@@ -62,7 +62,7 @@ fn serve_events<S: Serve>(
 ) -> Result<(), LoopFault>
     ensures limit { streams.new.limit ≡ streams.old.limit }
     ensures served { (front : List ℕ) × (rest : List ℕ) × (tokens_of events.now ≡ front ++ rest) × (result ≢ Err Failing → rest ≡ [])
-        × AreServedAt S.steps S.settles (record { seats = streams.old.seats; server = server.old }) front (record { seats = streams.new.seats; server = server.new }) }
+        × AreServedAt S.manner (record { seats = streams.old.seats; server = server.old }) front (record { seats = streams.new.seats; server = server.new }) }
 {
     let mut outcome = Ok(());
     for event in events.iter() {
@@ -281,8 +281,8 @@ impl<S: Serve + Drop> AgentLoop<S> {
     pub fn turn<M: Moments>(&mut self, steady: &mut M) -> Result<(), LoopFault>
         ensures limit { self.new.limit ≡ self.old.limit }
         ensures none { NoneSits longest_stay self.new.moment self.new.seats }
-        ensures served { SettlesFirst S.steps S.settles (tended self.old) (tended self.new) }
-        ensures whole { result ≢ Err Failing → IsTurn S.steps S.settles (tended self.old) self.new.ready (tended self.new) }
+        ensures served { SettlesFirst S.manner (tended self.old) (tended self.new) }
+        ensures whole { result ≢ Err Failing → IsTurn S.manner (tended self.old) self.new.ready (tended self.new) }
     {
         let told = match self.begin(steady) {
             Ok(()) => serve_events(
@@ -313,8 +313,8 @@ impl<S: Serve + Drop> AgentLoop<S> {
     fn begin<M: Moments>(&mut self, steady: &mut M) -> Result<(), LoopFault>
         ensures limit { self.new.limit ≡ self.old.limit }
         ensures fault { IfErr result (λ e. e ≡ Failing) }
-        ensures served { SettlesFirst S.steps S.settles (tended self.old) (tended self.new) }
-        ensures begun { IfOk result (λ _. IsBegun S.steps S.settles (tended self.old) (tended self.new)) }
+        ensures served { SettlesFirst S.manner (tended self.old) (tended self.new) }
+        ensures begun { IfOk result (λ _. IsBegun S.manner (tended self.old) (tended self.new)) }
     {
         self.server.settle();
         let wait = Duration::from_millis(self.wait());
@@ -332,7 +332,7 @@ impl<S: Serve + Drop> AgentLoop<S> {
     pub fn run<R: Wait + Clock>(&mut self, rt: &R, stop: &AtomicBool) -> Result<(), LoopFault>
         ensures limit { self.new.limit ≡ self.old.limit }
         ensures fault { IfErr result (λ e. e ≡ Failing) }
-        ensures served { SettlesLast S.steps S.settles (tended self.old) (tended self.new) }
+        ensures served { SettlesLast S.manner (tended self.old) (tended self.new) }
     {
         let mut steady = SteadyClock::new(rt);
         for _ in rt.forever() {

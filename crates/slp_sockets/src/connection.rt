@@ -95,7 +95,7 @@ fn serve_one<S: Serve>(
     answer: &mut Answer,
     output: &mut Vec<u8>,
 ) -> Result<(), AllocError>
-    ensures { (bytes : List ℕ) × IsServed S.steps asker 65535 server.old message.now bytes server.new
+    ensures { (bytes : List ℕ) × IsServed S.manner asker 65535 server.old message.now bytes server.new
         × MatchResult result (λ _. output.new.items ≡ output.old.items ++ bytes) (λ _. output.new.items ≡ output.old.items) }
 {
     match server.serve(asker, message, LONGEST_ON_STREAM, answer) {
@@ -125,7 +125,7 @@ fn serve_front<S: Serve>(
 ) -> Result<InFront, AllocError>
     requires going { framer.old.refused ≡ None }
     requires limit { framer.old.limit ≡ 65535 }
-    ensures takes { Takes S.steps (front_of 65535 framer.old.waiting) asker framer.old.waiting output.old.items server.old result framer.new.waiting output.new.items server.new }
+    ensures takes { Takes S.manner (front_of 65535 framer.old.waiting) asker framer.old.waiting output.old.items server.old result framer.new.waiting output.new.items server.new }
     ensures going { IfOk result (λ told. told ≡ front.Fault ⊎ (framer.new.refused ≡ None)) }
     ensures limit { framer.new.limit ≡ 65535 }
 {
@@ -243,7 +243,7 @@ impl Connection {
     fn take_front<S: Serve>(&mut self, server: &mut S) -> Option<Result<Next, LoopFault>>
         requires open { self.old.stage ≡ Begun }
         ensures { MatchOption result ((front_of 65535 self.old.unserved ≡ Wanting) × (self.new ≡ self.old) × (server.new ≡ server.old))
-            (λ told. (front_of 65535 self.old.unserved ≢ Wanting) × ((left : Option (List ℕ)) → ReadsBy S.steps (front_of 65535 self.old.unserved) left left self.old server.old told self.new server.new)) }
+            (λ told. (front_of 65535 self.old.unserved ≢ Wanting) × ((left : Option (List ℕ)) → ReadsBy S.manner (front_of 65535 self.old.unserved) left left self.old server.old told self.new server.new)) }
     {
         self.close_up();
         match serve_front(server, self.asker, &mut self.framer, &mut self.output) {
@@ -285,7 +285,7 @@ impl Connection {
         server: &mut S,
     ) -> Result<Next, LoopFault>
         ensures unread { IfSome (unread self.old) (λ next. (result ≡ Ok next) × (self.new ≡ self.old) × (reader.new ≡ reader.old) × (server.new ≡ server.old)) }
-        ensures reads { IfNone (unread self.old) (Reads S.steps (R.remaining reader.old) (R.remaining reader.new) self.old server.old result self.new server.new) }
+        ensures reads { IfNone (unread self.old) (Reads S.manner (R.remaining reader.old) (R.remaining reader.new) self.old server.old result self.new server.new) }
     {
         if let Some(next) = self.unread() {
             return Ok(next);

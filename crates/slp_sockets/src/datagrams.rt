@@ -1,7 +1,7 @@
 //! The datagrams of a loop: they are received, served and answered together.
-ghost use Rattle.std.specs.Prelude.{◌≡◌, ◌≢◌, ◌⊎◌, ◌↔◌, ◌≤◌, ◌++◌, ◌∷◌, ℕ, [], take, map, length, List, Option, IfErr, IfOk, IsTrue, IsFalse, MatchOption};
+ghost use Rattle.std.specs.Prelude.{◌≡◌, ◌≢◌, ◌⊎◌, ◌↔◌, ◌≤◌, ◌++◌, ◌∷◌, ℕ, [], take, map, length, List, Option, Bool, false, IfErr, IfOk, IsTrue, IsFalse, MatchOption};
 ghost use Rattle.std.specs.declared.io.Error.{Error};
-ghost use Rattle.slp_sockets.specs.Ports.{Datagram, Happening, Came, Left, Runs, ServedFor, IsMet, AreMet, AreTakenUp, IsRound, ServesRound, TriesRound, Says, IsThrough, owed, pausing};
+ghost use Rattle.slp_sockets.specs.Ports.{Datagram, Happening, Came, Left, Runs, ServedFor, IsTimed, IsMet, MayBeAside, AreMet, AreStillAside, IsTakenUp, IsRound, ServesRound, TriesRound, Says, IsThrough, owed, pausing};
 ghost use Rattle.slp_sockets.specs.Ports as spec;
 ghost use Rattle.slp_sockets.specs.Exchanging.{datagram, datagrams, back, dues, all_dues, received_into, Stopped};
 ghost use Rattle.slp_sockets.specs.declared.fault.LoopFault.TheVariants.{Io as Failing};
@@ -83,7 +83,7 @@ impl Exchange {
     // Serves it, where its sender may ask.
     fn serve<S: Serve>(&mut self, server: &mut S)
         ensures kept { datagram self.new ≡ datagram self.old }
-        ensures served { ServedFor S.steps (spec.asker_of self.old.from) server.old (datagram self.old).bytes (back self.new) server.new }
+        ensures served { ServedFor S.manner (spec.asker_of self.old.from) server.old (datagram self.old).bytes (back self.new) server.new }
     {
         let Some(asker) = asker_of(self.from) else {
             self.back = Back::Nothing;
@@ -116,7 +116,7 @@ impl Exchange {
     // Serves it, and answers whether that took long.
     fn serve_timed<S: Serve>(&mut self, server: &mut S) -> bool
         ensures kept { datagram self.new ≡ datagram self.old }
-        ensures served { ServedFor S.steps (spec.asker_of self.old.from) server.old (datagram self.old).bytes (back self.new) server.new }
+        ensures served { IsTimed S.manner server.old (datagram self.old) (back self.new) (record { server = server.new; is_late = result }) }
     {
         if !server.may_last(&self.buffer[..self.length]) {
             self.serve(server);
@@ -127,7 +127,14 @@ impl Exchange {
         server.micros().saturating_sub(began) > LATE
     }
 
-    // Serves it, and answers whether that took long; or puts it aside, where one before it took long or it would wait, and there is memory for that.
+    // Whether it may be put aside: one before it took long, or it would wait.
+    fn may_be_aside<S: Serve>(&self, is_late: bool, server: &S) -> bool
+        ensures { IsTrue result → MayBeAside S.manner is_late (datagram self.now) }
+    {
+        is_late || server.waits(&self.buffer[..self.length])
+    }
+
+    // Serves it, and answers whether that took long; or puts it aside, where it may be and there is memory for that.
     fn meet<S: Serve>(
         &mut self,
         is_late: bool,
@@ -135,9 +142,9 @@ impl Exchange {
         server: &mut S,
     ) -> bool
         ensures { (bytes : List ℕ) × (put : List Datagram) × (dues self.new ≡ owed self.old.from bytes) × (datagrams aside.new.items ≡ datagrams aside.old.items ++ put)
-            × IsMet S.steps server.old (datagram self.old) bytes put server.new }
+            × IsMet S.manner (record { server = server.old; is_late = is_late }) (datagram self.old) bytes put (record { server = server.new; is_late = result }) }
     {
-        if (is_late || server.waits(&self.buffer[..self.length])) && self.put_aside(aside) {
+        if self.may_be_aside(is_late, server) && self.put_aside(aside) {
             return is_late;
         }
         self.serve_timed(server)
@@ -178,7 +185,8 @@ fn receive_all<P: Port>(
 
 // Serves those that were received, in their order, or puts them aside: those behind one that took long, and those that would wait.
 fn serve_all<S: Serve>(exchanges: &mut [Exchange], aside: &mut VecDeque<Exchange>, server: &mut S)
-    ensures { (put : List Datagram) × (datagrams aside.new.items ≡ datagrams aside.old.items ++ put) × AreMet S.steps server.old (datagrams exchanges.old) (all_dues exchanges.new) put server.new }
+    ensures { (is_late : Bool) × (put : List Datagram) × (datagrams aside.new.items ≡ datagrams aside.old.items ++ put)
+        × AreMet S.manner (record { server = server.old; is_late = false }) (datagrams exchanges.old) (all_dues exchanges.new) put (record { server = server.new; is_late = is_late }) }
 {
     let mut is_late = false;
     for exchange in exchanges.iter_mut() {
@@ -203,7 +211,7 @@ fn serve_round<P: Port, S: Serve>(
     server: &mut S,
 ) -> Result<Rest, LoopFault>
     requires { length exchanges.old ≡ 16 }
-    ensures { (hs : List Happening) × Runs P.may port.old hs port.new × IsRound S.steps S.settles server.old (datagrams aside.old.items) hs server.new (datagrams aside.new.items) × IsThrough 16 result hs }
+    ensures { (hs : List Happening) × Runs P.may port.old hs port.new × IsRound S.manner server.old (datagrams aside.old.items) hs server.new (datagrams aside.new.items) × IsThrough 16 result hs }
 {
     let (count, told) = receive_all(exchanges, port);
     let front = &mut exchanges[..count];
@@ -215,7 +223,7 @@ fn serve_round<P: Port, S: Serve>(
 
 // Takes out the first that is put aside, unless it would wait still.
 fn next_aside<S: Serve>(aside: &mut VecDeque<Exchange>, server: &S) -> Option<Exchange>
-    ensures { MatchOption result (aside.new.items ≡ aside.old.items) (λ e. aside.old.items ≡ e ∷ aside.new.items) }
+    ensures { MatchOption result ((aside.new.items ≡ aside.old.items) × AreStillAside S.manner false (datagrams aside.old.items)) (λ e. aside.old.items ≡ e ∷ aside.new.items) }
 {
     let first = aside.front()?;
     if server.waits(&first.buffer[..first.length]) {
@@ -226,7 +234,7 @@ fn next_aside<S: Serve>(aside: &mut VecDeque<Exchange>, server: &S) -> Option<Ex
 
 // Serves those that are put aside, in their order, up to the first that would wait still, or that took long. The lines of each are out before its answer is.
 fn take_up_all<P: Port, S: Serve>(aside: &mut VecDeque<Exchange>, port: &mut P, server: &mut S)
-    ensures { (hs : List Happening) × Runs P.may port.old hs port.new × AreTakenUp S.steps S.settles server.old (datagrams aside.old.items) hs server.new (datagrams aside.new.items) }
+    ensures { (hs : List Happening) × Runs P.may port.old hs port.new × IsTakenUp S.manner server.old (datagrams aside.old.items) hs server.new (datagrams aside.new.items) }
 {
     while let Some(mut first) = next_aside(aside, server) {
         let is_late = first.serve_timed(server);
@@ -287,7 +295,7 @@ impl<P: Port + Drop> Datagrams<P> {
     /// Serves what has come, 16 datagrams at most, or puts it aside: what the socket has then, or `Io` where the socket itself failed. Where over 48 are put
     /// aside, the others wait in the socket.
     pub fn serve<S: Serve>(&mut self, server: &mut S) -> Result<Rest, LoopFault>
-        ensures { (hs : List Happening) × Runs P.may self.old.port hs self.new.port × TriesRound S.steps S.settles server.old self.old.aside hs result server.new self.new.aside }
+        ensures { (hs : List Happening) × Runs P.may self.old.port hs self.new.port × TriesRound S.manner server.old self.old.aside hs result server.new self.new.aside }
     {
         if self.aside.len() > MOST_ASIDE {
             return Ok(Rest::Later);
@@ -302,7 +310,7 @@ impl<P: Port + Drop> Datagrams<P> {
 
     /// Serves those that were put aside, in their order, up to the first that would wait still, or that took long.
     pub fn take_up<S: Serve>(&mut self, server: &mut S)
-        ensures { (hs : List Happening) × Runs P.may self.old.port hs self.new.port × AreTakenUp S.steps S.settles server.old self.old.aside hs server.new self.new.aside }
+        ensures { (hs : List Happening) × Runs P.may self.old.port hs self.new.port × IsTakenUp S.manner server.old self.old.aside hs server.new self.new.aside }
     {
         take_up_all(&mut self.aside, &mut self.port, server);
     }
@@ -348,7 +356,7 @@ impl Datagrams<UdpSocket> {
         server: &mut S,
     ) -> Result<(), LoopFault>
         ensures fault { IfErr result (λ e. e ≡ Failing) }
-        ensures served { ServesRound S.steps S.settles server.old server.new ⊎ (server.new ≡ server.old) }
+        ensures served { ServesRound S.manner server.old server.new ⊎ (server.new ≡ server.old) }
     {
         if !self.receives_again {
             return Ok(());

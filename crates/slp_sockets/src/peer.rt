@@ -41,7 +41,7 @@ fn end_of(read: Next, written: Next) -> Option<Next>
 
 // Whether the message in front is put aside: it can be served, and would wait.
 fn is_put_aside<S: Serve>(connection: &Connection, server: &S) -> bool
-    ensures { IsTrue result → has_message connection.now ≡ true }
+    ensures { IsTrue result → (has_message connection.now ≡ true) × S.manner.may_wait connection.now.unserved }
 {
     connection.is_ready() && server.waits(connection.unserved())
 }
@@ -53,7 +53,7 @@ fn take_steps<T: Read + Write, S: Serve>(
     stream: &mut T,
     server: &mut S,
 ) -> Result<Next, LoopFault>
-    ensures { Goes S.steps S.settles 16 false (record { brings = T.remaining stream.old; taken = T.contents stream.old; link = connection.old; server = server.old })
+    ensures { Goes S.manner 16 false (record { brings = T.remaining stream.old; taken = T.contents stream.old; link = connection.old; server = server.old })
         result (record { brings = T.remaining stream.new; taken = T.contents stream.new; link = connection.new; server = server.new }) }
 {
     let mut has_served = false;
@@ -122,7 +122,7 @@ impl<T: Drop> Peer<T> {
 impl<T: Read + Write + Drop> Peer<T> {
     // Lets the stream go on at a moment, and notes where it moved.
     fn advance<S: Serve>(&mut self, server: &mut S, now: u32) -> Result<Next, LoopFault>
-        ensures { Advances S.steps S.settles now (record { brings = T.remaining self.old.stream; taken = T.contents self.old.stream; link = self.old.connection; server = server.old }) self.old.moved
+        ensures { Advances S.manner now (record { brings = T.remaining self.old.stream; taken = T.contents self.old.stream; link = self.old.connection; server = server.old }) self.old.moved
             result (record { brings = T.remaining self.new.stream; taken = T.contents self.new.stream; link = self.new.connection; server = server.new }) self.new.moved }
     {
         let told = take_steps(&mut self.connection, &mut self.stream, server);
@@ -152,7 +152,7 @@ impl<T: Read + Write + Source + Drop> Peer<T> {
         key: usize,
         now: u32,
     ) -> Result<Next, LoopFault>
-        ensures { (was : Result Nexts Faults) × (end : Link) × TakesSteps S.steps S.settles self.old.connection server.old was end server.new × Tells was result × (seat self.new ≡ rested now end self.old.moved) }
+        ensures { (was : Result Nexts Faults) × (end : Link) × TakesSteps S.manner self.old.connection server.old was end server.new × Tells was result × (seat self.new ≡ rested now end self.old.moved) }
     {
         let next = self.advance(server, now)?;
         if let Next::More = next {

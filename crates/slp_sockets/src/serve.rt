@@ -4,23 +4,21 @@ use addresses::Addr;
 use slp_replies::{Answer, Sent};
 use slp_text::NoMemory;
 
-/// What answers messages. Each implementation says by `steps` what one call may do.
+/// What answers messages. Each implementation says by `manner` what one call may do.
 pub trait Serve {
-    ghost use Rattle.slp_sockets.specs.Serving.{Steps, Settles};
+    ghost use Rattle.std.specs.Prelude.{IsTrue};
+    ghost use Rattle.slp_sockets.specs.Serving.{Manner};
 
-    // Holds of the server before, the asker, the message, the limit, the outcome, the answer and the
-    // server after.
-    ghost steps: { Steps Self };
-
-    // Holds of the server before and after it settled.
-    ghost settles: { Settles Self };
+    ghost manner: { Manner Self };
 
     /// Whether a message with which these bytes begin would wait for others, if it were served now. It decides when a message is
     /// served, and nothing else.
-    fn waits(&self, bytes: &[u8]) -> bool;
+    fn waits(&self, bytes: &[u8]) -> bool
+        ensures { IsTrue result → manner.may_wait bytes.now };
 
     /// Whether to serve a message may take long, so that it is timed. It decides how many are served in a turn, and nothing else.
-    fn may_last(&self, message: &[u8]) -> bool;
+    fn may_last(&self, message: &[u8]) -> bool
+        ensures { IsTrue result → manner.may_last message.now };
 
     /// The microseconds of a clock that never goes back, from some start on. It decides the same.
     fn micros(&self) -> u64;
@@ -35,11 +33,11 @@ pub trait Serve {
     ) -> Result<Sent, NoMemory>
         requires least { 1400 ≤ limit }
         requires most { limit ≤ 65535 }
-        ensures { steps self.old asker message.now limit result answer.new self.new };
+        ensures { manner.steps self.old asker message.now limit result answer.new self.new };
 
     /// What was told of the messages so far is to be out when it returns: their answers leave next, or its loop waits.
     fn settle(&mut self)
-        ensures { settles self.old self.new };
+        ensures { manner.settles self.old self.new };
 }
 
 /// That what was told of the messages so far is out. `settle` alone gives it.
@@ -48,7 +46,7 @@ pub struct Settled(());
 
 /// Has a server settle, before answers leave.
 pub fn settle<S: Serve>(server: &mut S) -> Settled
-    ensures { S.settles server.old server.new }
+    ensures { S.manner.settles server.old server.new }
 {
     server.settle();
     Settled(())

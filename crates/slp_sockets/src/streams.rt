@@ -230,7 +230,7 @@ impl Streams {
         server: &mut S,
     ) -> Result<(), LoopFault>
         ensures limit { self.new.limit ≡ self.old.limit }
-        ensures served { ServesAt S.steps S.settles key (record { seats = self.old.seats; server = server.old }) (record { seats = self.new.seats; server = server.new }) }
+        ensures served { ServesAt S.manner key (record { seats = self.old.seats; server = server.old }) (record { seats = self.new.seats; server = server.new }) }
     {
         let told = advance_at(&mut self.peers, server, registry, key, self.moment);
         self.has_aside = self.has_aside | is_aside(&self.peers, key);
@@ -249,7 +249,7 @@ impl Streams {
     /// Lets those streams go on of which a message was put aside.
     pub fn resume<S: Serve>(&mut self, registry: &Registry, server: &mut S)
         ensures limit { self.new.limit ≡ self.old.limit }
-        ensures served { Resumes S.steps S.settles (record { seats = self.old.seats; server = server.old }) (record { seats = self.new.seats; server = server.new }) }
+        ensures served { Resumes S.manner (record { seats = self.old.seats; server = server.old }) (record { seats = self.new.seats; server = server.new }) }
     {
         if !std::mem::take(&mut self.has_aside) {
             return;
@@ -368,7 +368,7 @@ fn advance_at<S: Serve>(
 ) -> Result<Next, LoopFault>
     ensures len { slab_len peers.new ≡ slab_len peers.old }
     ensures capacity { peers.new.capacity ≡ peers.old.capacity }
-    ensures served { AdvancesAt S.steps S.settles now key (record { seats = seats peers.old; server = server.old }) result (record { seats = seats peers.new; server = server.new }) }
+    ensures served { AdvancesAt S.manner now key (record { seats = seats peers.old; server = server.old }) result (record { seats = seats peers.new; server = server.new }) }
 {
     match peers.get_mut(key) {
         Some(peer) => peer.go_on(server, registry, key, now),

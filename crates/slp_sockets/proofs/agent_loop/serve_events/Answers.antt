@@ -10,14 +10,14 @@ pub loop-event-preserved-in-Ok : goal.loop-event-preserved-in-Ok
 loop-event-preserved-in-Ok g c = record {
   limit = c.serve_event.ensures.limit ∙ c.loop-event.invariant.limit;
   all = events_next c.loop-event.yielded c.in-Some.event (iter_rest c.loop-event.event-iterator) (iter_rest c.next.new.self) (items c.args.events.now) c.loop-event.invariant.all c.in-Some.ensures.steps;
-  served = served_next g.S.Serve.steps g.S.Serve.settles (record { seats = c.args.streams.now.seats; server = c.args.server.now }) (record { seats = c.loop-event.streams.seats; server = c.loop-event.server }) (record { seats = c.serve_event.new.streams.seats; server = c.serve_event.new.server }) c.loop-event.yielded c.in-Some.event c.token.result c.token.ensures c.loop-event.invariant.served c.serve_event.ensures.served;
+  served = served_next g.S.Serve.manner (record { seats = c.args.streams.now.seats; server = c.args.server.now }) (record { seats = c.loop-event.streams.seats; server = c.loop-event.server }) (record { seats = c.serve_event.new.streams.seats; server = c.serve_event.new.server }) c.loop-event.yielded c.in-Some.event c.token.result c.token.ensures c.loop-event.invariant.served c.serve_event.ensures.served;
 }
 
 pub loop-event-preserved : goal.loop-event-preserved
 loop-event-preserved g c = record {
   limit = c.serve_event.ensures.limit ∙ c.loop-event.invariant.limit;
   all = events_next c.loop-event.yielded c.in-Some.event (iter_rest c.loop-event.event-iterator) (iter_rest c.next.new.self) (items c.args.events.now) c.loop-event.invariant.all c.in-Some.ensures.steps;
-  served = served_next g.S.Serve.steps g.S.Serve.settles (record { seats = c.args.streams.now.seats; server = c.args.server.now }) (record { seats = c.loop-event.streams.seats; server = c.loop-event.server }) (record { seats = c.serve_event.new.streams.seats; server = c.serve_event.new.server }) c.loop-event.yielded c.in-Some.event c.token.result c.token.ensures c.loop-event.invariant.served c.serve_event.ensures.served;
+  served = served_next g.S.Serve.manner (record { seats = c.args.streams.now.seats; server = c.args.server.now }) (record { seats = c.loop-event.streams.seats; server = c.loop-event.server }) (record { seats = c.serve_event.new.streams.seats; server = c.serve_event.new.server }) c.loop-event.yielded c.in-Some.event c.token.result c.token.ensures c.loop-event.invariant.served c.serve_event.ensures.served;
 }
 
 pub returns-in-Err-Io-clause-served : goal.returns-in-Err-Io-clause-served
@@ -27,5 +27,5 @@ returns-in-Err-Io-clause-served g c = (
   ap (map token_of) (sym (events_next c.loop-event.yielded c.in-Some.event (iter_rest c.loop-event.event-iterator) (iter_rest c.next.new.self) (items c.args.events.now) c.loop-event.invariant.all c.in-Some.ensures.steps))
       ∙ map-append token_of (map (λ e. e.now) (c.loop-event.yielded ++ c.in-Some.event ∷ [])) (iter_rest c.next.new.self),
   λ not. absurd (not refl),
-  served_next g.S.Serve.steps g.S.Serve.settles (record { seats = c.args.streams.now.seats; server = c.args.server.now }) (record { seats = c.loop-event.streams.seats; server = c.loop-event.server }) (record { seats = c.serve_event.new.streams.seats; server = c.serve_event.new.server }) c.loop-event.yielded c.in-Some.event c.token.result c.token.ensures c.loop-event.invariant.served c.serve_event.ensures.served,
+  served_next g.S.Serve.manner (record { seats = c.args.streams.now.seats; server = c.args.server.now }) (record { seats = c.loop-event.streams.seats; server = c.loop-event.server }) (record { seats = c.serve_event.new.streams.seats; server = c.serve_event.new.server }) c.loop-event.yielded c.in-Some.event c.token.result c.token.ensures c.loop-event.invariant.served c.serve_event.ensures.served,
 )

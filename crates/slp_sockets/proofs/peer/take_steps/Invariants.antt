@@ -7,5 +7,5 @@ use Rattle.slp_sockets.proofs.peer.take_steps.Given as goal
 abbrev pub invariant-loop : goal.invariant-loop
 invariant-loop g l =
     (told : Result Next LoopFault) (b : Talk _)
-    → Goes g.S.Serve.steps g.S.Serve.settles (16 - l.counter) l.has_served (record { brings = g.T.Read.remaining l.stream; taken = g.T.Write.contents l.stream; link = l.connection; server = l.server }) told b
-    → Goes g.S.Serve.steps g.S.Serve.settles 16 false (record { brings = g.T.Read.remaining l.fn.stream; taken = g.T.Write.contents l.fn.stream; link = l.fn.connection; server = l.fn.server }) told b
+    → Goes g.S.Serve.manner (16 - l.counter) l.has_served (record { brings = g.T.Read.remaining l.stream; taken = g.T.Write.contents l.stream; link = l.connection; server = l.server }) told b
+    → Goes g.S.Serve.manner 16 false (record { brings = g.T.Read.remaining l.fn.stream; taken = g.T.Write.contents l.fn.stream; link = l.fn.connection; server = l.fn.server }) told b

@@ -4,4 +4,4 @@ use Rattle.slp_sockets.proofs.streams.advance_at.Goals as goal
 
 pub returns-in-Some-clause-served : goal.returns-in-Some-clause-served
 returns-in-Some-clause-served g c =
-    advanced g.S.Serve.steps g.S.Serve.settles c.args.peers.now c.args.key c.in-Some.peer.now c.go_on.new.self (sym c.in-Some.ensures.value) c.args.now c.args.server.now c.go_on.new.server c.go_on.result c.go_on.ensures
+    advanced g.S.Serve.manner c.args.peers.now c.args.key c.in-Some.peer.now c.go_on.new.self (sym c.in-Some.ensures.value) c.args.now c.args.server.now c.go_on.new.server c.go_on.result c.go_on.ensures

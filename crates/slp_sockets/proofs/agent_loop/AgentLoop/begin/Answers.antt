@@ -7,24 +7,24 @@ use Rattle.slp_sockets.proofs.agent_loop.AgentLoop.begin.Goals as goal
 
 pub returns-in_err-poll-clause-served : goal.returns-in_err-poll-clause-served
 returns-in_err-poll-clause-served g c =
-    begun_first _ _ _ _
-    (begins g.S.Serve.steps g.S.Serve.settles (tended c.args.self.now) c.self.inside.streams.seats c.self.inside.streams.seats c.self.inside.streams.seats c.self.inside.streams.seats c.self.inside.server c.settle.new.self c.settle.new.self c.settle.new.self c.settle.new.self
-    (ap tended c.self.view_is) c.settle.ensures refl (λ _ _ here. inl here) (takes_none _ _ c.settle.new.self) (resumes_none _ _ _) (inr refl))
+    begun_first _ _ _
+    (begins g.S.Serve.manner (tended c.args.self.now) c.self.inside.streams.seats c.self.inside.streams.seats c.self.inside.streams.seats c.self.inside.streams.seats c.self.inside.server c.settle.new.self c.settle.new.self c.settle.new.self c.settle.new.self
+    (ap tended c.self.view_is) c.settle.ensures refl (λ _ _ here. inl here) (takes_none _ c.settle.new.self) (resumes_none _ _) (inr refl))
 
 pub returns-in_err-accept_again-clause-served : goal.returns-in_err-accept_again-clause-served
 returns-in_err-accept_again-clause-served g c =
-    begun_first _ _ _ _
-    (begins g.S.Serve.steps g.S.Serve.settles (tended c.args.self.now) c.self.inside.streams.seats c.go_on_to.new.self.seats c.accept_again.new.self.seats c.accept_again.new.self.seats c.self.inside.server c.settle.new.self c.settle.new.self c.settle.new.self c.settle.new.self
-    (ap tended c.self.view_is) c.settle.ensures (ap (λ (h : Held). h.seats) c.go_on_to.ensures.kept) c.accept_again.ensures.come (takes_none _ _ c.settle.new.self) (resumes_none _ _ _) (inr refl))
+    begun_first _ _ _
+    (begins g.S.Serve.manner (tended c.args.self.now) c.self.inside.streams.seats c.go_on_to.new.self.seats c.accept_again.new.self.seats c.accept_again.new.self.seats c.self.inside.server c.settle.new.self c.settle.new.self c.settle.new.self c.settle.new.self
+    (ap tended c.self.view_is) c.settle.ensures (ap (λ (h : Held). h.seats) c.go_on_to.ensures.kept) c.accept_again.ensures.come (takes_none _ c.settle.new.self) (resumes_none _ _) (inr refl))
 
 pub returns-clause-served : goal.returns-clause-served
 returns-clause-served g c =
-    begun_first _ _ _ _
-    (begins g.S.Serve.steps g.S.Serve.settles (tended c.args.self.now) c.self.inside.streams.seats c.go_on_to.new.self.seats c.accept_again.new.self.seats c.resume.new.self.seats c.self.inside.server c.settle.new.self c.take_up.new.server c.resume.new.server c.serve_again.new.server
-    (ap tended c.self.view_is) c.settle.ensures (ap (λ (h : Held). h.seats) c.go_on_to.ensures.kept) c.accept_again.ensures.come (taken_up g.S.Serve.steps g.S.Serve.settles _ _ _ c.settle.new.self c.take_up.new.server _ _ c.take_up.ensures) c.resume.ensures.served c.serve_again.ensures.served)
+    begun_first _ _ _
+    (begins g.S.Serve.manner (tended c.args.self.now) c.self.inside.streams.seats c.go_on_to.new.self.seats c.accept_again.new.self.seats c.resume.new.self.seats c.self.inside.server c.settle.new.self c.take_up.new.server c.resume.new.server c.serve_again.new.server
+    (ap tended c.self.view_is) c.settle.ensures (ap (λ (h : Held). h.seats) c.go_on_to.ensures.kept) c.accept_again.ensures.come (taken_up g.S.Serve.manner _ _ _ c.settle.new.self c.take_up.new.server _ _ c.take_up.ensures) c.resume.ensures.served c.serve_again.ensures.served)
 
 pub returns-clause-begun : goal.returns-clause-begun
 returns-clause-begun g c =
     MatchResult-weaker c.serve_again.result c.serve_again.ensures.fault
-    (λ _ _. begins g.S.Serve.steps g.S.Serve.settles (tended c.args.self.now) c.self.inside.streams.seats c.go_on_to.new.self.seats c.accept_again.new.self.seats c.resume.new.self.seats c.self.inside.server c.settle.new.self c.take_up.new.server c.resume.new.server c.serve_again.new.server
-    (ap tended c.self.view_is) c.settle.ensures (ap (λ (h : Held). h.seats) c.go_on_to.ensures.kept) c.accept_again.ensures.come (taken_up g.S.Serve.steps g.S.Serve.settles _ _ _ c.settle.new.self c.take_up.new.server _ _ c.take_up.ensures) c.resume.ensures.served c.serve_again.ensures.served) (λ _ _. tt)
+    (λ _ _. begins g.S.Serve.manner (tended c.args.self.now) c.self.inside.streams.seats c.go_on_to.new.self.seats c.accept_again.new.self.seats c.resume.new.self.seats c.self.inside.server c.settle.new.self c.take_up.new.server c.resume.new.server c.serve_again.new.server
+    (ap tended c.self.view_is) c.settle.ensures (ap (λ (h : Held). h.seats) c.go_on_to.ensures.kept) c.accept_again.ensures.come (taken_up g.S.Serve.manner _ _ _ c.settle.new.self c.take_up.new.server _ _ c.take_up.ensures) c.resume.ensures.served c.serve_again.ensures.served) (λ _ _. tt)

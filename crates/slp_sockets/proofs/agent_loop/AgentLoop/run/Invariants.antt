@@ -5,5 +5,5 @@ use Rattle.slp_sockets.proofs.agent_loop.AgentLoop.run.Given as goal
 abbrev pub invariant-loop : goal.invariant-loop
 invariant-loop g l = record {
   limit : l.self.limit ≡ l.fn.self.limit;
-  served : Reaches g.S.Serve.steps g.S.Serve.settles (tended l.fn.self) (tended l.self);
+  served : Reaches g.S.Serve.manner (tended l.fn.self) (tended l.self);
 }

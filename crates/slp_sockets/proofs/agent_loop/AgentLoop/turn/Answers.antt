@@ -11,14 +11,14 @@ returns-clause-served g c =
     let begun : Tended g.row.S.Denot = record { seats = c.self.inside.streams.seats; server = c.self.inside.server } in
     let served : Tended g.row.S.Denot = record { seats = c.match-begin.self-inside.streams.seats; server = c.match-begin.self-inside.server } in
     let closed : Tended g.row.S.Denot = record { seats = c.close_still.new.self.seats; server = c.match-begin.self-inside.server } in
-    first_on g.S.Serve.steps g.S.Serve.settles (tended c.args.self.now) begun closed
-    (subst (SettlesFirst g.S.Serve.steps g.S.Serve.settles (tended c.args.self.now)) (ap tended (sym c.self.view_is)) c.begin.ensures.served)
-    (reach_on g.S.Serve.steps g.S.Serve.settles begun served closed
+    first_on g.S.Serve.manner (tended c.args.self.now) begun closed
+    (subst (SettlesFirst g.S.Serve.manner (tended c.args.self.now)) (ap tended (sym c.self.view_is)) c.begin.ensures.served)
+    (reach_on g.S.Serve.manner begun served closed
     (elim c.match-begin.branch [
-      | in-Ok w ↦ rw w.self-inside-is (reach_tokens g.S.Serve.steps g.S.Serve.settles begun w.serve_events-told.ensures.served.0 (record { seats = w.serve_events-told.new.streams.seats; server = w.serve_events-told.new.server }) w.serve_events-told.ensures.served.4)
+      | in-Ok w ↦ rw w.self-inside-is (reach_tokens g.S.Serve.manner begun w.serve_events-told.ensures.served.0 (record { seats = w.serve_events-told.new.streams.seats; server = w.serve_events-told.new.server }) w.serve_events-told.ensures.served.4)
       | in-Err w ↦ rw w.self-inside-is ([], refl)
     ])
-    (reach_peers g.S.Serve.steps g.S.Serve.settles served closed (only_gone c.match-begin.self-inside.streams.seats c.close_still.new.self.seats c.close_still.ensures.only, refl)))
+    (reach_peers g.S.Serve.manner served closed (only_gone c.match-begin.self-inside.streams.seats c.close_still.new.self.seats c.close_still.ensures.only, refl)))
 
 pub returns-clause-whole : goal.returns-clause-whole
 returns-clause-whole g c = λ not. (
@@ -29,7 +29,7 @@ returns-clause-whole g c = λ not. (
         rw (w.self-inside-is, all.2, all.3 (λ is. not (w.told-is ∙ is)), append-nil) (
           tended c.begin.new.self,
           w.in-Ok.ensures.begun,
-          subst (λ s. AreServedAt g.S.Serve.steps g.S.Serve.settles s all.0 (record { seats = w.serve_events-told.new.streams.seats; server = w.serve_events-told.new.server })) (ap tended c.self.view_is) all.4,
+          subst (λ s. AreServedAt g.S.Serve.manner s all.0 (record { seats = w.serve_events-told.new.streams.seats; server = w.serve_events-told.new.server })) (ap tended c.self.view_is) all.4,
         )
     | in-Err w ↦ absurd (not (rw (← w.in-Err.ensures.fault) w.told-is))
   ],

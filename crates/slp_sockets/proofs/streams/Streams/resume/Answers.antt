@@ -7,7 +7,7 @@ pub loop-key-preserved : goal.loop-key-preserved
 loop-key-preserved g c = elim c.if-is_aside.branch [
   | then-is_aside w ↦ rw (w.self-is, w.server-is) (record {
     limit = w.advance.ensures.limit ∙ c.loop-key.invariant.limit;
-    served = resumes_next g.S.Serve.steps g.S.Serve.settles c.loop-key.key (record { seats = c.args.self.now.seats; server = c.args.server.now }) (record { seats = c.loop-key.self.seats; server = c.loop-key.server }) (record { seats = w.advance.new.self.seats; server = w.advance.new.server })
+    served = resumes_next g.S.Serve.manner c.loop-key.key (record { seats = c.args.self.now.seats; server = c.args.server.now }) (record { seats = c.loop-key.self.seats; server = c.loop-key.server }) (record { seats = w.advance.new.self.seats; server = w.advance.new.server })
         c.loop-key.invariant.served w.advance.ensures.served;
   })
   | else-is_aside w ↦ rw (w.self-is, w.server-is) c.loop-key.invariant
