@@ -23,10 +23,10 @@ struct Replying<'a> {
 
 impl<'a> Serve for Replying<'a> {
     ghost manner = { record {
-        steps = λ before asker message limit outcome answer after. after ≡ before;
-        settles = λ before after. after ≡ before;
-        may_wait = λ bytes. ⊥;
-        may_last = λ message. ⊥;
+      steps = λ before asker message limit outcome answer after. after ≡ before;
+      settles = λ before after. after ≡ before;
+      may_wait = λ bytes. ⊥;
+      may_last = λ message. ⊥;
     } };
 
     fn waits(&self, _bytes: &[u8]) -> bool {
