@@ -241,6 +241,11 @@ impl<R: Registry> Directory<R> {
         }
     }
 
+    /// How many entries are of a type, dead ones and hidden ones as well.
+    pub fn count_of_kind(&self, kind: &ServiceType) -> usize {
+        self.registry.count_of_kind(kind)
+    }
+
     // These entries with what decides on them.
     fn gathered(&self, entries: Vec<Arc<Entry>>) -> Result<Gathered, NoMemory>
         requires { HasOneOfEachPair (map arc_value entries.items) }

@@ -32,12 +32,19 @@ impl Schedule {
         }
     }
 
-    /// Whether the interval has passed since the last moment that was due, which from then on is this one. Takes no memory.
+    /// Whether the interval has passed since the last moment that was due.
+    pub fn is_due(&self, now: u32) -> bool
+        ensures { result ≡ is_due self.now now }
+    {
+        u64::from(self.last) + u64::from(self.interval) <= u64::from(now)
+    }
+
+    /// The same; from then on the last moment that was due is this one. Takes no memory.
     pub fn next(&mut self, now: u32) -> bool
         ensures due { result ≡ is_due self.old now }
         ensures kept { self.new ≡ timing_after self.old now }
     {
-        let is_due = u64::from(self.last) + u64::from(self.interval) <= u64::from(now);
+        let is_due = self.is_due(now);
         if is_due {
             self.last = now;
         }

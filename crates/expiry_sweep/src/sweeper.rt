@@ -30,6 +30,13 @@ impl Sweeper {
         Sweeper { schedule }
     }
 
+    /// Whether a sweep is due at a moment, in seconds.
+    pub fn is_due(&self, now: u32) -> bool
+        ensures { result ≡ is_due self.now now }
+    {
+        self.schedule.is_due(now)
+    }
+
     /// Publishes a sweep of a moment, in seconds, where one is due then, and answers whether it did. It waits for the writer's lock, and at
     /// the publish; where nothing is due it waits for nothing. After a refusal the moment counts as swept: the next one is due an
     /// interval later.

@@ -22,7 +22,7 @@ use std::sync::{Arc, Wait};
 use table_registry::SiteRegistry;
 
 /// The most loops that there may be.
-const MOST_LOOPS: usize = 8;
+pub const MOST_LOOPS: usize = 8;
 
 // A directory of a site with these rules, to which nothing happened.
 fn directory_of(alloc: Global, site: &Site, rules: &Arc<Rules>) -> Result<AgentDirectory, NoMemory>

@@ -18,7 +18,7 @@ use crossbeam_utils::rule::{Outcome, Protocol};
 use history_log::{Front, Naming};
 use left_right::reader::{Factory, Reader};
 use left_right::writer::Writer;
-use slp_answer::{Answer, Call, Heard, ReadQuestion, Sent, begin_asked, end_asked};
+use slp_answer::{Answer, Call, Heard, ReadQuestion, Sent, begin_asked, end_asked, takes_long};
 use slp_text::NoMemory;
 use std::alloc::{AllocError, Global};
 use std::marker::PhantomData;
@@ -131,6 +131,23 @@ pub fn answered<J: Naming, G: Gate, Q: Asks>(
             (reader, Ok(sent))
         }
         Err(reader) => (reader, Err(ViewFault::Closed)),
+    }
+}
+
+/// Whether a question may take long, by what is published. Nothing is seen.
+pub fn would_take_long<J: Naming>(
+    reader: RuledReader<J>,
+    heard: &Heard<'_>,
+    read: &ReadQuestion,
+) -> (RuledReader<J>, bool)
+    ensures { view result.0.place ≡ view reader.place }
+{
+    match reader.enter_as::<Shown<J>>() {
+        Ok(reading) => {
+            let is_long = takes_long(&reading.get().directory, heard, read);
+            (reading.leave(), is_long)
+        }
+        Err(reader) => (reader, false),
     }
 }
 

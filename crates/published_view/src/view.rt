@@ -11,7 +11,7 @@ ghost use Rattle.published_view.specs.Traces.{last_at, IsAsked};
 
 use crate::fault::ViewFault;
 use crate::gate::Gate;
-use crate::rule::{RuledFactory, RuledReader, answered, learnt, unheard};
+use crate::rule::{RuledFactory, RuledReader, answered, learnt, unheard, would_take_long};
 use addresses::Addr;
 use history_log::{Front, Naming};
 use slp_answer::{Answer, Call, Heard, Sent, asked};
@@ -174,6 +174,32 @@ impl<J: Naming> LoopView<J> {
             Some(heard) => self.hear(alloc, gate, Ok(&heard), answer),
             None => self.hear(alloc, gate, Err(&call), answer),
         }
+    }
+
+    /// Whether to answer these bytes may take long, by what is published now. It sees nothing. Where memory is wanting it answers no.
+    pub fn would_take_long(&mut self, alloc: Global, own: Addr, bytes: &[u8]) -> bool
+        ensures { self.new ≡ self.old }
+    {
+        let call = Call {
+            own,
+            moment: 0,
+            asker: own,
+            bytes,
+            limit: 1_400,
+        };
+        let Some(heard) = Heard::of(&call) else {
+            return false;
+        };
+        if heard.request.is_change() {
+            return false;
+        }
+        let Ok(read) = asked(alloc, &heard) else {
+            return false;
+        };
+        let reader = self.reader.take().unwrap();
+        let (reader, is_long) = would_take_long(reader, &heard, &read);
+        self.reader = Some(reader);
+        is_long
     }
 
     /// Sees no less than the note from now on. It is an entry without an answer.

@@ -263,6 +263,10 @@ impl Registry for ListRegistry {
         Ok(shares)
     }
 
+    fn count_of_kind(&self, kind: &ServiceType) -> usize {
+        self.entries.iter().filter(|e| kind.covers(&e.kind)).count()
+    }
+
     fn share_by_url(&self, url: &Url, from: usize) -> Option<(&Arc<Entry>, usize)> {
         for at in from..self.entries.len() {
             let share = &self.entries[at];

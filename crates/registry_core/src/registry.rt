@@ -141,6 +141,10 @@ pub trait Registry {
         ensures order { IfOk result (λ v. map arc_value v.items ≡ rest_of_kind self.now (Some kind.now) 0) }
         ensures whole { IfOk result (λ v. IsListing (is_kind (Some kind.now)) (contents self.now) (map arc_value v.items)) };
 
+    /// How many entries there are of a type that the given one covers.
+    fn count_of_kind(&self, kind: &ServiceType) -> usize
+        ensures { result ≡ length (rest_of_kind self.now (Some kind.now) 0) };
+
     /// What `by_url` gives, lent as the share that the registry holds: another one of it may be kept.
     fn share_by_url(&self, url: &Url, from: usize) -> Option<(&Arc<Entry>, usize)>
         ensures next { MatchOption result (rest_of_url self.now url.now from ≡ []) (λ p. rest_of_url self.now url.now from ≡ arc_value p.0.now ∷ rest_of_url self.now url.now p.1) }

@@ -11,7 +11,7 @@ ghost use Rattle.slp_answer.specs.Gathering.{is_gathered, IsBegun, IsBegunAt, Is
 
 use crate::questions::{ReadQuestion, answer_question, answer_services};
 use crate::text_replies::answer_attributes;
-use directory_questions::{Heard, Question, ServiceQuery};
+use directory_questions::{Heard, Question, ServiceQuery, Target};
 use directory_state::{Directory, Gathered, Source};
 use registry_core::Registry;
 use slp_replies::{Answer, Reply, Sent, told_whole};
@@ -29,13 +29,38 @@ pub enum Begun {
 /// the bytes and for the values of its entry: that is a millisecond or two of entries with few values, and 200 of such as have 5,000 each.
 const MOST_AT_ONCE: usize = 4_000_000;
 
+// How many entries a question with a filter looks at, of so many bytes.
+fn most_at_once(bytes: usize) -> usize {
+    MOST_AT_ONCE / bytes.saturating_mul(bytes).max(1)
+}
+
 // How many entries a question of so many bytes looks at while the directory is read. That decides where it is answered, and not what.
 fn looks_at_once(query: &ServiceQuery, bytes: usize) -> usize
     ensures { is_some query.now.filter ≡ false → result ≡ 2 ^ 64 - 1 }
 {
     match &query.filter {
-        Some(_) => MOST_AT_ONCE / bytes.saturating_mul(bytes).max(1),
+        Some(_) => most_at_once(bytes),
         None => usize::MAX,
+    }
+}
+
+/// Whether a question may have to look at more entries than it looks at while the directory is read. It decides where the question is answered, and
+/// not what.
+pub fn takes_long<R: Registry>(
+    directory: &Directory<R>,
+    heard: &Heard<'_>,
+    read: &ReadQuestion,
+) -> bool {
+    let most = most_at_once(heard.call.bytes.len());
+    match read {
+        Ok(Question::Services(query)) if query.filter.is_some() => directory.count_of_kind(
+            &query.kind,
+        ) > most,
+        Ok(Question::Attributes(query)) => match &query.target {
+            Target::Kind(kind) => directory.count_of_kind(kind) > most,
+            Target::Place(_) => most == 0,
+        },
+        _ => false,
     }
 }
 

@@ -12,7 +12,7 @@ mod text_replies;
 pub use acknowledgements::acknowledge_heard;
 pub use calls::{acknowledge, reply, step};
 pub use directory_questions::{Call, Heard, asked, is_change};
-pub use gathering::{Begun, begin_asked, end_asked};
+pub use gathering::{Begun, begin_asked, end_asked, takes_long};
 pub use questions::{ReadQuestion, answer_heard};
 pub use slp_replies::{
     Answer, Audit, Sent, ShortLine, ShortReply, audit_line, refusal, refused_line, refused_line_of,

@@ -1,5 +1,6 @@
 -- What a type covers stands together in the order for it.
-use Rattle.std.proofs.Common.{◌≡◌, ◌≢◌, ℕ, ◌<◌, ◌≤◌, true, false, cond, List, [], length, get_or, Option, Some, None, refl, sym, ap, ◌∙◌, arith}
+use Rattle.std.proofs.Common.{◌≡◌, ◌≢◌, ℕ, ◌<◌, ◌≤◌, ◌+◌, ◌-◌, zero, suc, true, false, cond, List, [], length, drop, get_or, Option, Some, None, refl, sym, ap, ◌∙◌, arith, inl, inr}
+use Rattle.std.proofs.lemmas.Bool.{cases_lt}
 use Rattle.std.proofs.lemmas.List.Sums.{prefix_len_passes}
 use Rattle.std.proofs.lemmas.Map.Lookups.{exact_bytes}
 use Rattle.std.specs.Ordering.{is_lt, ordering_then}
@@ -9,14 +10,14 @@ use Rattle.slp_text.specs.Words.{bytes_cmp}
 use Rattle.service_url.specs.Types.{covers, is_abstract}
 use Rattle.service_url.proofs.Covered.{covers_itself, root_covers}
 use Rattle.registry_core.specs.declared.entry.Entry.{Entry}
-use Rattle.registry_core.specs.Entries.{pair_cmp, pair_of, is_kind}
+use Rattle.registry_core.specs.Entries.{pair_cmp, pair_of, if_kept, is_kind}
 use Rattle.registry_slots.specs.declared.orders.By.{By}
 use Rattle.registry_slots.specs.declared.orders.By.TheVariants as by
-use Rattle.registry_slots.specs.Slots.{slot_at, tests}
+use Rattle.registry_slots.specs.Slots.{slot_at, gathered, tests}
 use Rattle.registry_slots.specs.Orders.{rank_cmp, rank_behind, front_of, comes_before, place_in, IsOrder}
-use Rattle.registry_slots.proofs.Ranks.{before_behind, own_behind, holds, rank_past, rank_within}
+use Rattle.registry_slots.proofs.Ranks.{before_behind, held_at, own_behind, holds, rank_past, rank_within}
 use Rattle.table_registry.specs.Tables.{by_for, NoneIn}
-use Rattle.table_registry.proofs.Along.{covered_front}
+use Rattle.table_registry.proofs.Along.{covered_front, gather_end, gather_here, gather_to, start_none}
 
 -- what has the front of a type is covered by it
 front_covered : (kind : List ℕ) (e : Entry) → front_of (by_for (Some kind)) e ≡ kind → covers kind e.kind ≡ true
@@ -66,3 +67,24 @@ module _ (kind : List ℕ) (slots : List (Option Entry)) (order : List ℕ) (o :
       | false ↦ λ t. refl
     ] refl
   ] refl
+
+  abbrev found : ℕ → List Entry
+  found from = gathered (λ x. if_kept (is_kind (Some kind)) (slot_at slots x)) (drop from order)
+
+  -- from a place between them on there are as many as up to the end
+  range_len : (n i : ℕ) → i + n ≡ end → start ≤ i → length (found i) ≡ n
+  range_len zero i last low = ap length (gather_end (is_kind (Some kind)) slots order i (λ j l m. range_over j (omega (arith, l, last)) m))
+  range_len (suc n) i last low =
+      let l : i < length order = omega (arith, last, end_within) in
+      let held = held_at way slots order o i (get_or order i 0) l refl in
+      ap length (gather_here (is_kind (Some kind)) slots order i held.0 l held.1 (range_covered i held.0 low (omega (arith, last)) held.1))
+      ∙ ap suc (range_len n (i + 1) (omega (arith, last)) (omega (arith, low)))
+
+  -- so many there are
+  pub range_count : length (found 0) ≡ end - start
+  range_count =
+      ap length (gather_to (is_kind (Some kind)) slots order 0 start (omega arith) (rank_within way slots (kind, ([], [])) order) (start_none kind slots order))
+      ∙ elim (cases_lt end start) [
+        | inl l ↦ ap length (gather_end (is_kind (Some kind)) slots order start (λ j m k. range_over j (omega (arith, l, m)) k)) ∙ omega (arith, l)
+        | inr g ↦ range_len (end - start) start (omega (arith, g)) (omega arith)
+      ]

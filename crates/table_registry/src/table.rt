@@ -336,6 +336,13 @@ impl Registry for TableRegistry {
         Ok(shares)
     }
 
+    fn count_of_kind(&self, kind: &ServiceType) -> usize {
+        // That what is covered stands together is known where the order is read.
+        let _order = self.order(by_for(Some(kind)));
+        let (start, end) = self.range_of(kind);
+        end.saturating_sub(start)
+    }
+
     fn share_by_url(&self, url: &Url, from: usize) -> Option<(&Arc<Entry>, usize)> {
         match self.next_of_url(url, from) {
             Some(at) => Some((self.slots.share(self.places.at(at)), at + 1)),
