@@ -1,5 +1,5 @@
 -- What the threads of a server do.
-use Rattle.std.specs.Prelude.{◌≡◌, ℕ, ⊤, List, [], ◌∷◌, ◌++◌}
+use Rattle.std.specs.Prelude.{◌≡◌, ℕ, ⊤, List, [], ◌∷◌, ◌++◌, take}
 use Rattle.agent_program.specs.declared.threads.Job.{Job}
 use Rattle.agent_program.specs.declared.threads.Job.TheVariants.{Serve, Other}
 
@@ -16,10 +16,12 @@ module _ {S T : Type 0} where
   AreLoops own (j ∷ js) [] = ⊥
   AreLoops own (j ∷ js) (p ∷ ps) = IsLoop own j p × AreLoops own js ps
 
-  -- a loop for each address, and last what sweeps, so often
-  pub record AreJobs (own : S → ℕ) (interval_of : T → ℕ) (jobs : List (Job S T)) (places : List (ℕ × ℕ)) (interval : ℕ) : Type 0 where
+  -- a loop for each address, one more for each of the first so many, and last what sweeps, so often
+  pub record AreJobs (own : S → ℕ) (interval_of : T → ℕ) (jobs : List (Job S T)) (places : List (ℕ × ℕ)) (others interval : ℕ) : Type 0 where
     pub loops : List (Job S T)
+    pub beside : List (Job S T)
     pub sweeping : T
-    pub are : jobs ≡ loops ++ Other sweeping ∷ []
+    pub are : jobs ≡ (loops ++ beside) ++ Other sweeping ∷ []
     pub serve : AreLoops own loops places
+    pub serve_beside : AreLoops own beside (take others places)
     pub sweeps : interval_of sweeping ≡ interval

@@ -1,5 +1,5 @@
 //! How a server starts: what its configuration names is opened, each of its addresses has a loop, and each loop a thread.
-ghost use Rattle.std.specs.Prelude.{◌≡◌, ◌<◌, length, vec_len, slice_get, slice_index_or, Some, IfOk};
+ghost use Rattle.std.specs.Prelude.{◌≡◌, ◌<◌, ◌≤◌, ◌++◌, ◌∷◌, [], false, is_some, length, min, vec_len, slice_get, slice_index_or, Some, IfOk, IfSome, MatchOption, OnOk};
 ghost use Rattle.std.specs.Arc.{arc_value};
 ghost use Rattle.std.specs.Option.{option_map};
 ghost use Rattle.agent_program.specs.Jobs.{AreJobs, IsLoop};
@@ -10,11 +10,11 @@ use crate::opening::{Beginning, begun};
 use crate::sweeping::Sweeping;
 use crate::threads::{Job, serve};
 use agent_watch::SharedInput;
-use published_view::{Gate, LoopView, Naming, Opened, open};
+use published_view::{Gate, LoopView, MOST_LOOPS, Naming, Opened, open};
 use site_config::Config;
 use site_opening::StartFault;
 use slp_loops::{AgentLoop, Desk, LoopFault, Moments, Shared, SharedOutput, WallClock};
-use std::alloc::Global;
+use std::alloc::{AllocError, Global};
 use std::io::{Read, Write};
 use std::marker::Brand;
 use std::net::Net;
@@ -43,6 +43,16 @@ type AgentDesk<'r, 's, J, R, G, W> = Desk<
 
 type AgentJob<'r, 's, J, R, G, W> = Job<AgentDesk<'r, 's, J, R, G, W>, Sweeping<'r, 's, J, R, G>>;
 
+type Agents<'r, 's, J, R, G, W> = (
+    AgentLoop<AgentDesk<'r, 's, J, R, G, W>>,
+    Option<AgentLoop<AgentDesk<'r, 's, J, R, G, W>>>,
+);
+
+type Loops<'r, 's, J, R, G, W> = (
+    AgentJob<'r, 's, J, R, G, W>,
+    Option<AgentJob<'r, 's, J, R, G, W>>,
+);
+
 // The desk for messages that come to one of the addresses of a configuration.
 fn desk_at<'r, 's, J, R, G, W>(
     config: &Config,
@@ -56,56 +66,90 @@ where
     G: Gate,
     W: Write,
     requires { place < length config.now.listen }
-    ensures { option_map (λ place. place.0) (slice_get config.now.listen place) ≡ Some result.own }
+    ensures own { option_map (λ place. place.0) (slice_get config.now.listen place) ≡ Some result.own }
+    ensures alone { result.has_other ≡ false }
 {
     let (own, _) = config.listen.as_slice()[place];
     Desk::new(view, shared, own, WallClock::new(shared.rt))
 }
 
-// What serves at one of the addresses of a configuration: its desk has the address at which it listens.
-fn agent_at<'r, 's, J, R, G, W>(
+// What serves at one of the addresses of a configuration, and what serves there beside it, where there is a view for that: their desks have the address at which it listens.
+fn agents_at<'r, 's, J, R, G, W>(
     config: &Config,
     place: usize,
     view: LoopView<J>,
+    other: Option<LoopView<J>>,
     shared: &Shared<'r, 's, J, R, G, W>,
-) -> Result<AgentLoop<AgentDesk<'r, 's, J, R, G, W>>, LoopFault>
+) -> Result<Agents<'r, 's, J, R, G, W>, LoopFault>
 where
     J: Naming,
     R: Wait + Clock + Net,
     G: Gate,
     W: Write,
     requires { place < length config.now.listen }
-    ensures { IfOk result (λ l. option_map (λ place. place.0) (slice_get config.now.listen place) ≡ Some l.server.own) }
+    ensures one { IfOk result (λ a. (option_map (λ place. place.0) (slice_get config.now.listen place) ≡ Some a.0.server.own) × (a.0.server.has_other ≡ is_some a.1)) }
+    ensures other { IfOk result (λ a. (is_some a.1 ≡ is_some other) × IfSome a.1 (λ l. (option_map (λ place. place.0) (slice_get config.now.listen place) ≡ Some l.server.own) × (l.server.has_other ≡ false))) }
 {
-    let desk = desk_at(config, place, view, shared);
-    AgentLoop::new(shared.rt, shared.alloc, config, place, desk)
+    let mut desk = desk_at(config, place, view, shared);
+    desk.has_other = other.is_some();
+    let mut agent = AgentLoop::new(shared.rt, shared.alloc, config, place, desk)?;
+    match other {
+        Some(view) => {
+            let desk = desk_at(config, place, view, shared);
+            let beside = agent.beside(shared.rt, shared.alloc, desk)?;
+            Ok((agent, Some(beside)))
+        }
+        None => Ok((agent, None)),
+    }
 }
 
-// The loop at one of the addresses of a configuration.
-fn loop_at<'r, 's, J, R, G, W>(
+// The loop at one of the addresses of a configuration, and the one beside it.
+fn loops_at<'r, 's, J, R, G, W>(
     config: &Config,
     place: usize,
     view: LoopView<J>,
+    other: Option<LoopView<J>>,
     shared: &Shared<'r, 's, J, R, G, W>,
-) -> Result<AgentJob<'r, 's, J, R, G, W>, StartFault>
+) -> Result<Loops<'r, 's, J, R, G, W>, StartFault>
 where
     J: Naming,
     R: Wait + Clock + Net,
     G: Gate,
     W: Write,
     requires { place < length config.now.listen }
-    ensures { IfOk result (λ job. IsLoop (λ d. d.own) job (slice_index_or config.now.listen place (0, 0))) }
+    ensures one { IfOk result (λ jobs. IsLoop (λ d. d.own) jobs.0 (slice_index_or config.now.listen place (0, 0))) }
+    ensures other { IfOk result (λ jobs. (is_some jobs.1 ≡ is_some other) × IfSome jobs.1 (λ job. IsLoop (λ d. d.own) job (slice_index_or config.now.listen place (0, 0)))) }
 {
-    match agent_at(config, place, view, shared) {
-        Ok(agent) => Ok(Job::Serve(agent)),
+    match agents_at(config, place, view, other, shared) {
+        Ok(agents) => {
+            let (agent, other) = agents;
+            match other {
+                Some(beside) => Ok((Job::Serve(agent), Some(Job::Serve(beside)))),
+                None => Ok((Job::Serve(agent), None)),
+            }
+        }
         Err(fault) => Err(loop_fault(fault)),
     }
 }
 
-// A loop for each address of a configuration, and the sweeper.
+// Adds what is there.
+fn add<T: Drop>(all: &mut Vec<T>, one: Option<T>) -> Result<(), AllocError>
+    ensures { OnOk result (MatchOption one (all.new.items ≡ all.old.items) (λ x. all.new.items ≡ all.old.items ++ x ∷ [])) }
+{
+    match one {
+        Some(one) => {
+            all.push(one)?;
+            Ok(())
+        }
+        None => Ok(()),
+    }
+}
+
+// A loop for each address of a configuration, one beside each of the first of them, as many as there are other views, and the sweeper.
 fn jobs_at<'r, 's, J, R, G, W>(
     config: &Config,
     views: Vec<LoopView<J>>,
+    mut others: Vec<LoopView<J>>,
     shared: &Shared<'r, 's, J, R, G, W>,
 ) -> Result<Vec<AgentJob<'r, 's, J, R, G, W>>, StartFault>
 where
@@ -114,22 +158,32 @@ where
     G: Gate,
     W: Write,
     requires { vec_len views ≡ length config.now.listen }
-    ensures { IfOk result (λ jobs. AreJobs (λ d. d.own) (λ s. s.sweeper.interval) jobs.items config.now.listen config.now.sweep) }
+    ensures { IfOk result (λ jobs. AreJobs (λ d. d.own) (λ s. s.sweeper.interval) jobs.items config.now.listen (min (vec_len others) (length config.now.listen)) config.now.sweep) }
 {
     let mut jobs = Vec::new(shared.alloc);
+    let mut beside = Vec::new(shared.alloc);
     for view in views {
-        let job = loop_at(config, jobs.len(), view, shared)?;
+        let (job, other) = loops_at(config, jobs.len(), view, others.pop(), shared)?;
         jobs.push(job)?;
+        add(&mut beside, other)?;
     }
+    jobs.append(&mut beside)?;
     let sweeping = Sweeping::new(shared.rt, shared.writer, shared.gate, config.sweep);
     jobs.push(Job::Other(sweeping))?;
     Ok(jobs)
 }
 
+// How many loops serve at so many addresses: two at each, as long as there are views.
+fn loops_for(addresses: usize) -> usize
+    ensures { addresses ≤ result }
+{
+    addresses.saturating_add(addresses.min(MOST_LOOPS.saturating_sub(addresses)))
+}
+
 // Serves at the addresses of a configuration, from what is published.
 fn serve_at<J, R, G, I, W>(
     config: &Config,
-    views: Vec<LoopView<J>>,
+    mut views: Vec<LoopView<J>>,
     shared: &Shared<'_, '_, J, R, G, W>,
     input: &Mutex<I>,
 ) -> Result<u8, StartFault>
@@ -139,9 +193,10 @@ where
     G: Gate + Sync,
     I: Read + Send,
     W: Write + Send,
-    requires { vec_len views ≡ length config.now.listen }
+    requires { length config.now.listen ≤ vec_len views }
 {
-    let jobs = jobs_at(config, views, shared)?;
+    let others = views.split_off(config.listen.as_slice().len())?;
+    let jobs = jobs_at(config, views, others, shared)?;
     let console = Console {
         rt: shared.rt,
         alloc: shared.alloc,
@@ -183,7 +238,7 @@ where
         site,
         rules,
     } = begun;
-    let loops = config.listen.as_slice().len();
+    let loops = loops_for(config.listen.as_slice().len());
     let told = open::<J, &R>(alloc, rt, opened, &site, rules, loops);
     drop(site);
     let Ok((writer, views)) = told else {

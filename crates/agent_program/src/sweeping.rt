@@ -60,8 +60,11 @@ impl<'r, 's, J: Naming, R: Wait + Clock, G: Gate> Sweeping<'r, 's, J, R, G> {
     fn sweep(&mut self)
         ensures { self.new.sweeper ≡ timing_after self.old.sweeper self.new.clock }
     {
-        wait_for_loops(self.rt, self.gate);
         let now = self.clock.now();
+        if !self.sweeper.is_due(now) {
+            return;
+        }
+        wait_for_loops(self.rt, self.gate);
         self.gate.changing();
         let _ = self.sweeper.turn(self.rt, now, self.writer);
         self.gate.changed();

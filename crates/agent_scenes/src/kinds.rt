@@ -66,6 +66,7 @@ pub(crate) enum AgentRow {
     Console(&'static str),
     TwoLoopsAtOnce,
     Enter,
+    EnterBeside,
     Leave,
     Pause,
     Idle,
@@ -83,7 +84,7 @@ pub(crate) enum ToolRow {
 }
 
 /// The rows by their words.
-static ROWS: [(&str, Row); 45] = [
+static ROWS: [(&str, Row); 46] = [
     ("at", Row::Place(PlaceRow::At)),
     ("from", Row::Place(PlaceRow::From)),
     ("near", Row::Place(PlaceRow::Near)),
@@ -119,6 +120,7 @@ static ROWS: [(&str, Row); 45] = [
     ("unended", Row::Agent(AgentRow::Console(""))),
     ("two_loops_at_once", Row::Agent(AgentRow::TwoLoopsAtOnce)),
     ("enter", Row::Agent(AgentRow::Enter)),
+    ("enter_beside", Row::Agent(AgentRow::EnterBeside)),
     ("leave", Row::Agent(AgentRow::Leave)),
     ("pause", Row::Agent(AgentRow::Pause)),
     ("idle", Row::Agent(AgentRow::Idle)),

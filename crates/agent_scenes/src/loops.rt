@@ -1,4 +1,5 @@
 //! Rows about several loops.
+use crate::meeting::{BESIDE, FIRST};
 use crate::scene::Scene;
 use crate::sockets::{receive, socket};
 use std::fs::File;
@@ -52,15 +53,28 @@ where
 
     /// Sends the first loop what is no message. It enters what is published all the same, and stays there until it may go on.
     pub(crate) fn enter(&self, out: &mut Vec<u8>) -> io::Result<()> {
-        self.props.meeting.call();
+        self.props.meeting.call(FIRST);
         self.send_to_loop(1, &[0])?;
+        self.print_unless_inside(out)
+    }
+
+    // Prints where the loop that was called does not come to be inside its entry.
+    fn print_unless_inside(&self, out: &mut Vec<u8>) -> io::Result<()> {
         if self.props.meeting.wait_for_first(self.rt) {
             return Ok(());
         }
         out.write_all(b"(not inside)\n")
     }
 
-    /// Lets the first loop go on.
+    /// Sends the first loop a message that takes long. The loop beside it enters what is published, and stays there until it may go on.
+    pub(crate) fn enter_beside(&mut self, text: &str, out: &mut Vec<u8>) -> io::Result<()> {
+        let message = self.message(text)?;
+        self.props.meeting.call(BESIDE);
+        self.send_to_loop(1, message.as_slice())?;
+        self.print_unless_inside(out)
+    }
+
+    /// Lets the loop go on.
     pub(crate) fn leave(&self) {
         self.props.meeting.end();
     }
@@ -68,7 +82,7 @@ where
     /// The first loop stays in its entry until the second has answered the same.
     pub(crate) fn two_loops_at_once(&mut self, text: &str, out: &mut Vec<u8>) -> io::Result<()> {
         let message = self.message(text)?;
-        self.props.meeting.call();
+        self.props.meeting.call(FIRST);
         self.ask_both(message.as_slice(), out)?;
         let told = if self.props.meeting.were_both_inside() {
             "# both were inside at once: yes\n"

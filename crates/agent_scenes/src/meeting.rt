@@ -1,5 +1,5 @@
 //! Two loops of an agent that are inside their entries at once.
-use std::sync::atomic::{AtomicBool, Ordering};
+use std::sync::atomic::{AtomicBool, AtomicUsize, Ordering};
 use std::thread;
 use std::time::{Clock, Duration};
 
@@ -11,9 +11,16 @@ const LOOKS: u32 = 1_000;
 
 const NAP: u64 = 5;
 
-/// Keeps the first loop inside an entry until the second has answered. It does so once each time it is called.
+/// The number of the first loop.
+pub(crate) const FIRST: usize = 0;
+
+/// The number of the loop beside the first, where there are two addresses.
+pub(crate) const BESIDE: usize = 3;
+
+/// Keeps a loop, the first, inside an entry until the second has answered. It does so once each time it is called.
 #[derive(Drop)]
 pub struct Meeting {
+    first: AtomicUsize,
     is_called: AtomicBool,
     is_first_inside: AtomicBool,
     has_second_answered: AtomicBool,
@@ -23,6 +30,7 @@ pub struct Meeting {
 impl Meeting {
     pub(crate) fn new() -> Meeting {
         Meeting {
+            first: AtomicUsize::new(FIRST),
             is_called: AtomicBool::new(false),
             is_first_inside: AtomicBool::new(false),
             has_second_answered: AtomicBool::new(false),
@@ -30,8 +38,9 @@ impl Meeting {
         }
     }
 
-    /// The next entry of the first loop is held.
-    pub(crate) fn call(&self) {
+    /// The next entry of the loop with this number is held.
+    pub(crate) fn call(&self, first: usize) {
+        self.first.store(first, Ordering::SeqCst);
         self.is_first_inside.store(false, Ordering::SeqCst);
         self.has_second_answered.store(false, Ordering::SeqCst);
         self.is_called.store(true, Ordering::SeqCst);
@@ -60,7 +69,9 @@ impl Meeting {
 
     /// Holds the first loop inside an entry, once, where that was called for.
     pub fn hold(&self, place: usize) {
-        if place != 0 || !self.is_called.swap(false, Ordering::SeqCst) {
+        if place != self.first.load(Ordering::SeqCst)
+            || !self.is_called.swap(false, Ordering::SeqCst)
+        {
             return;
         }
         self.is_first_inside.store(true, Ordering::SeqCst);

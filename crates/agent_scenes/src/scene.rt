@@ -308,6 +308,7 @@ where
             }
             AgentRow::TwoLoopsAtOnce => self.two_loops_at_once(rest, out),
             AgentRow::Enter => self.enter(out),
+            AgentRow::EnterBeside => self.enter_beside(rest, out),
             AgentRow::Leave => {
                 self.leave();
                 Ok(())

@@ -1,5 +1,5 @@
 //! The desk: what serves the messages of one address.
-ghost use Rattle.std.specs.Prelude.{◌≡◌, ◌⊎◌, ◌↔◌, [], true, None, Some, slice_get, IfOk, IsTrue, OnErr, OnOk};
+ghost use Rattle.std.specs.Prelude.{◌≡◌, ◌⊎◌, ◌↔◌, [], true, false, None, Some, slice_get, IfOk, IsTrue, OnErr, OnOk};
 ghost use Rattle.directory_questions.specs.Calls.{call_in};
 ghost use Rattle.directory_questions.specs.Requests.{function_in, is_change_function};
 ghost use Rattle.directory_questions.specs.Verdicts.{IsLegal};
@@ -47,6 +47,8 @@ pub struct Desk<'r, 's, J: Naming, R: Wait, M: Moments + Drop, G: Gate, L: Log +
     pub moments: M,
     /// Whether this desk sees what the last change that it answered published, and all that was published before. At first it is set.
     pub told: bool,
+    /// Whether there is a loop beside this one, to which it leaves what would take long. At first there is none.
+    pub has_other: bool,
 }
 
 impl<'r, 's, J: Naming, R: Wait, M: Moments + Drop, G: Gate, L: Log + Drop> Drop
@@ -62,6 +64,7 @@ impl<'r, 's, J: Naming, R: Wait, M: Moments + Drop, G: Gate, L: Log + Drop> Drop
             own: _,
             moments: _,
             told: _,
+            has_other: _,
         } = self;
     }
 }
@@ -116,6 +119,7 @@ impl<'r, 's, J: Naming, R: Wait, M: Moments + Drop, G: Gate, W: Write> Desk<
         ensures moments { result.moments ≡ moments }
         ensures view { result.view ≡ view }
         ensures told { result.told ≡ true }
+        ensures alone { result.has_other ≡ false }
         ensures settled { result.lines.waiting ≡ [] }
     {
         let log = SharedOutput {
@@ -132,6 +136,7 @@ impl<'r, 's, J: Naming, R: Wait, M: Moments + Drop, G: Gate, W: Write> Desk<
             own,
             moments,
             told: true,
+            has_other: false,
         }
     }
 }
@@ -217,6 +222,12 @@ impl<'r, 's, J: Naming, R: Wait, M: Moments + Drop, G: Gate, L: Log + Drop> Serv
 
     fn may_last(&self, message: &[u8]) -> bool {
         message.len() > SHORT || asks_for_attributes(message)
+    }
+
+    fn is_long(&mut self, message: &[u8]) -> bool {
+        self.has_other
+            && self.may_last(message)
+            && self.view.would_take_long(self.alloc, self.own, message)
     }
 
     fn micros(&self) -> u64 {

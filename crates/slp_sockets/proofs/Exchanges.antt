@@ -5,7 +5,7 @@ use Rattle.std.proofs.lemmas.List.{append-nil, append_assoc, map-append, length-
 use Rattle.std.proofs.lemmas.Grind.{flat_map-append}
 use Rattle.std.specs.declared.io.Error.{Error}
 use Rattle.slp_sockets.specs.Exchanging.{back, datagram, datagrams, dues, all_dues, Stopped}
-use Rattle.slp_sockets.specs.Ports.{Datagram, Happening, Came, Paused, Left, Ports, Round, Runs, IsTimed, IsMet, MayBeAside, AreMet, AreStillAside, AreTakenUp, IsTakenUp, IsRound, Says, IsThrough, owed, pausing}
+use Rattle.slp_sockets.specs.Ports.{Datagram, Happening, Came, Paused, Left, Ports, Round, Runs, IsTimed, IsMet, MayBePut, AreMet, AreStillAside, AreTakenUp, IsTakenUp, IsRound, Says, IsThrough, owed, pausing}
 use Rattle.slp_sockets.specs.Serving.{Manner}
 use Rattle.slp_sockets.specs.declared.exchange.Exchange.{Exchange}
 use Rattle.slp_sockets.specs.declared.exchange.Rest.{Rest}
@@ -107,7 +107,7 @@ pub met_served : {S : Type 0} (manner : Manner S) (x y : Exchange) (a b : Round 
 met_served manner x y a b aside same one = (back y, [], served_dues x y same, sym (append-nil aside), inl (one, refl))
 
 -- one is put aside behind others
-pub met_aside : {S : Type 0} (manner : Manner S) (x y : Exchange) (a : Round S) (es fs : List Exchange) → fs ≡ es ++ x ∷ [] → dues y ≡ [] → MayBeAside manner a.is_late (datagram x)
+pub met_aside : {S : Type 0} (manner : Manner S) (x y : Exchange) (a : Round S) (es fs : List Exchange) → fs ≡ es ++ x ∷ [] → dues y ≡ [] → MayBePut manner a.is_late (datagram x)
     → (bytes : List ℕ) × (put : List Datagram) × (dues y ≡ owed x.from bytes) × (datagrams fs ≡ datagrams es ++ put) × IsMet manner a (datagram x) bytes put a
 met_aside manner x y a es fs is none may = ([], datagram x ∷ [], none, ap datagrams is ∙ map-append datagram es (x ∷ []), inr (may, refl, refl, refl))
 

@@ -1,5 +1,6 @@
 pub mod Advancing
 pub mod Exchanges
+pub mod Handing
 pub mod Ports
 pub mod Reaching
 pub mod Served

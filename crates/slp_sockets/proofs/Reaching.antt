@@ -7,11 +7,12 @@ use Rattle.std.specs.Borrow.{Bor}
 use Rattle.mio.specs.Event.{event_token}
 use Rattle.mio.specs.declared.event.event.Event.{Event}
 use Rattle.mio.specs.declared.token.Token.{Token}
+use Rattle.slp_sockets.specs.Handing.{Joins}
 use Rattle.slp_sockets.specs.Holding.{Seat}
 use Rattle.slp_sockets.specs.Ports.{Datagram, Happening, IsTakenUp, Ports, Runs, ServesRound, TakesUp}
 use Rattle.slp_sockets.specs.Readiness.{token_of}
 use Rattle.slp_sockets.specs.Serving.{Manner}
-use Rattle.slp_sockets.specs.Turning.{Tended, AreResumed, AreServedAt, ComeOrGo, IsBegun, IsByAside, IsByPeers, IsPart, IsServedAt, IsSettled, Passes, Reaches, ReceivesAgain, Resumes, ServesAt, SettlesFirst, SettlesLast, datagrams_token, listener_token}
+use Rattle.slp_sockets.specs.Turning.{Tended, AreResumed, AreServedAt, ComeOrGo, IsBegun, IsByAside, IsByLane, IsByPeers, IsPart, IsServedAt, IsSettled, Passes, Reaches, ReceivesAgain, Resumes, ServesAt, SettlesFirst, SettlesLast, datagrams_token, listener_token}
 
 module _ {S : Type 0} (manner : Manner S) where
   passes_on : (a : Tended S) (ss ts : List (Tended S)) (b c : Tended S) → Passes manner a ss b → Passes manner b ts c → Passes manner a (ss ++ ts) c
@@ -50,7 +51,11 @@ module _ {S : Type 0} (manner : Manner S) where
 
   -- what was put aside
   reach_aside : (a b : Tended S) → IsByAside manner a b → Reaches manner a b
-  reach_aside a b one = reach_part a b (inr (inr (inr (inr one))))
+  reach_aside a b one = reach_part a b (inr (inr (inr (inr (inl one)))))
+
+  -- streams that were handed over
+  reach_lane : (a b : Tended S) → IsByLane manner a b → Reaches manner a b
+  reach_lane a b one = reach_part a b (inr (inr (inr (inr (inr one)))))
 
   -- streams of which a message was
   reach_resumed : (a : Tended S) (keys : List ℕ) (b : Tended S) → AreResumed manner a keys b → Reaches manner a b
@@ -106,15 +111,17 @@ module _ {S : Type 0} (manner : Manner S) where
   resumes_next key a b c (keys, before) one = (keys ++ key ∷ [], resumed_more a keys key b c before one)
 
   -- what begins a turn
-  pub begins : (s : Tended S) (before between after went : List (Option Seat)) (a b t u c : S) → record { seats = before; server = a } ≡ s → manner.settles a b → between ≡ before → ComeOrGo between after → TakesUp manner b t
-      → Resumes manner (record { seats = after; server = t }) (record { seats = went; server = u }) → ServesRound manner u c ⊎ (c ≡ u) → IsBegun manner s (record { seats = went; server = c })
-  begins s before between after went a b t u c is settled same come takes resumes served = subst (λ x. IsBegun manner x (record { seats = went; server = c })) is (record {
+  pub begins : (s : Tended S) (before between after joint went : List (Option Seat)) (a b t u c : S) → record { seats = before; server = a } ≡ s → manner.settles a b → between ≡ before → ComeOrGo between after → Joins after joint → TakesUp manner b t
+      → Resumes manner (record { seats = joint; server = t }) (record { seats = went; server = u }) → ServesRound manner u c ⊎ (c ≡ u) → IsBegun manner s (record { seats = went; server = c })
+  begins s before between after joint went a b t u c is settled same come joins takes resumes served = subst (λ x. IsBegun manner x (record { seats = went; server = c })) is (record {
     settled = record { seats = before; server = b };
     accepted = record { seats = after; server = b };
-    taken = record { seats = after; server = t };
+    joined = record { seats = joint; server = b };
+    taken = record { seats = joint; server = t };
     resumed = record { seats = went; server = u };
     settles_first = (settled, refl);
     accepts = (subst (λ seats. ComeOrGo seats after) same come, refl);
+    joins = (joins, refl);
     takes_up = (takes, refl);
     resumes = resumes;
     receives = received_again went u c served;
@@ -125,7 +132,8 @@ module _ {S : Type 0} (manner : Manner S) where
     one.settled,
     one.settles_first,
     reach_on one.settled one.accepted b (reach_peers one.settled one.accepted one.accepts)
-        (reach_on one.accepted one.taken b (reach_aside one.accepted one.taken one.takes_up) (reach_on one.taken one.resumed b (reach_resumed one.taken one.resumes.0 one.resumed one.resumes.1) (reach_again one.resumed b one.receives))),
+        (reach_on one.accepted one.joined b (reach_lane one.accepted one.joined one.joins)
+        (reach_on one.joined one.taken b (reach_aside one.joined one.taken one.takes_up) (reach_on one.taken one.resumed b (reach_resumed one.taken one.resumes.0 one.resumed one.resumes.1) (reach_again one.resumed b one.receives)))),
   )
 
   -- it settled first, and more was done

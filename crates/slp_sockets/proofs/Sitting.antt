@@ -1,16 +1,15 @@
 -- What is known of streams that sit there.
-use Rattle.std.proofs.Common.{◌≡◌, ◌≢◌, ℕ, ◌+◌, ◌<◌, ◌≤◌, nat_lt, Bool, true, false, if◌then◌else◌, List, Option, Some, None, length, refl, sym, ap, ◌∙◌, subst, inl, inr, arith}
+use Rattle.std.proofs.Common.{◌≡◌, ◌≢◌, ℕ, ◌+◌, ◌<◌, ◌≤◌, nat_lt, Bool, true, false, if◌then◌else◌, List, Option, Some, None, length, refl, sym, ap, ◌∙◌, inl, inr, arith}
 use Rattle.std.specs.Prelude.{◌⊎◌, IfNone, IsSome, OnSome}
 use Rattle.std.specs.Option.{option_map}
 use Rattle.std.proofs.Math.ListN.{get_or-map}
 use Rattle.std.proofs.lemmas.Bool.{cases_eq, ltb-true, ltb-false}
 use Rattle.std.proofs.lemmas.Option.{none-some, same_Some}
-use Rattle.std.specs.declared.net.socket_addr.SocketAddr.{SocketAddr}
 use Rattle.slab.specs.Slab.{Slab, Updates, get, slab_len, with_value}
 use Rattle.slab.proofs.SlabLemmas.{ContainsKey-within, Updates-with_value}
 use Rattle.slp_sockets.specs.Holding.{Seat, HasNoOther, IsStillest, KeepsOthers, NoneSits, moment_of, seat_at, stiller}
 use Rattle.slp_sockets.specs.Sitting.{seat, seats}
-use Rattle.slp_sockets.specs.Turning.{Admits, ComeOrGo, IsNewcomer}
+use Rattle.slp_sockets.specs.Turning.{ComeOrGo, Keeps}
 use Rattle.slp_sockets.specs.declared.peer.Peer.{Peer}
 
 abbrev pub moment_in : Option Seat → Option ℕ
@@ -83,10 +82,10 @@ module _ {T : Type 0} (old new : Slab (Peer T)) (key : ℕ) where
 
 -- where one comes to a key that was free
 module _ {T : Type 0} (old new : Slab (Peer T)) (key : ℕ) (peer : Peer T) (before : List (Option Seat)) where
-  -- it came from there, and no other came
-  pub insertion_admits : (from : SocketAddr) (now : ℕ) → Updates old new key (Some peer) → HasNoOther before (seats old) → IsNewcomer from now (seat peer) → Admits from now before (seats new)
-  insertion_admits from now u only came k s is = elim (cases_eq k key) [
-    | inl same ↦ inr (subst (IsNewcomer from now) (same_Some (seat peer) s (sym (there old new key (Some peer) k u same) ∙ is)) came)
+  -- no other comes
+  pub insertion_only : Updates old new key (Some peer) → HasNoOther before (seats old) → Keeps (seat peer) before (seats new)
+  insertion_only u only k s is = elim (cases_eq k key) [
+    | inl same ↦ inr (sym (same_Some (seat peer) s (sym (there old new key (Some peer) k u same) ∙ is)))
     | inr differs ↦ inl (only k s (sym (beside old new key (Some peer) k u differs) ∙ is))
   ]
 
@@ -96,6 +95,14 @@ module _ {T : Type 0} (old new : Slab (Peer T)) (key : ℕ) (peer : Peer T) (bef
     | inl same ↦ absurd (none-some s (sym (ap (seat_at (seats old)) same ∙ (seat_is old key ∙ ap (option_map seat) free)) ∙ kept k s is fresh))
     | inr differs ↦ beside old new key (Some peer) k u differs ∙ kept k s is fresh
   ]
+
+-- no other came, step after step
+pub only_again : (before between after : List (Option Seat)) → HasNoOther before between → HasNoOther between after → HasNoOther before after
+only_again before between after first next key s is = first key s (next key s is)
+
+-- streams come, and then some go
+pub come_then_go : (before between after : List (Option Seat)) → ComeOrGo before between → HasNoOther between after → ComeOrGo before after
+come_then_go before between after come only key s is = come key s (only key s is)
 
 -- those that only go
 pub only_gone : (before after : List (Option Seat)) → HasNoOther before after → ComeOrGo before after

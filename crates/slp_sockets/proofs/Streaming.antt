@@ -1,6 +1,6 @@
 -- A stream's steps, one after the other.
 use Rattle.std.proofs.Common.{◌≡◌, ◌≤◌, ◌<◌, ◌&&◌, ◌||◌, ℕ, ◌+◌, ◌-◌, suc, Bool, true, false, List, Option, Some, None, Result, Ok, Err, refl, sym, ap, ◌∙◌, subst, inl, inr, arith}
-use Rattle.std.specs.Prelude.{IfSome, IfNone}
+use Rattle.std.specs.Prelude.{◌⊎◌, IfSome, IfNone}
 use Rattle.slp_sockets.specs.Linking.{Link, has_message, unread, unwritten}
 use Rattle.slp_sockets.specs.Reading.{Reads}
 use Rattle.slp_sockets.specs.Serving.{Manner}
@@ -33,8 +33,8 @@ module _ {S : Type 0} (manner : Manner S) (i : ℕ) (lt : i < 16) (served : Bool
   next_waits next = subst (λ n. Goes manner n served a (Ok More) a) (one_left i lt) (inl (inr (ap (λ b. b && served) (sym same) ∙ next, refl), refl))
 
   -- the message that waits is put aside
-  pub left_aside : waits ≡ true → manner.may_wait a.link.unserved → Goes manner (16 - i) served a (Ok Blocked) a
-  left_aside next may = subst (λ n. Goes manner n served a (Ok Blocked) a) (one_left i lt) (inl (inl (sym same ∙ next, may, refl), refl))
+  pub left_aside : has_message a.link ≡ true → manner.may_wait a.link.unserved ⊎ manner.may_last a.link.unserved → Goes manner (16 - i) served a (Ok Blocked) a
+  left_aside next may = subst (λ n. Goes manner n served a (Ok Blocked) a) (one_left i lt) (inl (inl (next, may, refl), refl))
 
   module _ (none : (waits && served) ≡ false) where
     free : (has_message a.link && served) ≡ false
@@ -81,9 +81,10 @@ module _ {T S : Type 0} (brings taken : T → Option (List ℕ)) where
   unwritten_same r q l m a told (Some next) (is, link, stream) = (is, same_talk r q l m a a link stream refl)
 
   module _ (manner : Manner S) where
-    pub is_read : (r q : T) (l m : Link) (a b : S) (told : Result Next LoopFault) → IfSome (unread l) (λ next. (told ≡ Ok next) × (m ≡ l) × (q ≡ r) × (b ≡ a))
-        → IfNone (unread l) (Reads manner (brings r) (brings q) l a told m b) → IsRead manner (talk r l a) told (talk q m b)
-    is_read r q l m a b told same reads = (unread_same r q l m a b told (unread l) same, reads)
+    -- read by a server that is as it was when it was asked
+    pub is_read : (r q : T) (l m : Link) (a asked b : S) (told : Result Next LoopFault) → asked ≡ a → IfSome (unread l) (λ next. (told ≡ Ok next) × (m ≡ l) × (q ≡ r) × (b ≡ asked))
+        → IfNone (unread l) (Reads manner (brings r) (brings q) l asked told m b) → IsRead manner (talk r l a) told (talk q m b)
+    is_read r q l m a asked b told kept same reads = subst (λ s. IsRead manner (talk r l s) told (talk q m b)) kept (unread_same r q l m asked b told (unread l) same, reads)
 
     pub is_step : (r q w : T) (l m n : Link) (a b s : S) (read : Next) (told : Result Next LoopFault) → IsRead manner (talk r l a) (Ok read) (talk q m b) → manner.settles b s
         → IfSome (unwritten m) (λ next. (told ≡ Ok next) × (n ≡ m) × (w ≡ q)) → Wrote (taken q) (taken w) m.waiting n.waiting → IfNone (unwritten m) (Writes m told n)

@@ -1,4 +1,6 @@
 pub mod Exchanging
+pub mod Fronts
+pub mod Handing
 pub mod Holding
 pub mod Linking
 pub mod Ports
@@ -8,5 +10,6 @@ pub mod Serving
 pub mod Sitting
 pub mod Sockets
 pub mod Streaming
+pub mod Taking
 pub mod Turning
 pub mod Writing

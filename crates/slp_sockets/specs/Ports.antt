@@ -81,9 +81,13 @@ module _ {S : Type 0} (manner : Manner S) where
   abbrev pub MayBeAside : Bool → Datagram → Type 0
   MayBeAside is_late d = IsTrue is_late ⊎ manner.may_wait d.bytes
 
+  -- the same where it comes, or to serve it may take long, so that another loop is to do it
+  abbrev pub MayBePut : Bool → Datagram → Type 0
+  MayBePut is_late d = MayBeAside is_late d ⊎ manner.may_last d.bytes
+
   -- a datagram is served, or put aside, where it may be
   abbrev pub IsMet : Round S → Datagram → List ℕ → List Datagram → Round S → Type 0
-  IsMet before d back put after = (IsTimed before.server d back after × (put ≡ [])) ⊎ (MayBeAside before.is_late d × (back ≡ []) × (put ≡ d ∷ []) × (after ≡ before))
+  IsMet before d back put after = (IsTimed before.server d back after × (put ≡ [])) ⊎ (MayBePut before.is_late d × (back ≡ []) × (put ≡ d ∷ []) × (after ≡ before))
 
   -- datagrams are served or put aside, once each, one after the other: what is owed to their senders then, and which are aside
   abbrev pub AreMet : Round S → List Datagram → List Datagram → List Datagram → Round S → Type 0

@@ -24,7 +24,7 @@ pub record Manner (S : Type 0) : Type 1 where
   pub settles : Settles S
   -- what begins with these bytes may have to wait for others, so that it may be put aside
   pub may_wait : List ℕ → Type 0
-  -- to serve this message may take long, so that those behind it may be put aside
+  -- to serve this message may take long, so that those behind it may be put aside, and another loop may serve it
   pub may_last : List ℕ → Type 0
 
 -- what a clock may answer: the clock before, the moment and the clock after

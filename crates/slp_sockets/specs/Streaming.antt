@@ -40,9 +40,10 @@ module _ {S : Type 0} (manner : Manner S) where
     pub settled : manner.settles between.server server
     pub written_is : IsWritten (record between { server = server }) written b
 
-  -- The message in front is left where it is, whether or not one was served before, and this is answered: it is put aside, since it may have to wait for others, or has its turn when other streams have had theirs.
+  -- The message in front is left where it is, whether or not one was served before, and this is answered: it is put aside, since it may have to wait for others, or since to serve it may take long, so that another loop is to do it; or it has its turn when other
+  -- streams have had theirs.
   abbrev pub IsLeft : Link → Bool → Result Next LoopFault → Type 0
-  IsLeft l served told = (IsTrue (has_message l) × manner.may_wait l.unserved × (told ≡ Ok Blocked)) ⊎ (IsTrue (has_message l && served) × (told ≡ Ok More))
+  IsLeft l served told = (IsTrue (has_message l) × (manner.may_wait l.unserved ⊎ manner.may_last l.unserved) × (told ≡ Ok Blocked)) ⊎ (IsTrue (has_message l && served) × (told ≡ Ok More))
 
   -- At most so many steps, one after the other, until one of them fails or ends it. A message that waits may be left where it is, and none is served where one was before.
   abbrev pub Goes : ℕ → Bool → Talk S → Result Next LoopFault → Talk S → Type 0

@@ -1,6 +1,7 @@
 -- What a loop does to its streams and its server.
 use Rattle.std.specs.Prelude.{◌≡◌, ◌≢◌, ◌⊎◌, ℕ, ⊤, Bool, true, false, List, [], ◌∷◌, Option, Some, None, IfSome, IsSomeAnd, Result, Ok, Err, if◌then◌else◌}
 use Rattle.std.specs.declared.net.socket_addr.SocketAddr.{SocketAddr}
+use Rattle.slp_sockets.specs.Handing.{Joins}
 use Rattle.slp_sockets.specs.Holding.{Seat, Looping, seat_at}
 use Rattle.slp_sockets.specs.Linking.{Link}
 use Rattle.slp_sockets.specs.Ports.{ServesRound, TakesUp, asker_of}
@@ -27,6 +28,10 @@ fresh asker = record { asker = asker; unserved = []; waiting = []; stage = Readi
 -- one that came from there, at a moment
 abbrev pub IsNewcomer : SocketAddr → ℕ → Seat → Type 0
 IsNewcomer from now s = (asker : ℕ) × (asker_of from ≡ Some asker) × (s ≡ record { link = fresh asker; moved = now })
+
+-- each stream that is there was there as it is, or is this one
+abbrev pub Keeps : Seat → List (Option Seat) → List (Option Seat) → Type 0
+Keeps stream before after = (key : ℕ) (s : Seat) → seat_at after key ≡ Some s → (seat_at before key ≡ Some s) ⊎ (s ≡ stream)
 
 -- each stream that is there was there as it is, or came from there
 abbrev pub Admits : SocketAddr → ℕ → List (Option Seat) → List (Option Seat) → Type 0
@@ -129,7 +134,11 @@ module _ {S : Type 0} (manner : Manner S) where
   abbrev pub Resumes : Tended S → Tended S → Type 0
   Resumes before after = (keys : List ℕ) × AreResumed before keys after
 
-  -- streams come, or are closed
+  -- streams were handed over by another loop of the address
+  abbrev pub IsByLane : Tended S → Tended S → Type 0
+  IsByLane before after = Joins before.seats after.seats × (after.server ≡ before.server)
+
+  -- streams come, or are closed or handed over
   abbrev pub IsByPeers : Tended S → Tended S → Type 0
   IsByPeers before after = ComeOrGo before.seats after.seats × (after.server ≡ before.server)
 
@@ -144,9 +153,10 @@ module _ {S : Type 0} (manner : Manner S) where
   AreServedAt before [] after = after ≡ before
   AreServedAt before (token ∷ tokens) after = (between : Tended S) × IsServedAt token before between × AreServedAt between tokens after
 
-  -- it settles, since the loop waits next or ends; or serves datagrams that came or were put aside, or a stream; or streams come, or are closed
+  -- it settles, since the loop waits next or ends; or serves datagrams that came or were put aside, or a stream; or streams come, or are closed or handed over
   abbrev pub IsPart : Tended S → Tended S → Type 0
-  IsPart before after = IsSettled before after ⊎ (IsByDatagrams before after ⊎ (((key : ℕ) × IsByStream key before after) ⊎ (IsByPeers before after ⊎ IsByAside before after)))
+  IsPart before after =
+      IsSettled before after ⊎ (IsByDatagrams before after ⊎ (((key : ℕ) × IsByStream key before after) ⊎ (IsByPeers before after ⊎ (IsByAside before after ⊎ IsByLane before after))))
 
   -- these parts are done, one after the other; it is so after each
   abbrev pub Passes : Tended S → List (Tended S) → Tended S → Type 0
@@ -165,15 +175,17 @@ module _ {S : Type 0} (manner : Manner S) where
   abbrev pub SettlesLast : Tended S → Tended S → Type 0
   SettlesLast before after = (s : Tended S) × Reaches before s × IsSettled s after
 
-  -- The server settles. Streams come that could not at the last turn, what was put aside is taken up, and datagrams come that could not.
+  -- The server settles. Streams come that could not at the last turn, or are handed over to another loop, or by it; what was put aside is taken up, and datagrams come that could not.
   pub record IsBegun (before after : Tended S) : Type 0 where
     pub settled : Tended S
     pub accepted : Tended S
+    pub joined : Tended S
     pub taken : Tended S
     pub resumed : Tended S
     pub settles_first : IsSettled before settled
     pub accepts : IsByPeers settled accepted
-    pub takes_up : IsByAside accepted taken
+    pub joins : IsByLane accepted joined
+    pub takes_up : IsByAside joined taken
     pub resumes : Resumes taken resumed
     pub receives : ReceivesAgain resumed after
 

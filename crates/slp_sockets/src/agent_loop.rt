@@ -1,12 +1,14 @@
 ghost use Rattle.std.specs.Prelude.{◌≡◌, ◌≢◌, ◌≤◌, ◌<◌, ◌↔◌, ◌++◌, ℕ, List, [], length, slice_get, Some, Err, IfOk, IfErr, IsTrue};
-ghost use Rattle.slp_sockets.specs.Holding.{NoneSits, longest_stay};
+ghost use Rattle.slp_sockets.specs.Handing.{HandsOver, Joins, TakesOver, given_in, taken_by, taken_in};
+ghost use Rattle.slp_sockets.specs.Holding.{HasNoOther, NoneSits, longest_stay};
 ghost use Rattle.slp_sockets.specs.Readiness.{tokens_of};
 ghost use Rattle.slp_sockets.specs.Turning.{AreServedAt, IsBegun, IsServedAt, IsTurn, SettlesFirst, SettlesLast, tended};
 ghost use Rattle.slp_sockets.specs.declared.fault.LoopFault.TheVariants.{Io as Failing};
 
 use crate::clock::{Moments, SteadyClock};
-use crate::datagrams::{DATAGRAMS, Datagrams};
+use crate::datagrams::{DATAGRAMS, Datagrams, Taken};
 use crate::fault::LoopFault;
+use crate::lane::{Giver, ON_THE_WAY, Taker, lane_to};
 use crate::serve::Serve;
 use crate::streams::{LISTENER, Streams};
 use addresses::Addr;
@@ -16,7 +18,7 @@ use site_config::Config;
 use std::alloc::Global;
 use std::io;
 use std::marker::Model;
-use std::net::{Ipv4Addr, Net, SocketAddr};
+use std::net::{self, Ipv4Addr, Net, SocketAddr};
 use std::sync::Wait;
 use std::sync::atomic::{AtomicBool, Ordering};
 use std::time::{Clock, Duration};
@@ -82,12 +84,71 @@ fn is_lost(told: Result<(), LoopFault>) -> bool
     told == Err(LoopFault::Io)
 }
 
+// Hands over what the loop beside is to serve, where there is one.
+fn hand_over<S: Serve>(
+    registry: &Registry,
+    gives: &mut Option<Giver>,
+    datagrams: &mut Datagrams<UdpSocket>,
+    streams: &mut Streams,
+    server: &mut S,
+)
+    ensures server { server.new ≡ server.old }
+    ensures limit { streams.new.limit ≡ streams.old.limit }
+    ensures only { HasNoOther streams.old.seats streams.new.seats }
+    ensures given { HandsOver S.manner datagrams.old.aside (record { seats = streams.old.seats; gifts = given_in gives.old }) datagrams.new.aside (record { seats = streams.new.seats; gifts = given_in gives.new }) }
+{
+    if let Some(giver) = gives {
+        datagrams.give(server, giver);
+        streams.give(registry, server, giver);
+    }
+}
+
+// Takes over what the loop beside handed over: datagrams are put aside, and streams go on here.
+fn take_over(
+    registry: &Registry,
+    takes: &mut Option<Taker>,
+    datagrams: &mut Datagrams<UdpSocket>,
+    streams: &mut Streams,
+)
+    ensures limit { streams.new.limit ≡ streams.old.limit }
+    ensures joins { Joins streams.old.seats streams.new.seats }
+    ensures taken { TakesOver datagrams.old.aside (taken_in takes.old) datagrams.new.aside (taken_in takes.new) }
+{
+    if let Some(taker) = takes {
+        take_all(registry, taker, datagrams, streams);
+    }
+}
+
+// Takes over all that was handed over.
+fn take_all(
+    registry: &Registry,
+    taker: &mut Taker,
+    datagrams: &mut Datagrams<UdpSocket>,
+    streams: &mut Streams,
+)
+    ensures limit { streams.new.limit ≡ streams.old.limit }
+    ensures joins { Joins streams.old.seats streams.new.seats }
+    ensures taken { TakesOver datagrams.old.aside (taken_by taker.old) datagrams.new.aside (taken_by taker.new) }
+{
+    for _ in 0..ON_THE_WAY {
+        match datagrams.take_next(taker) {
+            Taken::Nothing => return,
+            Taken::Mail => {}
+            Taken::Stream(peer) => streams.take_in(registry, peer),
+        }
+    }
+}
+
 /// Serves the datagrams and the streams of one address.
 pub struct AgentLoop<S: Serve + Drop> {
     poll: Poll,
     events: Events,
     datagrams: Datagrams<UdpSocket>,
     streams: Streams,
+    // The socket once more, for a loop beside this one.
+    socket: Option<UdpSocket>,
+    gives: Option<Giver>,
+    takes: Option<Taker>,
     server: S,
 }
 
@@ -98,6 +159,9 @@ impl<S: Serve + Drop> Drop for AgentLoop<S> {
             events: _,
             datagrams: _,
             streams: _,
+            socket: _,
+            gives: _,
+            takes: _,
             server: _,
         } = self;
     }
@@ -119,6 +183,8 @@ struct Parts {
     events: Events,
     datagrams: Datagrams<UdpSocket>,
     streams: Streams,
+    socket: Option<UdpSocket>,
+    takes: Option<Taker>,
 }
 
 // A listener at an address, which is waited for.
@@ -128,11 +194,24 @@ fn listen<N: Net>(net: &N, registry: &Registry, address: SocketAddr) -> io::Resu
     Ok(listener)
 }
 
-// A socket for datagrams at an address, which is waited for.
-fn receive<N: Net>(net: &N, registry: &Registry, address: SocketAddr) -> io::Result<UdpSocket> {
-    let mut socket = UdpSocket::bind(net, address)?;
-    registry.register(&mut socket, DATAGRAMS, Interest::READABLE)?;
+// A socket for datagrams at an address.
+fn bind<N: Net>(net: &N, address: SocketAddr) -> io::Result<net::UdpSocket> {
+    let socket = net::UdpSocket::bind(net, address)?;
+    socket.set_nonblocking(true)?;
     Ok(socket)
+}
+
+// A socket for datagrams at an address, which is waited for, and the same once more.
+fn receive<N: Net>(
+    net: &N,
+    registry: &Registry,
+    address: SocketAddr,
+) -> io::Result<(UdpSocket, UdpSocket)> {
+    let socket = bind(net, address)?;
+    let again = UdpSocket::from_std(socket.try_clone()?);
+    let mut socket = UdpSocket::from_std(socket);
+    registry.register(&mut socket, DATAGRAMS, Interest::READABLE)?;
+    Ok((socket, again))
 }
 
 // The streams of an address, with places for this many.
@@ -147,18 +226,32 @@ fn streams_at<N: Net>(
     ensures held { IfOk result (λ s. s.held ≡ 0) }
 {
     let listener = listen(net, registry, address)?;
-    Ok(Streams::new(alloc, listener, connections)?)
+    Ok(Streams::new(alloc, Some(listener), connections)?)
 }
 
-// The datagrams of an address.
+// The datagrams of an address, and their socket once more.
 fn datagrams_at<N: Net>(
     net: &N,
     alloc: Global,
     registry: &Registry,
     address: SocketAddr,
-) -> Result<Datagrams<UdpSocket>, LoopFault> {
-    let socket = receive(net, registry, address)?;
-    Ok(Datagrams::new(alloc, socket)?)
+) -> Result<(Datagrams<UdpSocket>, UdpSocket), LoopFault> {
+    let (socket, again) = receive(net, registry, address)?;
+    match Datagrams::new(alloc, socket) {
+        Ok(datagrams) => Ok((datagrams, again)),
+        Err(fault) => {
+            drop(again);
+            Err(fault.into())
+        }
+    }
+}
+
+// The sockets of an address.
+#[derive(Drop)]
+struct Sockets {
+    datagrams: Datagrams<UdpSocket>,
+    again: UdpSocket,
+    streams: Streams,
 }
 
 // The datagrams and the streams of an address, with places for this many streams.
@@ -168,14 +261,18 @@ fn sockets_at<N: Net>(
     registry: &Registry,
     address: SocketAddr,
     connections: usize,
-) -> Result<(Datagrams<UdpSocket>, Streams), LoopFault>
-    ensures limit { IfOk result (λ p. p.1.limit ≡ connections) }
-    ensures held { IfOk result (λ p. p.1.held ≡ 0) }
+) -> Result<Sockets, LoopFault>
+    ensures limit { IfOk result (λ s. s.streams.limit ≡ connections) }
+    ensures held { IfOk result (λ s. s.streams.held ≡ 0) }
 {
     let streams = streams_at(net, alloc, registry, address, connections)?;
     let address = streams.address()?;
     match datagrams_at(net, alloc, registry, address) {
-        Ok(datagrams) => Ok((datagrams, streams)),
+        Ok((datagrams, again)) => Ok(Sockets {
+            datagrams,
+            again,
+            streams,
+        }),
         Err(fault) => {
             drop(streams);
             Err(fault)
@@ -201,11 +298,19 @@ fn parts_at<N: Net>(
 {
     let (poll, events) = poll_with(net, alloc)?;
     match sockets_at(net, alloc, poll.registry(), address, connections) {
-        Ok((datagrams, streams)) => Ok(Parts {
+        Ok(
+            Sockets {
+                datagrams,
+                again,
+                streams,
+            },
+        ) => Ok(Parts {
             poll,
             events,
             datagrams,
             streams,
+            socket: Some(again),
+            takes: None,
         }),
         Err(fault) => {
             drop(poll);
@@ -241,20 +346,79 @@ impl<S: Serve + Drop> AgentLoop<S> {
         let (own, port) = listened_at(config, place);
         let address = SocketAddr::from((Ipv4Addr::from_bits(own.0), port));
         match parts_at(net, alloc, address, config.connections) {
-            Ok(
-                Parts {
-                    poll,
-                    events,
-                    datagrams,
-                    streams,
-                },
-            ) => Ok(AgentLoop {
-                poll,
-                events,
-                datagrams,
-                streams,
-                server,
-            }),
+            Ok(parts) => Ok(AgentLoop::of(parts, server)),
+            Err(fault) => {
+                drop(server);
+                Err(fault)
+            }
+        }
+    }
+
+    // A loop of these parts.
+    fn of(parts: Parts, server: S) -> AgentLoop<S>
+        ensures limit { result.limit ≡ parts.streams.limit }
+        ensures held { result.held ≡ parts.streams.held }
+        ensures server { result.server ≡ server }
+    {
+        let Parts {
+            poll,
+            events,
+            datagrams,
+            streams,
+            socket,
+            takes,
+        } = parts;
+        AgentLoop {
+            poll,
+            events,
+            datagrams,
+            streams,
+            socket,
+            gives: None,
+            takes,
+            server,
+        }
+    }
+
+    // The parts of a loop beside this one.
+    fn parts_beside<N: Net>(&mut self, net: &N, alloc: Global) -> Result<Parts, LoopFault>
+        ensures limit { IfOk result (λ p. p.streams.limit ≡ self.old.limit) }
+        ensures held { IfOk result (λ p. p.streams.held ≡ 0) }
+        ensures kept { self.new ≡ self.old }
+    {
+        let (poll, events) = poll_with(net, alloc)?;
+        let streams = Streams::new(alloc, None, self.streams.limit())?;
+        let Some(socket) = self.socket.take() else {
+            return Err(LoopFault::Io);
+        };
+        let datagrams = Datagrams::new(alloc, socket)?;
+        let (giver, taker) = lane_to(alloc, poll.registry())?;
+        self.gives = Some(giver);
+        Ok(Parts {
+            poll,
+            events,
+            datagrams,
+            streams,
+            socket: None,
+            takes: Some(taker),
+        })
+    }
+
+    /// A loop beside this one, which answers what would take long here, from the same address. Streams come to it from this one alone. This one
+    /// can have one such loop.
+    pub fn beside<N: Net>(
+        &mut self,
+        net: &N,
+        alloc: Global,
+        server: S,
+    ) -> Result<AgentLoop<S>, LoopFault>
+        ensures limit { IfOk result (λ l. l.limit ≡ self.old.limit) }
+        ensures held { IfOk result (λ l. l.held ≡ 0) }
+        ensures server { IfOk result (λ l. l.server ≡ server) }
+        ensures kept { self.new ≡ self.old }
+    {
+        match self.parts_beside(net, alloc) {
+            Ok(parts) => Ok(AgentLoop::of(parts, server)),
             Err(fault) => {
                 drop(server);
                 Err(fault)
@@ -321,6 +485,19 @@ impl<S: Serve + Drop> AgentLoop<S> {
         self.poll.poll(&mut self.events, Some(wait))?;
         self.streams.go_on_to(steady.now());
         self.streams.accept_again(self.poll.registry())?;
+        hand_over(
+            self.poll.registry(),
+            &mut self.gives,
+            &mut self.datagrams,
+            &mut self.streams,
+            &mut self.server,
+        );
+        take_over(
+            self.poll.registry(),
+            &mut self.takes,
+            &mut self.datagrams,
+            &mut self.streams,
+        );
         self.datagrams.take_up(&mut self.server);
         self.streams.resume(self.poll.registry(), &mut self.server);
         self.datagrams

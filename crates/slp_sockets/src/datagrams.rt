@@ -1,17 +1,23 @@
 //! The datagrams of a loop: they are received, served and answered together.
 ghost use Rattle.std.specs.Prelude.{◌≡◌, ◌≢◌, ◌⊎◌, ◌↔◌, ◌≤◌, ◌++◌, ◌∷◌, ℕ, [], take, map, length, List, Option, Bool, false, IfErr, IfOk, IsTrue, IsFalse, MatchOption};
 ghost use Rattle.std.specs.declared.io.Error.{Error};
-ghost use Rattle.slp_sockets.specs.Ports.{Datagram, Happening, Came, Left, Runs, ServedFor, IsTimed, IsMet, MayBeAside, AreMet, AreStillAside, IsTakenUp, IsRound, ServesRound, TriesRound, Says, IsThrough, owed, pausing};
+ghost use Rattle.slp_sockets.specs.Ports.{Datagram, Happening, Came, Left, Runs, ServedFor, IsTimed, IsMet, MayBePut, AreMet, AreStillAside, IsTakenUp, IsRound, ServesRound, TriesRound, Says, IsThrough, owed, pausing};
 ghost use Rattle.slp_sockets.specs.Ports as spec;
+ghost use Rattle.rtrb.specs.Ring.{sent};
+ghost use Rattle.slp_sockets.specs.Handing.{AreMailed, given_by, taken_by};
+ghost use Rattle.slp_sockets.specs.Taking.{TakesNext};
+ghost use Rattle.slp_sockets.specs.declared.lane.Handed.TheVariants.{Mail as Mailed};
 ghost use Rattle.slp_sockets.specs.Exchanging.{datagram, datagrams, back, dues, all_dues, received_into, Stopped};
 ghost use Rattle.slp_sockets.specs.declared.fault.LoopFault.TheVariants.{Io as Failing};
 
 use crate::exchange::{Back, Exchange, Rest};
 use crate::fault::{LoopFault, is_socket_lost};
+use crate::lane::{Giver, Handed, Taker};
+use crate::peer::Peer;
 use crate::port::Port;
 use crate::serve::{Serve, Settled, settle};
 use addresses::Addr;
-use mio::net::UdpSocket;
+use mio::net::{TcpStream, UdpSocket};
 use mio::{Interest, Registry, Token};
 use slp_replies::refused_reply;
 use std::alloc::{AllocError, Global};
@@ -127,11 +133,19 @@ impl Exchange {
         server.micros().saturating_sub(began) > LATE
     }
 
-    // Whether it may be put aside: one before it took long, or it would wait.
-    fn may_be_aside<S: Serve>(&self, is_late: bool, server: &S) -> bool
-        ensures { IsTrue result → MayBeAside S.manner is_late (datagram self.now) }
+    // What came.
+    fn message(&self) -> &[u8]
+        ensures { result.now ≡ (datagram self.now).bytes }
     {
-        is_late || server.waits(&self.buffer[..self.length])
+        &self.buffer[..self.length]
+    }
+
+    // Whether it is put aside: one before it took long, or it would wait, or another loop is to serve it.
+    fn is_put_aside<S: Serve>(&self, is_late: bool, server: &mut S) -> bool
+        ensures kept { server.new ≡ server.old }
+        ensures may { IsTrue result → MayBePut S.manner is_late (datagram self.now) }
+    {
+        is_late || server.waits(self.message()) || server.is_long(self.message())
     }
 
     // Serves it, and answers whether that took long; or puts it aside, where it may be and there is memory for that.
@@ -144,7 +158,7 @@ impl Exchange {
         ensures { (bytes : List ℕ) × (put : List Datagram) × (dues self.new ≡ owed self.old.from bytes) × (datagrams aside.new.items ≡ datagrams aside.old.items ++ put)
             × IsMet S.manner (record { server = server.old; is_late = is_late }) (datagram self.old) bytes put (record { server = server.new; is_late = result }) }
     {
-        if self.may_be_aside(is_late, server) && self.put_aside(aside) {
+        if self.is_put_aside(is_late, server) && self.put_aside(aside) {
             return is_late;
         }
         self.serve_timed(server)
@@ -226,7 +240,7 @@ fn next_aside<S: Serve>(aside: &mut VecDeque<Exchange>, server: &S) -> Option<Ex
     ensures { MatchOption result ((aside.new.items ≡ aside.old.items) × AreStillAside S.manner false (datagrams aside.old.items)) (λ e. aside.old.items ≡ e ∷ aside.new.items) }
 {
     let first = aside.front()?;
-    if server.waits(&first.buffer[..first.length]) {
+    if server.waits(first.message()) {
         return None;
     }
     aside.pop_front()
@@ -242,6 +256,62 @@ fn take_up_all<P: Port, S: Serve>(aside: &mut VecDeque<Exchange>, port: &mut P, 
         if is_late {
             return;
         }
+    }
+}
+
+// Hands the first that is put aside over, where to serve it would take long and there is room, and answers whether it has.
+fn give_front<S: Serve>(aside: &mut VecDeque<Exchange>, server: &mut S, giver: &mut Giver) -> bool
+    ensures server { server.new ≡ server.old }
+    ensures given { IsTrue result → (e : Exchange) × (aside.old.items ≡ e ∷ aside.new.items) × S.manner.may_last (datagram e).bytes × (sent giver.new.producer ≡ sent giver.old.producer ++ Mailed e ∷ []) }
+    ensures kept { IsFalse result → (aside.new.items ≡ aside.old.items) × (sent giver.new.producer ≡ sent giver.old.producer) }
+{
+    let Some(first) = aside.front() else {
+        return false;
+    };
+    if !server.is_long(first.message()) || !giver.has_room() {
+        return false;
+    }
+    match aside.pop_front() {
+        Some(first) => {
+            giver.give(Handed::Mail(first));
+            true
+        }
+        None => unreachable!(),
+    }
+}
+
+// Hands those in front over, while there is room.
+fn give_all<S: Serve>(aside: &mut VecDeque<Exchange>, server: &mut S, giver: &mut Giver)
+    ensures server { server.new ≡ server.old }
+    ensures given { (ds : List Datagram) × AreMailed S.manner (datagrams aside.old.items) (given_by giver.old) ds (given_by giver.new) (datagrams aside.new.items) }
+{
+    while give_front(aside, server, giver) {}
+}
+
+/// What came of a try to take over.
+#[derive(Drop)]
+pub(crate) enum Taken {
+    /// There is nothing, or no memory for it now.
+    Nothing,
+    /// A datagram: it is put aside.
+    Mail,
+    Stream(Peer<TcpStream>),
+}
+
+// Takes over what comes next, where there is memory for it.
+fn take_next(aside: &mut VecDeque<Exchange>, taker: &mut Taker) -> Taken
+    ensures { TakesNext (datagrams aside.old.items) (taken_by taker.old) result (datagrams aside.new.items) (taken_by taker.new) }
+{
+    if aside.reserve(1).is_err() {
+        return Taken::Nothing;
+    }
+    match taker.take() {
+        None => Taken::Nothing,
+        Some(Handed::Stream(peer)) => Taken::Stream(peer),
+        Some(Handed::Mail(exchange)) => match aside.push_back(exchange) {
+            Ok(()) => Taken::Mail,
+            Err(_) => unreachable!(),
+        },
     }
 }
 
@@ -315,6 +385,23 @@ impl<P: Port + Drop> Datagrams<P> {
         take_up_all(&mut self.aside, &mut self.port, server);
     }
 
+    /// Hands those in front that are put aside over, where to serve them would take long, while there is room.
+    pub(crate) fn give<S: Serve>(&mut self, server: &mut S, giver: &mut Giver)
+        ensures server { server.new ≡ server.old }
+        ensures port { self.new.port ≡ self.old.port }
+        ensures given { (ds : List Datagram) × AreMailed S.manner self.old.aside (given_by giver.old) ds (given_by giver.new) self.new.aside }
+    {
+        give_all(&mut self.aside, server, giver);
+    }
+
+    /// Takes over what comes next.
+    pub(crate) fn take_next(&mut self, taker: &mut Taker) -> Taken
+        ensures port { self.new.port ≡ self.old.port }
+        ensures taken { TakesNext self.old.aside (taken_by taker.old) result self.new.aside (taken_by taker.new) }
+    {
+        take_next(&mut self.aside, taker)
+    }
+
     /// Whether any are put aside.
     pub fn has_aside(&self) -> bool
         ensures { IsTrue result ↔ (self.now.aside ≢ []) }
@@ -325,7 +412,7 @@ impl<P: Port + Drop> Datagrams<P> {
     /// Whether one is put aside that would wait no more.
     pub fn has_ready<S: Serve>(&self, server: &S) -> bool {
         match self.aside.front() {
-            Some(first) => !server.waits(&first.buffer[..first.length]),
+            Some(first) => !server.waits(first.message()),
             None => false,
         }
     }

@@ -7,6 +7,7 @@ mod connection;
 mod datagrams;
 mod exchange;
 mod fault;
+mod lane;
 mod peer;
 mod port;
 mod serve;

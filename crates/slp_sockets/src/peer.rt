@@ -1,5 +1,5 @@
 //! A stream of a loop. Nothing else reads it, or writes to it.
-ghost use Rattle.std.specs.Prelude.{◌≡◌, true, false, IsTrue, Result};
+ghost use Rattle.std.specs.Prelude.{◌≡◌, ◌⊎◌, true, false, IsTrue, Result};
 ghost use Rattle.slp_sockets.specs.Linking.{Link, has_message};
 ghost use Rattle.slp_sockets.specs.Sitting.{seat};
 ghost use Rattle.slp_sockets.specs.Streaming.{Advances, Goes};
@@ -39,14 +39,16 @@ fn end_of(read: Next, written: Next) -> Option<Next>
     }
 }
 
-// Whether the message in front is put aside: it can be served, and would wait.
-fn is_put_aside<S: Serve>(connection: &Connection, server: &S) -> bool
-    ensures { IsTrue result → (has_message connection.now ≡ true) × S.manner.may_wait connection.now.unserved }
+// Whether the message in front is put aside: it can be served, and would wait, or another loop is to serve it.
+fn is_put_aside<S: Serve>(connection: &Connection, server: &mut S) -> bool
+    ensures kept { server.new ≡ server.old }
+    ensures may { IsTrue result → (has_message connection.now ≡ true) × (S.manner.may_wait connection.now.unserved ⊎ S.manner.may_last connection.now.unserved) }
 {
-    connection.is_ready() && server.waits(connection.unserved())
+    connection.is_ready()
+        && (server.waits(connection.unserved()) || server.is_long(connection.unserved()))
 }
 
-// Reads and writes until the stream is blocked, and serves one message at most. One that would wait is left where it is, and nothing is read behind it. `More` where it is not blocked yet, or another message waits. What was told of the message is out
+// Reads and writes until the stream is blocked, and serves one message at most. One that would wait, or that another loop is to serve, is left where it is, and nothing is read behind it. `More` where it is not blocked yet, or another message waits. What was told of the message is out
 // before its reply is written.
 fn take_steps<T: Read + Write, S: Serve>(
     connection: &mut Connection,
@@ -62,7 +64,7 @@ fn take_steps<T: Read + Write, S: Serve>(
         if is_next & has_served {
             return Ok(Next::More);
         }
-        if is_next && is_put_aside(connection, server) {
+        if is_put_aside(connection, server) {
             return Ok(Next::Blocked);
         }
         has_served = is_next | has_served;
@@ -111,6 +113,21 @@ impl<T: Drop> Peer<T> {
         self.is_aside
     }
 
+    /// Whether its message in front was put aside, and is to be served by another loop.
+    pub fn is_long<S: Serve>(&self, server: &mut S) -> bool
+        ensures kept { server.new ≡ server.old }
+        ensures long { IsTrue result → (has_message self.now.connection ≡ true) × S.manner.may_last self.now.connection.unserved }
+    {
+        self.is_aside && self.connection.is_ready() && server.is_long(self.connection.unserved())
+    }
+
+    /// It comes to another loop, at a moment of that.
+    pub fn come(&mut self, now: u32)
+        ensures { seat self.new ≡ record { link = self.old.connection; moved = now } }
+    {
+        self.moved = now;
+    }
+
     /// When it moved last.
     pub fn moved(&self) -> u32
         ensures { result ≡ self.now.moved }
@@ -135,6 +152,20 @@ impl<T: Read + Write + Drop> Peer<T> {
 }
 
 impl<T: Source + Drop> Peer<T> {
+    /// Has it reported where it can be read or written.
+    pub fn wait(&mut self, registry: &Registry, key: usize) -> io::Result<()>
+        ensures { seat self.new ≡ seat self.old }
+    {
+        registry.register(&mut self.stream, Token(key), either())
+    }
+
+    /// Has it reported no more. Where that is refused, what is reported of it is passed over.
+    pub fn wait_no_more(&mut self, registry: &Registry)
+        ensures { seat self.new ≡ seat self.old }
+    {
+        let _ = registry.deregister(&mut self.stream);
+    }
+
     // Has it reported again where it can be read or written.
     fn wait_again(&mut self, registry: &Registry, key: usize) -> io::Result<()>
         ensures { seat self.new ≡ seat self.old }

@@ -6,7 +6,7 @@ use slp_text::NoMemory;
 
 /// What answers messages. Each implementation says by `manner` what one call may do.
 pub trait Serve {
-    ghost use Rattle.std.specs.Prelude.{IsTrue};
+    ghost use Rattle.std.specs.Prelude.{◌≡◌, IsTrue};
     ghost use Rattle.slp_sockets.specs.Serving.{Manner};
 
     ghost manner: { Manner Self };
@@ -19,6 +19,12 @@ pub trait Serve {
     /// Whether to serve a message may take long, so that it is timed. It decides how many are served in a turn, and nothing else.
     fn may_last(&self, message: &[u8]) -> bool
         ensures { IsTrue result → manner.may_last message.now };
+
+    /// Whether to serve a message takes so long that the loop beside is to do it, where there is one. It decides who serves it, and
+    /// nothing else.
+    fn is_long(&mut self, message: &[u8]) -> bool
+        ensures kept { self.new ≡ self.old }
+        ensures long { IsTrue result → manner.may_last message.now };
 
     /// The microseconds of a clock that never goes back, from some start on. It decides the same.
     fn micros(&self) -> u64;

@@ -1,15 +1,18 @@
-ghost use Rattle.std.specs.Prelude.{◌≡◌, ◌⊎◌, ◌≤◌, ◌<◌, ◌+◌, ◌↔◌, ℕ, [], false, Some, IfErr, IfOk, IsTrue, IsFalse};
+ghost use Rattle.std.specs.Prelude.{◌≡◌, ◌⊎◌, ◌≤◌, ◌<◌, ◌+◌, ◌↔◌, ℕ, List, [], true, false, Some, IfErr, IfOk, IsTrue, IsFalse};
 ghost use Rattle.slab.specs.Slab.{slab_len};
 ghost use Rattle.slp_sockets.specs.Holding.{HasNoOther, IsStillest, KeepsOthers, NoneSits, least_stay, longest_stay, moment_of};
 ghost use Rattle.slp_sockets.specs.Holding as holding;
-ghost use Rattle.slp_sockets.specs.Sitting.{seats};
-ghost use Rattle.slp_sockets.specs.Turning.{AdvancesAt, Admits, ComeOrGo, Resumes, ServesAt};
+ghost use Rattle.slp_sockets.specs.Handing.{AreGiven, Joins, given_by};
+ghost use Rattle.slp_sockets.specs.Linking.{has_message};
+ghost use Rattle.slp_sockets.specs.Sitting.{seat, seats};
+ghost use Rattle.slp_sockets.specs.Turning.{AdvancesAt, Admits, ComeOrGo, Keeps, Resumes, ServesAt};
 ghost use Rattle.slp_sockets.specs.Turning as turning;
 ghost use Rattle.slp_sockets.specs.declared.fault.LoopFault.TheVariants.{Io as Failing};
 
 use crate::connection::Next;
 use crate::fault::{LoopFault, is_socket_lost};
-use crate::peer::{Peer, either};
+use crate::lane::{Giver, give_streams};
+use crate::peer::Peer;
 use crate::serve::Serve;
 use addresses::Addr;
 use mio::net::{TcpListener, TcpStream};
@@ -35,7 +38,8 @@ const LEAST_STAY: u32 = 60;
 /// The streams of a loop, of which there are never more than the limit.
 pub struct Streams {
     alloc: Global,
-    listener: TcpListener,
+    // None where streams come from another loop alone.
+    listener: Option<TcpListener>,
     peers: Slab<Peer<TcpStream>>,
     limit: usize,
     // Whether a connection may wait that no event will report.
@@ -76,7 +80,11 @@ impl Model for Streams {
 }
 
 impl Streams {
-    pub fn new(alloc: Global, listener: TcpListener, limit: usize) -> Result<Streams, AllocError>
+    pub fn new(
+        alloc: Global,
+        listener: Option<TcpListener>,
+        limit: usize,
+    ) -> Result<Streams, AllocError>
         ensures limit { IfOk result (λ s. s.limit ≡ limit) }
         ensures held { IfOk result (λ s. s.held ≡ 0) }
     {
@@ -141,8 +149,37 @@ impl Streams {
         self.peers.len() < self.limit || self.give_place()
     }
 
+    /// The most streams that there may be.
+    pub fn limit(&self) -> usize
+        ensures { result ≡ self.now.limit }
+    {
+        self.limit
+    }
+
+    /// The address of the listener, where there is one.
     pub fn address(&self) -> io::Result<SocketAddr> {
-        self.listener.local_addr()
+        match &self.listener {
+            Some(listener) => listener.local_addr(),
+            None => Err(io::Error::from(ErrorKind::AddrNotAvailable)),
+        }
+    }
+
+    // The next stream that waits.
+    fn next(&self) -> io::Result<(TcpStream, SocketAddr)> {
+        match &self.listener {
+            Some(listener) => listener.accept(),
+            None => Err(io::Error::from(ErrorKind::WouldBlock)),
+        }
+    }
+
+    // Has streams that wait still reported again.
+    fn wait_again(&mut self, registry: &Registry) -> io::Result<()>
+        ensures { self.new ≡ self.old }
+    {
+        match &mut self.listener {
+            Some(listener) => registry.reregister(listener, LISTENER, Interest::READABLE),
+            None => Ok(()),
+        }
     }
 
     pub fn len(&self) -> usize
@@ -152,8 +189,25 @@ impl Streams {
         self.peers.len()
     }
 
-    // Keeps a new stream, or closes it unread where no place is to be had or it cannot be waited for.
-    fn admit(&mut self, registry: &Registry, mut stream: TcpStream, from: SocketAddr)
+    // Keeps a stream that comes, or closes it where no place is to be had or it cannot be waited for.
+    fn keep(&mut self, registry: &Registry, mut peer: Peer<TcpStream>)
+        requires now { peer.moved ≡ self.old.moment }
+        ensures limit { self.new.limit ≡ self.old.limit }
+        ensures moment { self.new.moment ≡ self.old.moment }
+        ensures keeps { Keeps (seat peer) self.old.seats self.new.seats }
+        ensures kept { KeepsOthers least_stay self.old.moment self.old.seats self.new.seats }
+    {
+        if !self.has_place() {
+            return;
+        }
+        if peer.wait(registry, self.peers.vacant_key()).is_err() {
+            return;
+        }
+        self.peers.insert_reserved(peer);
+    }
+
+    // Keeps a new stream, or closes it unread.
+    fn admit(&mut self, registry: &Registry, stream: TcpStream, from: SocketAddr)
         ensures limit { self.new.limit ≡ self.old.limit }
         ensures moment { self.new.moment ≡ self.old.moment }
         ensures admits { Admits from self.old.moment self.old.seats self.new.seats }
@@ -162,18 +216,11 @@ impl Streams {
         let SocketAddr::V4(v4) = from else {
             return;
         };
-        if !self.has_place() {
-            return;
-        }
-        let token = Token(self.peers.vacant_key());
-        if registry.register(&mut stream, token, either()).is_err() {
-            return;
-        }
         // Without it a short reply may wait; where it is refused, it is only slower.
         let _ = stream.set_nodelay(true);
         let asker = Addr(v4.ip().to_bits());
         let peer = Peer::new(self.alloc, stream, asker, self.moment);
-        self.peers.insert_reserved(peer);
+        self.keep(registry, peer);
     }
 
     /// Accepts what waits. `Io` where the listener itself failed.
@@ -186,7 +233,7 @@ impl Streams {
     {
         self.accepts_again = false;
         for _ in 0..ACCEPTED_AT_ONCE {
-            match self.listener.accept() {
+            match self.next() {
                 Ok((stream, from)) => self.admit(registry, stream, from),
                 Err(e) => match e.kind() {
                     ErrorKind::WouldBlock => return Ok(()),
@@ -202,7 +249,7 @@ impl Streams {
                 },
             }
         }
-        registry.reregister(&mut self.listener, LISTENER, Interest::READABLE)?;
+        self.wait_again(registry)?;
         Ok(())
     }
 
@@ -239,6 +286,32 @@ impl Streams {
         }
         drop(self.peers.try_remove(key));
         lack_of(told)
+    }
+
+    /// Goes on with a stream that was handed over, or closes it where no place is to be had or it cannot be waited for.
+    pub fn take_in(&mut self, registry: &Registry, mut peer: Peer<TcpStream>)
+        requires front { has_message peer.connection ≡ true }
+        ensures limit { self.new.limit ≡ self.old.limit }
+        ensures moment { self.new.moment ≡ self.old.moment }
+        ensures joins { Joins self.old.seats self.new.seats }
+        ensures kept { KeepsOthers least_stay self.old.moment self.old.seats self.new.seats }
+    {
+        peer.come(self.moment);
+        self.keep(registry, peer);
+    }
+
+    /// Hands those streams over whose message in front another loop is to serve, while there is room.
+    pub fn give<S: Serve>(&mut self, registry: &Registry, server: &mut S, giver: &mut Giver)
+        ensures server { server.new ≡ server.old }
+        ensures limit { self.new.limit ≡ self.old.limit }
+        ensures moment { self.new.moment ≡ self.old.moment }
+        ensures only { HasNoOther self.old.seats self.new.seats }
+        ensures given { (keys : List ℕ) × AreGiven S.manner (record { seats = self.old.seats; gifts = given_by giver.old }) keys (record { seats = self.new.seats; gifts = given_by giver.new }) }
+    {
+        if !self.has_aside {
+            return;
+        }
+        give_streams(&mut self.peers, registry, server, giver);
     }
 
     /// Whether a message of a stream was put aside since they were last resumed.

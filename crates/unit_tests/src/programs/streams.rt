@@ -37,6 +37,10 @@ impl<'a> Serve for Replying<'a> {
         false
     }
 
+    fn is_long(&mut self, _message: &[u8]) -> bool {
+        false
+    }
+
     fn micros(&self) -> u64 {
         0
     }
