@@ -39,7 +39,7 @@ const TOGETHER: usize = 16;
 /// How many microseconds a datagram may take, for which those that came with it do not wait: longer, and they have their turn after the streams.
 const LATE: u64 = 1_000;
 
-/// Where more datagrams are put aside, no more are received.
+/// Where more datagrams are put aside, no more are received, or taken over.
 const MOST_ASIDE: usize = 48;
 
 // What a socket has after a failed receive, unless the socket itself is of no use any more.
@@ -298,11 +298,11 @@ pub(crate) enum Taken {
     Stream(Peer<TcpStream>),
 }
 
-// Takes over what comes next, where there is memory for it.
+// Takes over what comes next, where there is memory for it and not too much is put aside.
 fn take_next(aside: &mut VecDeque<Exchange>, taker: &mut Taker) -> Taken
     ensures { TakesNext (datagrams aside.old.items) (taken_by taker.old) result (datagrams aside.new.items) (taken_by taker.new) }
 {
-    if aside.reserve(1).is_err() {
+    if aside.len() > MOST_ASIDE || aside.reserve(1).is_err() {
         return Taken::Nothing;
     }
     match taker.take() {
