@@ -1,14 +1,13 @@
 ghost use Rattle.std.specs.Prelude.{◌≡◌, ◌≢◌, ◌≤◌, ◌<◌, ◌↔◌, ◌++◌, ℕ, List, [], length, slice_get, Some, Err, IfOk, IfErr, IsTrue};
-ghost use Rattle.slp_sockets.specs.Handing.{HandsOver, Joins, TakesOver, given_in, taken_by, taken_in};
-ghost use Rattle.slp_sockets.specs.Holding.{HasNoOther, NoneSits, longest_stay};
+ghost use Rattle.slp_sockets.specs.Holding.{NoneSits, longest_stay};
 ghost use Rattle.slp_sockets.specs.Readiness.{tokens_of};
 ghost use Rattle.slp_sockets.specs.Turning.{AreServedAt, IsBegun, IsServedAt, IsTurn, SettlesFirst, SettlesLast, tended};
 ghost use Rattle.slp_sockets.specs.declared.fault.LoopFault.TheVariants.{Io as Failing};
 
 use crate::clock::{Moments, SteadyClock};
-use crate::datagrams::{DATAGRAMS, Datagrams, Taken};
+use crate::datagrams::{DATAGRAMS, Datagrams};
 use crate::fault::LoopFault;
-use crate::lane::{Giver, ON_THE_WAY, Taker, lane_to};
+use crate::lane::{Giver, Taker, hand_over, lane_to, take_over};
 use crate::serve::Serve;
 use crate::streams::{LISTENER, Streams};
 use addresses::Addr;
@@ -82,61 +81,6 @@ fn is_lost(told: Result<(), LoopFault>) -> bool
     ensures { IsTrue result ↔ (told ≡ Err Failing) }
 {
     told == Err(LoopFault::Io)
-}
-
-// Hands over what the loop beside is to serve, where there is one.
-fn hand_over<S: Serve>(
-    registry: &Registry,
-    gives: &mut Option<Giver>,
-    datagrams: &mut Datagrams<UdpSocket>,
-    streams: &mut Streams,
-    server: &mut S,
-)
-    ensures server { server.new ≡ server.old }
-    ensures limit { streams.new.limit ≡ streams.old.limit }
-    ensures only { HasNoOther streams.old.seats streams.new.seats }
-    ensures given { HandsOver S.manner datagrams.old.aside (record { seats = streams.old.seats; gifts = given_in gives.old }) datagrams.new.aside (record { seats = streams.new.seats; gifts = given_in gives.new }) }
-{
-    if let Some(giver) = gives {
-        datagrams.give(server, giver);
-        streams.give(registry, server, giver);
-    }
-}
-
-// Takes over what the loop beside handed over: datagrams are put aside, and streams go on here.
-fn take_over(
-    registry: &Registry,
-    takes: &mut Option<Taker>,
-    datagrams: &mut Datagrams<UdpSocket>,
-    streams: &mut Streams,
-)
-    ensures limit { streams.new.limit ≡ streams.old.limit }
-    ensures joins { Joins streams.old.seats streams.new.seats }
-    ensures taken { TakesOver datagrams.old.aside (taken_in takes.old) datagrams.new.aside (taken_in takes.new) }
-{
-    if let Some(taker) = takes {
-        take_all(registry, taker, datagrams, streams);
-    }
-}
-
-// Takes over all that was handed over.
-fn take_all(
-    registry: &Registry,
-    taker: &mut Taker,
-    datagrams: &mut Datagrams<UdpSocket>,
-    streams: &mut Streams,
-)
-    ensures limit { streams.new.limit ≡ streams.old.limit }
-    ensures joins { Joins streams.old.seats streams.new.seats }
-    ensures taken { TakesOver datagrams.old.aside (taken_by taker.old) datagrams.new.aside (taken_by taker.new) }
-{
-    for _ in 0..ON_THE_WAY {
-        match datagrams.take_next(taker) {
-            Taken::Nothing => return,
-            Taken::Mail => {}
-            Taken::Stream(peer) => streams.take_in(registry, peer),
-        }
-    }
 }
 
 /// Serves the datagrams and the streams of one address.

@@ -3,16 +3,18 @@ ghost use Rattle.std.specs.Prelude.{◌≡◌, ◌⊎◌, ◌≤◌, ◌<◌, �
 ghost use Rattle.rtrb.specs.Ring.{known_free, received, sent};
 ghost use Rattle.slab.specs.Slab.{slab_len};
 ghost use Rattle.slp_sockets.specs.Fronts.{BringsMessage};
-ghost use Rattle.slp_sockets.specs.Handing.{AreGiven, IsGivenAt, given_by};
+ghost use Rattle.slp_sockets.specs.Handing.{AreGiven, HandsOver, IsGivenAt, Joins, TakesOver, given_by, given_in, taken_by, taken_in};
 ghost use Rattle.slp_sockets.specs.Holding.{Seat, HasNoOther, seat_at};
 ghost use Rattle.slp_sockets.specs.Linking.{has_message};
 ghost use Rattle.slp_sockets.specs.Sitting.{seats};
 
+use crate::datagrams::{Datagrams, Taken};
 use crate::exchange::Exchange;
 use crate::fault::LoopFault;
 use crate::peer::Peer;
 use crate::serve::Serve;
-use mio::net::TcpStream;
+use crate::streams::Streams;
+use mio::net::{TcpStream, UdpSocket};
 use mio::{Registry, Token, Waker};
 use rtrb::{Consumer, Producer, Protocol, RingBuffer};
 use slab::Slab;
@@ -22,7 +24,7 @@ use std::alloc::Global;
 const LANE: Token = Token(0xffff_ffff_ffff_fffd);
 
 /// How much may be on the way.
-pub(crate) const ON_THE_WAY: usize = 64;
+const ON_THE_WAY: usize = 64;
 
 /// What is handed over.
 #[derive(Drop)]
@@ -151,5 +153,60 @@ pub(crate) fn give_streams<S: Serve>(
 {
     for key in 0..peers.capacity() {
         give_at(peers, registry, key, server, giver);
+    }
+}
+
+/// Hands over what the loop beside is to serve, where there is one.
+pub(crate) fn hand_over<S: Serve>(
+    registry: &Registry,
+    gives: &mut Option<Giver>,
+    datagrams: &mut Datagrams<UdpSocket>,
+    streams: &mut Streams,
+    server: &mut S,
+)
+    ensures server { server.new ≡ server.old }
+    ensures limit { streams.new.limit ≡ streams.old.limit }
+    ensures only { HasNoOther streams.old.seats streams.new.seats }
+    ensures given { HandsOver S.manner datagrams.old.aside (record { seats = streams.old.seats; gifts = given_in gives.old }) datagrams.new.aside (record { seats = streams.new.seats; gifts = given_in gives.new }) }
+{
+    if let Some(giver) = gives {
+        datagrams.give(server, giver);
+        streams.give(registry, server, giver);
+    }
+}
+
+/// Takes over what the loop beside handed over: datagrams are put aside, and streams go on here.
+pub(crate) fn take_over(
+    registry: &Registry,
+    takes: &mut Option<Taker>,
+    datagrams: &mut Datagrams<UdpSocket>,
+    streams: &mut Streams,
+)
+    ensures limit { streams.new.limit ≡ streams.old.limit }
+    ensures joins { Joins streams.old.seats streams.new.seats }
+    ensures taken { TakesOver datagrams.old.aside (taken_in takes.old) datagrams.new.aside (taken_in takes.new) }
+{
+    if let Some(taker) = takes {
+        take_all(registry, taker, datagrams, streams);
+    }
+}
+
+// Takes over all that was handed over.
+fn take_all(
+    registry: &Registry,
+    taker: &mut Taker,
+    datagrams: &mut Datagrams<UdpSocket>,
+    streams: &mut Streams,
+)
+    ensures limit { streams.new.limit ≡ streams.old.limit }
+    ensures joins { Joins streams.old.seats streams.new.seats }
+    ensures taken { TakesOver datagrams.old.aside (taken_by taker.old) datagrams.new.aside (taken_by taker.new) }
+{
+    for _ in 0..ON_THE_WAY {
+        match datagrams.take_next(taker) {
+            Taken::Nothing => return,
+            Taken::Mail => {}
+            Taken::Stream(peer) => streams.take_in(registry, peer),
+        }
     }
 }

@@ -1,6 +1,6 @@
 use Rattle.std.proofs.Common.{[], refl}
 use Rattle.slp_sockets.specs.Handing.{given_in}
-use Rattle.slp_sockets.proofs.agent_loop.hand_over.Goals as goal
+use Rattle.slp_sockets.proofs.lane.hand_over.Goals as goal
 
 pub returns-in_default-clause-given : goal.returns-in_default-clause-given
 returns-in_default-clause-given g c = record {

@@ -3,8 +3,8 @@ use Rattle.std.proofs.lemmas.List.{append-nil}
 use Rattle.slp_sockets.specs.Handing.{Letter, Talker, taken_by}
 use Rattle.slp_sockets.specs.Sitting.{seat}
 use Rattle.slp_sockets.proofs.Handing.{join_again, taken_more}
-use Rattle.slp_sockets.proofs.agent_loop.take_all.Goals as goal
-use Rattle.slp_sockets.proofs.agent_loop.take_all.Goals.{in-Mail, in-Stream}
+use Rattle.slp_sockets.proofs.lane.take_all.Goals as goal
+use Rattle.slp_sockets.proofs.lane.take_all.Goals.{in-Mail, in-Stream}
 
 pub loop-preserved : goal.loop-preserved
 loop-preserved c =

@@ -1,6 +1,6 @@
 use Rattle.std.proofs.Common.{◌≡◌}
 use Rattle.slp_sockets.specs.Handing.{Joins, TakesOver, taken_by}
-use Rattle.slp_sockets.proofs.agent_loop.take_all.Given as goal
+use Rattle.slp_sockets.proofs.lane.take_all.Given as goal
 
 abbrev pub invariant-loop : goal.invariant-loop
 invariant-loop l = record {
