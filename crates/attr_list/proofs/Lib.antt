@@ -9,12 +9,14 @@ pub mod KeptAttributes
 pub mod ListedTexts
 pub mod Meaning
 pub mod Merged
+pub mod OrderedValues
 pub mod PrintedAttributes
 pub mod ReadElements
 pub mod ReadLists
 pub mod ReadPieces
 pub mod ReadTags
 pub mod ReadValues
+pub mod SearchedValues
 pub mod SelectedElements
 pub mod SortedByKey
 pub mod SpelledElements

@@ -2,7 +2,7 @@
 use Rattle.std.specs.Prelude.{◌≡◌, ℕ, ◌++◌, List, [], map, Option, Some, None, unwrap_or, vec_items, if◌then◌else◌}
 use Rattle.std.specs.BTreeMap as tree
 use Rattle.std.specs.BTreeMap.{BTreeMap}
-use Rattle.std.specs.List.{list_any}
+use Rattle.std.specs.List.{list_any, AllByRecursion}
 use Rattle.std.specs.Option.{option_map}
 use Rattle.std.specs.declared.vec.Vec.{Vec}
 use Rattle.slp_text.specs.Keys.{key_of}
@@ -10,6 +10,8 @@ use Rattle.slp_text.specs.Words.{bytes_cmp, bytes_eq}
 use Rattle.attr_values.specs.declared.value.Value.{Value}
 use Rattle.attr_values.specs.declared.value.Value.TheVariants as value
 use Rattle.attr_list.specs.Elements.{Element}
+use Rattle.attr_list.specs.Orders.{value_at}
+use Rattle.attr_list.specs.declared.order.Ranked.{Ranked}
 use Rattle.attr_list.specs.Lists.{distinct_values, held_of, values_named}
 use Rattle.attr_list.specs.declared.distinct.Identity.{Identity}
 use Rattle.attr_list.specs.declared.distinct.Identity.TheVariants as identity
@@ -31,6 +33,10 @@ identity_value (identity.Text t) = value.Text t
 -- the identity says of which values this one is the same
 abbrev pub IsIdentity : Identity → Value → Type 0
 IsIdentity i v = identity_value i ≡ common_value v
+
+-- each is of the value at its place
+abbrev pub AreRanked : List Value → List Ranked → Type 0
+AreRanked vs = AllByRecursion (λ r. IsIdentity r.identity (value_at vs r.place))
 
 module _ {A : Type 0} where
   -- the values that were gathered of a tag, if it was named

@@ -4,6 +4,7 @@ pub mod Gathering
 pub mod Lists
 pub mod Maps
 pub mod Merging
+pub mod Orders
 pub mod Pieces
 pub mod Reading
 pub mod Stored

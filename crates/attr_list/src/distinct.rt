@@ -9,7 +9,7 @@ use std::collections::BTreeSet;
 
 // What values that are the same have in common: their kind and what they are, of a text its key.
 #[derive(PartialEq, Eq, PartialOrd, Ord, Drop)]
-enum Identity {
+pub enum Identity {
     Bool(bool),
     Int(i32),
     Opaque(Vec<u8>),
@@ -17,7 +17,7 @@ enum Identity {
 }
 
 // What a value has in common with those that are the same.
-fn identity_of(alloc: Global, value: &Value) -> Result<Identity, NoMemory>
+pub fn identity_of(alloc: Global, value: &Value) -> Result<Identity, NoMemory>
     ensures { IfOk result (λ i. IsIdentity i value.now) }
 {
     match value {

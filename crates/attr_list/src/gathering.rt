@@ -12,8 +12,9 @@ use crate::attrs::{Attribute, Attrs};
 use crate::distinct::distinct;
 use crate::elements::Element;
 use crate::held::Held;
+use crate::values::Values;
 use attr_values::Value;
-use slp_text::{Key, NoMemory, Row};
+use slp_text::{Key, NoMemory};
 use std::alloc::Global;
 use std::collections::BTreeMap;
 
@@ -51,7 +52,7 @@ fn held_of(alloc: Global, values: Vec<Value>) -> Result<Held, NoMemory>
         return Ok(Held::Keyword);
     }
     let kept = distinct(alloc, values)?;
-    Ok(Held::Values(Row::wrap(kept)))
+    Ok(Held::Values(Values::of(alloc, kept)?))
 }
 
 // What each tag holds, in key order.

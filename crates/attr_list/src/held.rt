@@ -1,14 +1,15 @@
 ghost use Rattle.std.specs.Prelude.{◌≡◌, IfOk};
 ghost use Rattle.attr_list.specs.Lists.{values_in};
 
+use crate::values::Values;
 use attr_values::Value;
-use slp_text::{NoMemory, Row};
+use slp_text::NoMemory;
 use std::alloc::Global;
 
 /// What a tag holds: nothing but that it is there, or one value at least.
 pub enum Held {
     Keyword,
-    Values(Row<Value>),
+    Values(Values),
 }
 
 impl Drop for Held {
@@ -21,17 +22,6 @@ impl Drop for Held {
     }
 }
 
-// Equal values, in the same order.
-pub fn copies(alloc: Global, values: &[Value]) -> Result<Vec<Value>, NoMemory>
-    ensures { IfOk result (λ copied. copied.items ≡ values.now) }
-{
-    let mut copied = Vec::with_capacity(alloc, values.len())?;
-    for value in values {
-        copied.push(value.copy(alloc)?)?;
-    }
-    Ok(copied)
-}
-
 impl Held {
     /// The same held.
     pub fn copy(&self, alloc: Global) -> Result<Held, NoMemory>
@@ -40,8 +30,8 @@ impl Held {
         match self {
             Held::Keyword => Ok(Held::Keyword),
             Held::Values(values) => {
-                let copied = copies(alloc, values.as_slice())?;
-                Ok(Held::Values(Row::wrap(copied)))
+                let copied = values.copy(alloc)?;
+                Ok(Held::Values(copied))
             }
         }
     }

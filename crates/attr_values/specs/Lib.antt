@@ -1,4 +1,5 @@
 pub mod Kinds
+pub mod Ranks
 pub mod Reading
 pub mod Rests
 pub mod Values

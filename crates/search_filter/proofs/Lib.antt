@@ -1,5 +1,6 @@
 pub mod Connecting
 pub mod Faults
+pub mod FoundValues
 pub mod Negations
 pub mod ParsedFilters
 pub mod ParsedItems

@@ -8,7 +8,7 @@ ghost use Rattle.search_filter.specs.Looks.{IsLast};
 ghost use Rattle.search_filter.specs.Conditions.{is_met, is_missed, item_holds, negated_item_holds};
 
 use crate::looks::{Keeps, Look, held_at};
-use attr_list::{Attrs, Held, Value};
+use attr_list::{Attrs, Held, Value, Values};
 use attr_operands::Operand;
 use slp_text::Key;
 use text_patterns::Pattern;
@@ -65,21 +65,43 @@ impl Condition {
         }
     }
 
-    // Whether some value meets the condition.
-    fn meets_some(&self, values: &[Value]) -> bool
+    // Whether some value meets the condition. Of many, those that are equal, or lie on one side, are found by
+    // their order.
+    #[inline(never)]
+    fn meets_some(&self, values: &Values) -> bool
         ensures { result ≡ list_any (spec.meets self.now) values.now }
     {
-        values.iter().any(|value| self.meets(value))
+        match self {
+            Condition::Equal(operand) => values.has_one(&|value: &Value| operand.stand_of(value)),
+            Condition::AtLeast(operand) => {
+                values.has_one(&|value: &Value| operand.stand_at_least(value))
+            }
+            Condition::AtMost(operand) => {
+                values.has_one(&|value: &Value| operand.stand_at_most(value))
+            }
+            _ => values.as_slice().iter().any(|value| self.meets(value)),
+        }
     }
 
     // Whether some value does not.
-    fn misses_some(&self, values: &[Value]) -> bool
+    #[inline(never)]
+    fn misses_some(&self, values: &Values) -> bool
         ensures { result ≡ list_any (λ v. not (spec.meets self.now v)) values.now }
     {
-        values.iter().any(|value| !self.meets(value))
+        match self {
+            Condition::Equal(operand) => values.has_other(&|value: &Value| operand.stand_of(value)),
+            Condition::AtLeast(operand) => {
+                values.has_other(&|value: &Value| operand.stand_at_least(value))
+            }
+            Condition::AtMost(operand) => {
+                values.has_other(&|value: &Value| operand.stand_at_most(value))
+            }
+            _ => values.as_slice().iter().any(|value| !self.meets(value)),
+        }
     }
 
     // Whether what a tag holds, if it is there, meets the condition, or its negation.
+    #[inline(always)]
     fn holds(&self, held: Option<&Held>, positive: bool) -> bool
         ensures { result ≡ (if positive then is_met self.now (option_copied held.entry) else is_missed self.now (option_copied held.entry)) }
     {
@@ -89,9 +111,9 @@ impl Condition {
             (_, Some(Held::Keyword)) => !positive,
             (_, Some(Held::Values(values))) => {
                 if positive {
-                    self.meets_some(values.as_slice())
+                    self.meets_some(values)
                 } else {
-                    self.misses_some(values.as_slice())
+                    self.misses_some(values)
                 }
             }
         }

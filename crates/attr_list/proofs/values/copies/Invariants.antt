@@ -1,6 +1,6 @@
 use Rattle.std.proofs.Common.{◌≡◌}
 use Rattle.std.specs.Prelude.{take}
-use Rattle.attr_list.proofs.held.copies.Given as goal
+use Rattle.attr_list.proofs.values.copies.Given as goal
 
 -- what was copied so far
 abbrev pub invariant-loop-value : goal.invariant-loop-value
