@@ -2,3 +2,4 @@ pub mod Abouts
 pub mod DecidingRules
 pub mod Owners
 pub mod Parts
+pub mod ShownKinds

@@ -96,6 +96,15 @@ is_owners action r = not (action_eq r.action action) || r.owner
 abbrev pub is_without_owners : SiteRules → Bool
 is_without_owners rules = list_all (λ r. not r.owner) (rules_in rules)
 
+-- some type is covered by both; no type named is every type
+abbrev pub overlaps : Option (List ℕ) → List ℕ → Bool
+overlaps None kind = true
+overlaps (Some named) kind = covers named kind || covers kind named
+
+-- the rule may show something to an asker, of the types that one covers, in a scope
+abbrev pub may_show : ℕ → List ℕ → List ℕ → Rule → Bool
+may_show asker kind scope r = r.allow && (action_eq r.action See && (overlaps r.kind kind && (allows_scope r.scopes scope && list_any (λ p. holds p asker) r.from)))
+
 -- ---- what is hidden
 
 -- A hide table fits what is asked in a scope, whatever is done; one that spares owners does not fit what the asker registered.

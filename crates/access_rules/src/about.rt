@@ -1,11 +1,13 @@
 //! What of the rules and hide tables is about one asker.
 ghost use Rattle.std.specs.Prelude.{◌≡◌, ℕ, List, length, nat_eq};
-ghost use Rattle.access_rules.specs.Deciding.{deciding, deed_in, hides_in, is_hidden, is_hidden_from, number, part_in, IsPart, SeeAlike};
+ghost use Rattle.std.specs.List.{list_any};
+ghost use Rattle.access_rules.specs.Deciding.{deciding, deed_in, hides_in, is_hidden, is_hidden_from, may_show, number, part_in, rules_in, IsPart, SeeAlike};
 
 use crate::hide::{FittingHides, Hide, fitting, some_hides};
 use crate::rule::{Action, Deed, Rule, is_from};
 use crate::rules::{Rules, first_fitting};
 use addresses::Addr;
+use service_url::ServiceType;
 use slp_text::Key;
 
 // What names the askers that it is about.
@@ -105,6 +107,16 @@ impl<'a> RulesAbout<'a> {
             Some((_, rule)) => rule.allow,
             None => false,
         }
+    }
+
+    /// Whether some rule may show something to an asker, of the types that one covers, in a scope. Where none may, all of these are denied
+    /// there. Takes no memory.
+    pub fn may_show(&self, asker: Addr, kind: &ServiceType, scope: &Key) -> bool
+        ensures { result ≡ list_any (may_show asker kind.now scope.now) (rules_in (part_in self.now)) }
+    {
+        self.rules
+            .iter()
+            .any(|rule| rule.may_show(asker, kind, scope))
     }
 
     /// The hide tables that fit what is asked in a scope, if there are any: each is asked once, up to the first that fits. Takes no memory.

@@ -1,8 +1,10 @@
 //! What holds of every list of rules. The functions do nothing: their contracts are the laws.
 ghost use Rattle.std.specs.Prelude.{◌≡◌, ◌≢◌, ◌<◌, ◌&&◌, ℕ, true, false, List, slice_get, Some, None};
 ghost use Rattle.std.specs.List.{list_all, list_any};
-ghost use Rattle.access_rules.specs.Deciding.{Deed, SiteRules, deciding, deed, fits, is_own, is_owners, is_without_owners, rules_in};
+ghost use Rattle.access_rules.specs.Deciding.{Deed, SiteRules, deciding, deed, fits, is_own, is_owners, is_without_owners, may_show, rules_in};
 ghost use Rattle.access_rules.specs.declared.rule.Action.{Action};
+ghost use Rattle.access_rules.specs.declared.rule.Action.TheVariants.{See};
+ghost use Rattle.service_url.specs.Types.{covers};
 ghost use Rattle.access_rules.specs.declared.rule.Rule.{Rule};
 
 /// The rule that decides fits, its word is the verdict, and no rule before it fits.
@@ -18,6 +20,12 @@ pub fn what_no_rule_allows_is_denied()
         → list_any (λ r. fits d scope r && r.allow) (rules_in rules) ≡ false → (deciding rules d scope).allow ≡ false }
     ensures by_default { (rules : SiteRules) (d : Deed) (scope : List ℕ)
         → list_any (fits d scope) (rules_in rules) ≡ false → deciding rules d scope ≡ record { allow = false; rule = None } }
+{}
+
+/// What no rule may show of the types that one covers is denied, of each of these.
+pub fn what_no_rule_may_show_is_denied()
+    ensures { (rules : SiteRules) (d : Deed) (kind scope : List ℕ) → d.action ≡ See → covers kind d.kind ≡ true
+        → list_any (may_show d.asker kind scope) (rules_in rules) ≡ false → (deciding rules d scope).allow ≡ false }
 {}
 
 /// A rule never decides that stands after one which fits whatever it fits.

@@ -94,7 +94,28 @@ pub fn is_in_scope(named: &Option<ScopeList>, scope: &Key) -> bool
     }
 }
 
+// Whether some type is covered by one that is named, and by another. `None` is every type.
+fn overlaps(named: &Option<ServiceType>, kind: &ServiceType) -> bool
+    ensures { result ≡ spec.overlaps named.now kind.now }
+{
+    match named {
+        None => true,
+        Some(named) => named.covers(kind) || kind.covers(named),
+    }
+}
+
 impl Rule {
+    /// Whether the rule may show something to an asker, of the types that one covers, in a scope. Takes no memory.
+    pub(crate) fn may_show(&self, asker: Addr, kind: &ServiceType, scope: &Key) -> bool
+        ensures { result ≡ spec.may_show asker kind.now scope.now self.now }
+    {
+        self.allow
+            && is_same(self.action, Action::See)
+            && overlaps(&self.kind, kind)
+            && is_in_scope(&self.scopes, scope)
+            && is_from(&self.from, asker)
+    }
+
     /// Whether the rule is about a deed in a scope.
     #[inline(always)]
     pub(crate) fn fits(&self, deed: &Deed<'_>, scope: &Key) -> bool

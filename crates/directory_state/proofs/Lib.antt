@@ -5,6 +5,7 @@ pub mod AskedEvents
 pub mod AskedPlaces
 pub mod Conforming
 pub mod Cuts
+pub mod DeniedKinds
 pub mod EachKind
 pub mod EventContents
 pub mod Folds

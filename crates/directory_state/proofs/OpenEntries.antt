@@ -149,7 +149,7 @@ found_all (x ∷ es) d =
     es (found_all es d.1))
 
 module _ (p : Entry → Bool) (live : Entries) (es : List Entry) (l : IsListing p live es) where
-  listed-held : (e : Entry) → Contains es e → (fin.get live (pair_of e) ≡ Some e) × (p e ≡ true)
+  pub listed-held : (e : Entry) → Contains es e → (fin.get live (pair_of e) ≡ Some e) × (p e ≡ true)
   listed-held e has =
       if_kept-some p (fin.get live (pair_of e)) e (sym (l.each (pair_of e)) ∙ All-contains (λ x. find (is_of (pair_of x)) es ≡ Some x) es e (found_all es l.once) has)
 

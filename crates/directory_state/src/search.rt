@@ -45,6 +45,9 @@ pub struct FoundItems<'a> {
     pub is_cut: bool,
 }
 
+// Of more entries it is asked whether a rule may show one, before they are looked at.
+const MANY: usize = 1_024;
+
 /// What is asked, and by whom.
 #[derive(Drop)]
 pub struct Search<'q> {
@@ -256,6 +259,20 @@ impl<'a> Shortlist<'a> {
         }
     }
 
+    // Whether no entry of the type is seen, of many, whatever they are: no rule may show one. The fewer are looked at one by one.
+    fn sees_none<R: Registry>(registry: &R, question: &Search<'_>) -> bool
+        ensures none { IsTrue result → filter (is_seen question.now.viewer) (R.rest_of_kind registry.now (Some question.now.query.now.kind) 0) ≡ [] }
+        ensures whole { IsTrue result → IsListing (is_kind (Some question.now.query.now.kind)) (R.contents registry.now) (R.rest_of_kind registry.now (Some question.now.query.now.kind) 0) }
+    {
+        if registry.len() <= MANY {
+            return false;
+        }
+        if question.viewer.may_see(&question.query.kind) {
+            return false;
+        }
+        registry.count_of_kind(&question.query.kind) > MANY
+    }
+
     // Finds the entries that are live now, of a type that is covered, and open to the asker. Where nothing is found,
     // it says what was seen, by its language. Where it is bounded, it gives up where it would have to look at more entries than `looks`.
     // A function of its own in the machine's code as well, for each of both, so that its loop keeps its registers.
@@ -274,6 +291,9 @@ impl<'a> Shortlist<'a> {
         ensures listing { IfOk result (λ o. IfSome o (λ _. IsListing (is_kind (Some question.now.query.now.kind)) (R.contents registry.now) (R.rest_of_kind registry.now (Some question.now.query.now.kind) 0))) }
         ensures ended { IfOk result (λ o. IfNone o (looks < 2 ^ 64 - 1)) }
     {
+        if Shortlist::sees_none(registry, question) {
+            return Ok(Some(Spoken::Nothing));
+        }
         let mut spoken = Spoken::Nothing;
         let mut last = None;
         let mut from = 0;

@@ -1,6 +1,6 @@
 //! What is open to who asks.
 ghost use Rattle.std.specs.declared.cmp.Ordering.TheVariants.{Equal, Less};
-ghost use Rattle.std.specs.Prelude.{◌≡◌, ◌≤◌, ◌∷◌, [], ◌++◌, false, filter, length, map, IfOk, Contains, IfSome, IsTrue, MatchOption, None, Some};
+ghost use Rattle.std.specs.Prelude.{◌≡◌, ◌≤◌, ◌∷◌, [], ◌++◌, false, true, filter, length, map, IfOk, Contains, IfSome, IsTrue, MatchOption, None, Some};
 ghost use Rattle.std.specs.Arc.{arc_value};
 ghost use Rattle.access_rules.specs.Deciding.{deed, deed_in};
 ghost use Rattle.access_rules.specs.declared.rule.Action.TheVariants.{See};
@@ -174,6 +174,19 @@ impl Viewer<'_> {
         ensures { result ≡ is_open_in self.now.rules.now self.now.asker entry.now scope.now }
     {
         entry.scopes.has(scope) && self.about.allow(&self.seeing(entry), scope)
+    }
+
+    /// Whether some rule may show something of the types that one covers to the asker, in a scope that is asked for: else nothing of them is
+    /// seen, whatever the entries. Takes no memory.
+    pub fn may_see(&self, kind: &ServiceType) -> bool
+        ensures { result ≡ false → (e : spec.Entry) → is_kind (Some kind.now) e ≡ true → is_seen self.now e ≡ false }
+    {
+        for place in 0..self.asked.len() {
+            if self.about.may_show(self.asker, kind, self.asked.at(place)) {
+                return true;
+            }
+        }
+        false
     }
 
     // The place of the first scope in which an entry is open, of those that are asked for. Each of these is asked once, up to that one.

@@ -143,7 +143,8 @@ pub trait Registry {
 
     /// How many entries there are of a type that the given one covers.
     fn count_of_kind(&self, kind: &ServiceType) -> usize
-        ensures { result ≡ length (rest_of_kind self.now (Some kind.now) 0) };
+        ensures count { result ≡ length (rest_of_kind self.now (Some kind.now) 0) }
+        ensures whole { IsListing (is_kind (Some kind.now)) (contents self.now) (rest_of_kind self.now (Some kind.now) 0) };
 
     /// What `by_url` gives, lent as the share that the registry holds: another one of it may be kept.
     fn share_by_url(&self, url: &Url, from: usize) -> Option<(&Arc<Entry>, usize)>

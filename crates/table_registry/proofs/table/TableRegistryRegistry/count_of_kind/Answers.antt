@@ -5,8 +5,8 @@ use Rattle.table_registry.specs.Tables.{Table, by_for, order_of}
 use Rattle.table_registry.proofs.Ranges.{range_count}
 use Rattle.table_registry.proofs.table.TableRegistryRegistry.count_of_kind.Goals as goal
 
-pub returns : goal.returns
-returns c =
+pub returns-clause-count : goal.returns-clause-count
+returns-clause-count c =
     let t : Table = c.args.self.now in
     let k : List ℕ = c.args.kind.now in
     let way : By = by_for (Some k) in
