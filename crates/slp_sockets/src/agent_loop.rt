@@ -1,4 +1,5 @@
 ghost use Rattle.std.specs.Prelude.{◌≡◌, ◌≢◌, ◌≤◌, ◌<◌, ◌↔◌, ◌++◌, ℕ, List, [], length, slice_get, Some, Err, IfOk, IfErr, IsTrue};
+ghost use Rattle.slp_sockets.specs.Handing.{taken_in};
 ghost use Rattle.slp_sockets.specs.Holding.{NoneSits, longest_stay};
 ghost use Rattle.slp_sockets.specs.Readiness.{tokens_of};
 ghost use Rattle.slp_sockets.specs.Turning.{AreServedAt, IsBegun, IsServedAt, IsTurn, SettlesFirst, SettlesLast, tended};
@@ -7,7 +8,7 @@ ghost use Rattle.slp_sockets.specs.declared.fault.LoopFault.TheVariants.{Io as F
 use crate::clock::{Moments, SteadyClock};
 use crate::datagrams::{DATAGRAMS, Datagrams};
 use crate::fault::LoopFault;
-use crate::lane::{Giver, Taker, hand_over, lane_to, take_over};
+use crate::lane::{Giver, Taker, hand_over, has_next, lane_to, take_over};
 use crate::serve::Serve;
 use crate::streams::{LISTENER, Streams};
 use addresses::Addr;
@@ -74,6 +75,26 @@ fn serve_events<S: Serve>(
         }
     }
     outcome
+}
+
+// The longest wait of a turn, in milliseconds.
+fn longest_wait<S: Serve>(
+    datagrams: &Datagrams<UdpSocket>,
+    streams: &Streams,
+    takes: &mut Option<Taker>,
+    server: &S,
+) -> u64
+    ensures { taken_in takes.new ≡ taken_in takes.old }
+{
+    if datagrams.has_ready(server) {
+        0
+    } else if datagrams.has_aside() || streams.has_aside() {
+        SHORT_WAIT
+    } else if has_next(takes) {
+        0
+    } else {
+        LONGEST_WAIT
+    }
 }
 
 // Whether a turn tells that its sockets are of no use any more. Want of memory may pass.
@@ -406,17 +427,6 @@ impl<S: Serve + Drop> AgentLoop<S> {
         told
     }
 
-    // The longest wait of the next turn, in milliseconds.
-    fn wait(&self) -> u64 {
-        if self.datagrams.has_ready(&self.server) {
-            0
-        } else if self.datagrams.has_aside() || self.streams.has_aside() {
-            SHORT_WAIT
-        } else {
-            LONGEST_WAIT
-        }
-    }
-
     // Has the lines of the last turn out, waits, and serves what could not be served then.
     fn begin<M: Moments>(&mut self, steady: &mut M) -> Result<(), LoopFault>
         ensures limit { self.new.limit ≡ self.old.limit }
@@ -425,8 +435,14 @@ impl<S: Serve + Drop> AgentLoop<S> {
         ensures begun { IfOk result (λ _. IsBegun S.manner (tended self.old) (tended self.new)) }
     {
         self.server.settle();
-        let wait = Duration::from_millis(self.wait());
-        self.poll.poll(&mut self.events, Some(wait))?;
+        let wait = longest_wait(
+            &self.datagrams,
+            &self.streams,
+            &mut self.takes,
+            &self.server,
+        );
+        self.poll
+            .poll(&mut self.events, Some(Duration::from_millis(wait)))?;
         self.streams.go_on_to(steady.now());
         self.streams.accept_again(self.poll.registry())?;
         hand_over(

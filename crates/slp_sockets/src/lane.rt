@@ -51,12 +51,12 @@ pub(crate) struct Giver {
 }
 
 impl Giver {
-    /// Whether more may be handed over now.
+    /// Whether more may be handed over now: there is room, and a loop that takes it.
     pub fn has_room(&mut self) -> bool
         ensures room { IsTrue result → 0 < known_free self.new.producer }
         ensures kept { sent self.new.producer ≡ sent self.old.producer }
     {
-        !self.producer.is_full()
+        !self.producer.is_abandoned() && !self.producer.is_full()
     }
 
     /// Hands something over.
@@ -78,6 +78,13 @@ pub(crate) struct Taker {
 }
 
 impl Taker {
+    /// Whether something is there to be taken over.
+    pub fn has_next(&mut self) -> bool
+        ensures { received self.new.consumer ≡ received self.old.consumer }
+    {
+        !self.consumer.is_empty()
+    }
+
     /// Takes over what comes next.
     pub fn take(&mut self) -> Option<Handed>
         ensures { MatchOption result (received self.new.consumer ≡ received self.old.consumer) (λ h. (received self.new.consumer ≡ received self.old.consumer ++ h ∷ []) × BringsMessage h) }
@@ -172,6 +179,16 @@ pub(crate) fn hand_over<S: Serve>(
     if let Some(giver) = gives {
         datagrams.give(server, giver);
         streams.give(registry, server, giver);
+    }
+}
+
+/// Whether the loop beside handed something over that was not taken over yet.
+pub(crate) fn has_next(takes: &mut Option<Taker>) -> bool
+    ensures { taken_in takes.new ≡ taken_in takes.old }
+{
+    match takes {
+        Some(taker) => taker.has_next(),
+        None => false,
     }
 }
 
