@@ -360,6 +360,7 @@ impl ScopeList {
     }
 
     /// Whether it has a scope. Takes no memory.
+    #[inline(always)]
     pub fn has(&self, scope: &Key) -> bool
         ensures { result ≡ list_any (λ k. bytes_eq k scope.now) self.now }
     {
