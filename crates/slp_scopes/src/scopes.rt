@@ -364,7 +364,12 @@ impl ScopeList {
     pub fn has(&self, scope: &Key) -> bool
         ensures { result ≡ list_any (λ k. bytes_eq k scope.now) self.now }
     {
-        self.keys.iter().any(|k| *k == *scope)
+        for key in &self.keys {
+            if *key == *scope {
+                return true;
+            }
+        }
+        false
     }
 
     /// An equal list.
