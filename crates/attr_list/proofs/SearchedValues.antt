@@ -9,18 +9,15 @@ use Rattle.std.specs.declared.cmp.Ordering.{Ordering}
 use Rattle.std.specs.declared.cmp.Ordering.TheVariants.{Less, Equal, Greater}
 use Rattle.std.proofs.lemmas.Bool.{cases_lt}
 use Rattle.std.proofs.lemmas.List.{get_or-map, get_or_default, length-map}
-use Rattle.std.proofs.lemmas.List.Folds.{list_any_at}
+use Rattle.std.proofs.lemmas.List.Folds.{list_any_at, list_any_none}
 use Rattle.std.proofs.lemmas.List.Sorted.{list_any-IsPermutation, ranks_by, sorted_far}
 use Rattle.attr_values.proofs.Ranks.{value_order}
 use Rattle.attr_values.specs.Ranks.{value_cmp, Rises}
 use Rattle.attr_values.specs.declared.value.Value.{Value}
+use Rattle.attr_list.proofs.Combined.{equal}
 use Rattle.attr_list.specs.Orders.{value_at, IsOrder}
 
 module _ {A : Type 0} (p : A → Bool) where
-  none-any : (xs : List A) → ((i : ℕ) (d : A) → i < length xs → p (get_or xs i d) ≡ false) → list_any p xs ≡ false
-  none-any [] h = refl
-  none-any (x ∷ xs) h = ap (λ b. b || list_any p xs) (h 0 x (omega arith)) ∙ none-any xs (λ i d k. h (suc i) d (omega (arith, k)))
-
   any-map : {B : Type 0} (f : B → A) (xs : List B) → list_any (λ x. p (f x)) xs ≡ list_any p (map f xs)
   any-map f [] = refl
   any-map f (x ∷ xs) = ap (λ b. p (f x) || b) (any-map f xs)
@@ -29,11 +26,6 @@ between : (o : Ordering) → 1 ≤ ordering_index o → ordering_index o ≤ 1 �
 between Less a b = absurd (omega (arith, a))
 between Equal a b = refl
 between Greater a b = absurd (omega (arith, b))
-
-equal : (o : Ordering) → is_eq o ≡ true → o ≡ Equal
-equal Less h = absurd cc
-equal Equal h = refl
-equal Greater h = absurd cc
 
 module _ (vs : List Value) (places : List ℕ) (order : IsOrder vs places) (s : Value → Ordering) (rises : Rises s) where
   abbrev stand : ℕ → Ordering
@@ -59,7 +51,7 @@ module _ (vs : List Value) (places : List ℕ) (order : IsOrder vs places) (s : 
   has_one-is (Ok i) within is = sym (list_any_at (λ place. is_eq (stand place)) places i 0 within (ap is_eq (is 0))) ∙ any-there (λ v. is_eq (s v))
   has_one-is (Err i) within is =
       let parts = is rising in
-      sym (none-any (λ place. is_eq (stand place)) places (missed i parts)) ∙ any-there (λ v. is_eq (s v))
+      sym (list_any_none (λ place. is_eq (stand place)) places (missed i parts)) ∙ any-there (λ v. is_eq (s v))
 
   -- one that stands elsewhere
   pub has_other-at : (i : ℕ) → i < length places → is_eq (stand (get_or places i 0)) ≡ false → true ≡ list_any (λ v. not (is_eq (s v))) vs
@@ -70,7 +62,7 @@ module _ (vs : List Value) (places : List ℕ) (order : IsOrder vs places) (s : 
   has_other-none first last =
       let at_first : stand (get_or places 0 0) ≡ Equal = equal _ first in
       let at_last : stand (get_or places (length places - 1) 0) ≡ Equal = equal _ last in
-      sym (none-any (λ place. not (is_eq (stand place))) places (λ i d lt.
+      sym (list_any_none (λ place. not (is_eq (stand place))) places (λ i d lt.
       let low = rising 0 i 0 (omega arith) lt in
       let high = rising i (length places - 1) 0 (omega (arith, lt)) (omega (arith, lt)) in
       ap (λ o. not (is_eq o)) (ap stand (get_or_default places i d 0 lt) ∙ between (stand (get_or places i 0)) (subst (λ o. ordering_index o ≤ ordering_index (stand (get_or places i 0))) at_first low) (subst (λ o. ordering_index (stand (get_or places i 0)) ≤ ordering_index o) at_last high))))

@@ -60,7 +60,7 @@ fn settle(alloc: Global, named: BTreeMap<Key, Vec<Value>>) -> Result<Vec<Attribu
     ensures value { IfOk result (λ v. pairs_in v.items ≡ pairs_of named) }
     ensures ordered { IsOrdered bytes_cmp named }
 {
-    let mut settled = Vec::new(alloc);
+    let mut settled = Vec::with_capacity(alloc, named.len())?;
     for (tag, values) in named {
         let held = held_of(alloc, values)?;
         settled.push(Attribute { tag, held })?;

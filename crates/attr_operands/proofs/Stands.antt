@@ -7,6 +7,7 @@ use Rattle.std.specs.Cmp.Lexicographic.{texts_ties}
 use Rattle.std.specs.Ordering.{int_cmp, is_eq, is_ge, is_gt, is_le, is_lt, ordering_index, ordering_reverse, ordering_then}
 use Rattle.std.specs.declared.cmp.Ordering.{Ordering}
 use Rattle.std.specs.declared.cmp.Ordering.TheVariants.{Less, Equal, Greater}
+use Rattle.std.proofs.lemmas.Bool.{and_parts}
 use Rattle.std.proofs.lemmas.Cmp.{nat_list_cmp_total}
 use borrow.Author.Tests.{eqb-true}
 use Rattle.slp_text.specs.Keys.{key_of}
@@ -115,24 +116,20 @@ most-rises Equal Equal true true h k = omega arith
 most-rises Equal Equal true false h k = absurd (true≢false (sym (k refl refl)))
 most-rises Equal Equal false n h k = omega arith
 
-both : (a b : Bool) → a && b ≡ true → (a ≡ true) × (b ≡ true)
-both true b h = (refl, h)
-both false b h = absurd (true≢false (sym h))
-
 -- a value between one that is alike and the operand is alike
 alike : (r : Bool) (a b x : ℕ) → a ≡ b → r && (b == x) ≡ true → r && (a == x) ≡ true
 alike r a b x e h = ap (λ n. r && (n == x)) e ∙ h
 
 least-alike : (o : Operand) (v w : Value) → is_lt (value_cmp w v) ≡ false → is_lt (stand_of o v) ≡ false → is_alike o w ≡ true → is_alike o v ≡ true
 least-alike o v w h k e =
-    let is : (rank_of w).0 ≡ (operand_rank o).0 = eqb-true _ _ ((both (ranges o) _ e).1) in
+    let is : (rank_of w).0 ≡ (operand_rank o).0 = eqb-true _ _ ((and_parts (ranges o) _ e).1) in
     let below : (operand_rank o).0 ≤ (rank_of v).0 = kind-rises (operand_rank o) (rank_of v) k in
     let above : (rank_of v).0 ≤ (rank_of w).0 = kind-rises (rank_of v) (rank_of w) h in
     alike (ranges o) (rank_of v).0 (rank_of w).0 (operand_rank o).0 (omega (arith, is, below, above)) e
 
 most-alike : (o : Operand) (v w : Value) → is_lt (value_cmp w v) ≡ false → is_gt (stand_of o w) ≡ false → is_alike o v ≡ true → is_alike o w ≡ true
 most-alike o v w h k e =
-    let is : (rank_of v).0 ≡ (operand_rank o).0 = eqb-true _ _ ((both (ranges o) _ e).1) in
+    let is : (rank_of v).0 ≡ (operand_rank o).0 = eqb-true _ _ ((and_parts (ranges o) _ e).1) in
     let below : (rank_of w).0 ≤ (operand_rank o).0 = kind-falls (rank_of w) (operand_rank o) k in
     let above : (rank_of v).0 ≤ (rank_of w).0 = kind-rises (rank_of v) (rank_of w) h in
     alike (ranges o) (rank_of w).0 (rank_of v).0 (operand_rank o).0 (omega (arith, is, below, above)) e

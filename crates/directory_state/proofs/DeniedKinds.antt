@@ -3,6 +3,7 @@ use Rattle.std.proofs.Common.{◌≡◌, ◌<◌, ℕ, suc, Bool, true, false, c
 use Rattle.std.specs.Prelude.{◌&&◌, ◌||◌, Contains}
 use Rattle.std.specs.List.{list_any}
 use Rattle.std.proofs.lemmas.List.{get_or_default}
+use Rattle.std.proofs.lemmas.List.Folds.{list_any_none}
 use Rattle.access_rules.proofs.ShownKinds.{none-shown}
 use Rattle.access_rules.specs.Deciding.{deed, may_show, part_in, rules_in}
 use Rattle.access_rules.specs.declared.rule.Action.TheVariants.{See}
@@ -20,10 +21,6 @@ nothing-and : (b : Bool) → (b && false) ≡ false
 nothing-and true = refl
 nothing-and false = refl
 
-none_open : {A : Type 0} (p : A → Bool) (xs : List A) → ((i : ℕ) (d : A) → i < length xs → p (get_or xs i d) ≡ false) → list_any p xs ≡ false
-none_open p [] h = refl
-none_open p (x ∷ xs) h = ap (λ b. b || list_any p xs) (h 0 x (omega arith)) ∙ none_open p xs (λ i d k. h (suc i) d (omega (arith, k)))
-
 -- where no rule may show something in any scope that is asked for
 pub none-seen : (v : Viewer) (kind : List ℕ) → ((k : ℕ) → k < length v.asked → list_any (may_show v.asker kind (get_or v.asked k [])) (rules_in (part_in v.about)) ≡ false)
     → (e : Entry) → is_kind (Some kind) e ≡ true → is_seen v e ≡ false
@@ -34,7 +31,7 @@ none-seen v kind none e covered =
     (sym (v.alike.opens d (get_or v.asked i s) refl refl)
     ∙ none-shown (part_in v.about) d kind (get_or v.asked i s) refl covered (ap (λ k. list_any (may_show v.asker kind k) (rules_in (part_in v.about))) (get_or_default v.asked i s [] lt) ∙ none i lt))
     ∙ nothing-and (has_scope (get_or v.asked i s) e) in
-    ap (λ b. outlives v.moment e && b) (none_open (is_open_in v.rules.now v.asker e) v.asked shut) ∙ nothing-and (outlives v.moment e)
+    ap (λ b. outlives v.moment e && b) (list_any_none (is_open_in v.rules.now v.asker e) v.asked shut) ∙ nothing-and (outlives v.moment e)
 
 -- of entries none of which is seen
 kept-none : (p : Entry → Bool) (es : List Entry) → ((e : Entry) → Contains es e → p e ≡ false) → filter p es ≡ []

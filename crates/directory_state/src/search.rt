@@ -260,6 +260,8 @@ impl<'a> Shortlist<'a> {
     }
 
     // Whether no entry of the type is seen, of many, whatever they are: no rule may show one. The fewer are looked at one by one.
+    // A call of its own in the machine's code, so that the walk keeps its registers.
+    #[inline(never)]
     fn sees_none<R: Registry>(registry: &R, question: &Search<'_>) -> bool
         ensures none { IsTrue result → filter (is_seen question.now.viewer) (R.rest_of_kind registry.now (Some question.now.query.now.kind) 0) ≡ [] }
         ensures whole { IsTrue result → IsListing (is_kind (Some question.now.query.now.kind)) (R.contents registry.now) (R.rest_of_kind registry.now (Some question.now.query.now.kind) 0) }
