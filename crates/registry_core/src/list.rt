@@ -234,6 +234,10 @@ impl Registry for ListRegistry {
         from
     }
 
+    fn past_alike(&self, _kind: Option<&ServiceType>, _entry: &Entry, from: usize) -> usize {
+        from
+    }
+
     fn walks_by_type(&self) -> bool {
         false
     }

@@ -2,7 +2,7 @@ ghost use Rattle.std.specs.Prelude.{◌≡◌, ◌<◌, ◌≤◌, ◌∷◌, []
 ghost use Rattle.std.specs.Arc.{arc_value};
 ghost use Rattle.std.specs.FinMap as fin;
 ghost use Rattle.std.specs.Option.{option_copied};
-ghost use Rattle.registry_core.specs.Entries.{Pair, pair_of, outlives, if_kept, passing_entries, is_at_place, is_kind, is_of_url, is_within, is_registered, AreByType, IsListing, Passes};
+ghost use Rattle.registry_core.specs.Entries.{Pair, pair_of, outlives, if_kept, passing_entries, is_at_place, is_kind, is_of_url, is_within, is_registered, AreByType, IsListing, Passes, PassesAlike};
 ghost use Rattle.registry_core.specs.declared.registry.RegistryFault.TheVariants as fault;
 
 use crate::entry::Entry;
@@ -124,6 +124,12 @@ pub trait Registry {
     /// front. A registry that walks by type passes over all that come next, another one over none.
     fn past_kind(&self, kind: &ServiceType, from: usize) -> usize
         ensures passes { Passes kind.now (rest_of_kind self.now None from) (rest_of_kind self.now None result) }
+        ensures onward { from ≤ result };
+
+    /// A number from which on `by_kind` gives what it gives from another one on without some entries at its front that are alike to one:
+    /// of its type, its scopes and its registrant. A registry that knows where such a run ends passes over all of it, another one over none.
+    fn past_alike(&self, kind: Option<&ServiceType>, entry: &Entry, from: usize) -> usize
+        ensures passes { PassesAlike entry.now (rest_of_kind self.now (option_copied kind.entry) from) (rest_of_kind self.now (option_copied kind.entry) result) }
         ensures onward { from ≤ result };
 
     /// Whether `by_kind` gives the entries of all types in the key order of their types.

@@ -8,7 +8,7 @@ use Rattle.attr_list.specs.Stored.{pair_in, pairs_in}
 use Rattle.attr_list.proofs.gathering.settle.Goals as goal
 
 pub loop-tag-init : goal.loop-tag-init
-loop-tag-init c = ap pairs_in c.new-settled.ensures.items
+loop-tag-init c = ap pairs_in c.in_ok-settled.ensures.items
 
 pub loop-tag-preserved : goal.loop-tag-preserved
 loop-tag-preserved c =
@@ -18,7 +18,7 @@ loop-tag-preserved c =
 
 pub returns-in_err-held : goal.returns-in_err-held
 returns-in_err-held c =
-    let p = err_from_is_err_and c.from_residual.result c.from_residual.ensures.1 in
+    let p = err_from_is_err_and c.from_residual-in_err-held.result c.from_residual-in_err-held.ensures.1 in
     rw p.1 (record { value = tt; ordered = c.into_iter-tag-iterator.ensures.into_iter_gives.5 })
 
 pub returns-in_err-push : goal.returns-in_err-push
