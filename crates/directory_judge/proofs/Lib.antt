@@ -4,5 +4,4 @@ pub mod LanguageWalks
 pub mod Maps
 pub mod NamedEntries
 pub mod Rulings
-pub mod SameTexts
 pub mod Steps

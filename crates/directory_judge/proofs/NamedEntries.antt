@@ -13,7 +13,7 @@ use Rattle.directory_judge.specs.Judgements.{Grounds, Judgement, Accepts, by_ste
 use Rattle.directory_judge.specs.NamedEntries.{judgement_of_named, particulars_named, IsSettingOf, IsUpdatable}
 use Rattle.directory_judge.specs.declared.reason.Because.{Because}
 use Rattle.directory_judge.specs.declared.reason.Decider.TheVariants as decider
-use Rattle.directory_judge.proofs.SameTexts.{bytes_itself, texts_itself}
+use Rattle.registry_core.proofs.SameTexts.{bytes_itself, texts_itself}
 
 or-none : (o : Option Judgement) → option_or o None ≡ o
 or-none None = refl

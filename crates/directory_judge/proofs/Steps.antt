@@ -19,7 +19,7 @@ use Rattle.registry_core.specs.declared.entry.Entry.{Entry}
 use Rattle.registry_core.specs.Entries.{Entries, Pair, is_of_url}
 use Rattle.slp_text.specs.Words.{texts_eq}
 use Rattle.directory_judge.proofs.Rulings.{not-false, not-true}
-use Rattle.directory_judge.proofs.SameTexts.{texts_itself}
+use Rattle.registry_core.proofs.SameTexts.{texts_itself}
 use Rattle.directory_judge.specs.History.{Act, Put, Set}
 use Rattle.directory_judge.specs.Judgements.{Grounds, Judgement, Accepts, Ignores, act_of, judgement_in_scopes, judgement_of_removal, judgement_of_tagged, judgement_of_tags, judgement_of_texts, entries_in, first_of, is_kept, concerned_entries, judgement_in, judgement_of_entries, judgement_of_url, because_of, by_step, code_by, denial, denial_by, denial_in, denial_of, denial_of_live, denial_of_new, denial_of_room, denial_of_template, pair_in, putting_of, release, removal_event, resulting_attributes, setting_of, allowance, judgement_of_particulars, IsJudgement}
 use Rattle.directory_judge.specs.NamedEntries.{judgement_of_named, particulars_named, IsActOf, IsJudgedNamed}

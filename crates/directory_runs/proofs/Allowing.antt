@@ -39,7 +39,7 @@ use Rattle.directory_judge.specs.declared.reason.Because.{Because}
 use Rattle.directory_judge.specs.declared.reason.Decider.TheVariants as decider
 use Rattle.directory_judge.specs.Sites.{Site}
 use Rattle.directory_judge.proofs.Rulings.{is_kept-denial, not-kept}
-use Rattle.directory_judge.proofs.SameTexts.{texts_same, texts_itself, bytes_itself}
+use Rattle.registry_core.proofs.SameTexts.{texts_same, texts_itself, bytes_itself}
 use Rattle.directory_questions.specs.Verdicts.{change_in}
 use Rattle.directory_runs.specs.Allowing.{HasRoom, IsAllowedOn, IsReleased, IsRuledIn, MayFollow, MayReplace, MayUpdate, RegistrationIsAllowed, TagsAreReleased, UrlIsReleased, WithdrawalIsAllowed}
 use Rattle.directory_runs.proofs.FirstEntries.{false_true, first-has, first-none, filter-none, none-filter, unlisted, nothing-in}

@@ -20,7 +20,7 @@ use Rattle.access_rules.specs.declared.hide.FittingHides.{FittingHides}
 use Rattle.access_rules.specs.declared.rule.Action.TheVariants.{See}
 use Rattle.registry_core.specs.Entries.{outlives}
 use Rattle.registry_core.specs.declared.entry.Entry.{Entry}
-use Rattle.directory_judge.proofs.SameTexts.{texts_same}
+use Rattle.registry_core.proofs.SameTexts.{texts_same}
 use Rattle.directory_questions.specs.Items.{AreInOrder, AreJoined, IsElsewhere}
 use Rattle.directory_questions.specs.Sights.{is_left_in, is_open_in, is_shown}
 use Rattle.directory_questions.specs.declared.query.AttrQuery.{AttrQuery}

@@ -15,7 +15,7 @@ use Rattle.directory_judge.specs.Contents.{Edits, edit_of, entry_without}
 use Rattle.directory_judge.specs.Judgements.{Grounds, Accepts, by_step, denial, judgement_of_removal, release, removal_event, ruling_in}
 use Rattle.directory_judge.specs.declared.reason.Decider.TheVariants as decider
 use Rattle.directory_judge.proofs.Rulings.{no-scopes, not-false, ruling-allowed, ruling-first, ruling-none}
-use Rattle.directory_judge.proofs.SameTexts.{texts_same}
+use Rattle.registry_core.proofs.SameTexts.{texts_same}
 use Rattle.directory_judge.proofs.Steps.{denied-as, tagged-some, template-allows, template-denies}
 use Rattle.directory_judge.proofs.grounds.Grounds.judge_removal.Goals as goal
 

@@ -2,7 +2,7 @@ use Rattle.std.proofs.Common.{sym, ap, ◌∙◌}
 use Rattle.std.specs.Option.{option_copied}
 use Rattle.slp_text.proofs.KeySets.{bytes_same}
 use Rattle.directory_judge.proofs.Rulings.{not-false}
-use Rattle.directory_judge.proofs.SameTexts.{texts_same}
+use Rattle.registry_core.proofs.SameTexts.{texts_same}
 use Rattle.directory_judge.proofs.grounds.Grounds.updatable.Goals as goal
 
 pub returns-clause-ok : goal.returns-clause-ok
