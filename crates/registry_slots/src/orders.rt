@@ -1,11 +1,11 @@
 //! Numbers of slots, in the order of their entries.
-ghost use Rattle.std.specs.Prelude.{◌≡◌, ℕ, ◌<◌, ◌≤◌, ◌≢◌, length, slice_index, slice_set, filter, [], MatchOption, Some, None};
+ghost use Rattle.std.specs.Prelude.{◌≡◌, ℕ, ◌<◌, ◌≤◌, ◌≢◌, length, slice_index, slice_set, filter, [], true, IfSome, MatchOption, Some, None};
 ghost use Rattle.std.specs.Ordering.{is_lt};
 ghost use Rattle.registry_core.specs.declared.entry.Entry.{Entry as Held};
 ghost use Rattle.registry_slots.specs.Slots.{slot_at};
 ghost use Rattle.registry_slots.specs.Orders.{IsOrder, front_of, is_held, place_in, rank_behind, rank_cmp, rank_of, spot_rank};
 ghost use Rattle.registry_slots.specs.declared.orders.By.TheVariants as by;
-ghost use Rattle.registry_core.specs.Entries.{pair_cmp, pair_of};
+ghost use Rattle.registry_core.specs.Entries.{are_alike, pair_cmp, pair_of};
 ghost use Rattle.slp_text.specs.Words.{bytes_cmp};
 
 use crate::slots::Slots;
@@ -189,8 +189,8 @@ pub fn find_slot(slots: &Slots, order: &SlotList, url: &Url, language: &Key) -> 
     None
 }
 
-/// Puts a slot with no entry where this entry of a new pair belongs.
-pub fn put_in(slots: &Slots, order: &mut SlotList, by: By, x: usize, entry: &Entry)
+/// Puts a slot with no entry where this entry of a new pair belongs. It says at which place.
+pub fn put_in(slots: &Slots, order: &mut SlotList, by: By, x: usize, entry: &Entry) -> usize
     requires order { IsOrder by slots.now.slots order.old.items }
     requires inside { x < length slots.now.slots }
     requires empty { slot_at slots.now.slots x ≡ None }
@@ -202,6 +202,33 @@ pub fn put_in(slots: &Slots, order: &mut SlotList, by: By, x: usize, entry: &Ent
 {
     let at = place_of(slots, order, by, &by.spot(entry));
     order.insert(at, x);
+    at
+}
+
+// The slot at a place, if its entry is alike to another one.
+fn alike_at(slots: &Slots, order: &SlotList, at: usize, entry: &Entry) -> Option<usize>
+    ensures { IfSome result (λ y. (f : Held) × (slot_at slots.now.slots y ≡ Some f) × (are_alike entry.now f ≡ true)) }
+{
+    if at >= order.len() {
+        return None;
+    }
+    let y = order.at(at);
+    match slots.entry_at(y) {
+        Some(held) if entry.is_alike(held) => Some(y),
+        _ => None,
+    }
+}
+
+/// A slot before or after a place whose entry is alike to another one.
+pub fn alike_beside(slots: &Slots, order: &SlotList, at: usize, entry: &Entry) -> Option<usize>
+    ensures { IfSome result (λ y. (f : Held) × (slot_at slots.now.slots y ≡ Some f) × (are_alike entry.now f ≡ true)) }
+{
+    if at > 0
+        && let Some(y) = alike_at(slots, order, at - 1, entry)
+    {
+        return Some(y);
+    }
+    alike_at(slots, order, at.saturating_add(1), entry)
 }
 
 /// Where a held slot stands.

@@ -3,3 +3,4 @@ pub mod Contents
 pub mod OneType
 pub mod Ranges
 pub mod TypeOrder
+pub mod Skipped

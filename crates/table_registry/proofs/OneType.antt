@@ -1,5 +1,5 @@
 -- The entries of one type in the order by type.
-use Rattle.std.proofs.Common.{◌≡◌, ◌≢◌, ℕ, zero, suc, ◌+◌, ◌-◌, ◌<◌, ◌≤◌, true, List, [], ◌∷◌, ◌++◌, length, drop, get_or, Option, Some, None, refl, sym, ap, ap₂, subst, ◌∙◌, arith, inl, inr, ◌⊎◌, drop-cons}
+use Rattle.std.proofs.Common.{◌≡◌, ◌≢◌, ℕ, ◌<◌, ◌≤◌, true, List, length, drop, get_or, Option, Some, None, sym, ap, ap₂, subst, ◌∙◌, arith, inl, inr, ◌⊎◌}
 use Rattle.std.proofs.lemmas.List.Sums.{prefix_len_passes}
 use Rattle.std.specs.Ordering.{is_lt, ordering_reverse}
 use Rattle.std.specs.declared.cmp.Ordering.TheVariants.{Less, Equal, Greater}
@@ -11,11 +11,12 @@ use Rattle.slp_text.proofs.KeySets.{bytes_same}
 use Rattle.registry_core.specs.declared.entry.Entry.{Entry}
 use Rattle.registry_slots.specs.declared.orders.By.TheVariants as by
 use Rattle.registry_core.specs.Entries.{pair_cmp, pair_of, if_kept, is_kind, Passes}
-use Rattle.registry_slots.specs.Slots.{slot_at, tests, gathered, prepend}
+use Rattle.registry_slots.specs.Slots.{slot_at, tests, gathered}
 use Rattle.registry_slots.specs.Orders.{rank_cmp, rank_of, rank_in, rank_behind, comes_before, place_in, IsOrder}
 use Rattle.registry_slots.proofs.SlotLists.{one_some, tests_some}
 use Rattle.registry_slots.proofs.Ranks.{before_behind, own_behind, holds, rank_past, rank_within, rising_at}
 use Rattle.table_registry.proofs.Along.{first_less}
+use Rattle.table_registry.proofs.Skipped.{skipped}
 
 module _ (slots : List (Option Entry)) (order : List ℕ) (o : IsOrder by.Kind slots order) (kind : List ℕ) where
   abbrev end : ℕ
@@ -49,17 +50,5 @@ module _ (slots : List (Option Entry)) (order : List ℕ) (o : IsOrder by.Kind s
     onward-kind = rank_past by.Kind slots (rank_behind kind) order from (holds by.Kind slots order o) o.rising within
         (ap (comes_before by.Kind (rank_behind kind)) first.1 ∙ ap (λ k. is_lt (rank_cmp (k, pair_of first.0) (rank_behind kind))) first.2 ∙ own_behind kind (pair_of first.0))
 
-    passes_to : (n a : ℕ) → from ≤ a → a + n ≤ end → Passes kind (left a) (left (a + n))
-    passes_to zero a low high = ([], ap left (omega arith), tt)
-    passes_to (suc n) a low high =
-        let long : a < length order = omega (arith, rank_within by.Kind slots (rank_behind kind) order) in
-        let more = passes_to n (suc a) (omega arith) (omega arith) in
-        let step : left a ≡ prepend (if_kept (is_kind None) (slot_at slots (get_or order a 0))) (left (suc a)) = ap (gathered (λ x. if_kept (is_kind None) (slot_at slots x))) (drop-cons order a 0 long) in
-        let rest : left (suc a) ≡ more.0 ++ left (a + suc n) = more.1 ∙ ap (λ m. more.0 ++ left m) (omega arith) in
-        elim (slot_at slots (get_or order a 0)) as (λ s. slot_at slots (get_or order a 0) ≡ s → left a ≡ prepend (if_kept (is_kind None) s) (left (suc a)) → Passes kind (left a) (left (a + suc n))) [
-          | None ↦ λ h t. (more.0, t ∙ rest, more.2)
-          | Some f ↦ λ h t. (f ∷ more.0, t ∙ ap (λ es. f ∷ es) rest, (kind_at a f low (omega arith) h, more.2))
-        ] refl step
-
     pub passes-kind : Passes kind (left from) (left end)
-    passes-kind = subst (λ m. Passes kind (left from) (left m)) (omega (arith, onward-kind)) (passes_to (end - from) from (omega arith) (omega (arith, onward-kind)))
+    passes-kind = skipped slots (is_kind None) order (λ e. e.kind ≡ kind) from end (rank_within by.Kind slots (rank_behind kind) order) kind_at (omega (arith, onward-kind))

@@ -7,6 +7,7 @@ use Rattle.registry_slots.specs.declared.orders.By.{By}
 use Rattle.registry_slots.specs.declared.orders.By.TheVariants as by
 use Rattle.registry_core.specs.Entries.{Entries, entry_code, entries_of_list, if_kept, is_kind, has_scope, is_within}
 use Rattle.registry_slots.specs.Slots.{slot_at, somes, gathered, tests}
+use Rattle.registry_slots.specs.Numbering.{AreNumbered}
 use Rattle.registry_slots.specs.Orders.{IsOrder, front_of}
 use Rattle.slot_list.specs.Blocks.{Numbers}
 use Rattle.slp_text.specs.Words.{bytes_cmp}
@@ -25,10 +26,12 @@ table_code = code_by (List (Option Entry) × (List ℕ × (List ℕ × List ℕ)
     (λ t. (t.slots, (t.places, (t.roots, t.kinds))))
     (λ p. record { slots = p.0; places = p.1.0; roots = p.1.1.0; kinds = p.1.1.1 }) (λ _. refl)
 
-pub record IsTable (slots : List (Option Entry)) (ps rs ks : Numbers) : Type 0 where
+pub record IsTable (slots : List (Option Entry)) (ps rs ks : Numbers) (numbers : List ℕ) : Type 0 where
   pub places : IsOrder by.Place slots ps.items
   pub roots : IsOrder by.Root slots rs.items
   pub kinds : IsOrder by.Kind slots ks.items
+  pub numbered : AreNumbered slots numbers
+  pub each : length numbers ≡ length slots
   pub places_room : length slots ≤ ps.room
   pub roots_room : length slots ≤ rs.room
   pub kinds_room : length slots ≤ ks.room

@@ -1,10 +1,10 @@
-ghost use Rattle.std.specs.Prelude.{◌≡◌, ◌≢◌, ℕ, ◌<◌, ◌≤◌, length, slice_index, slice_set, not, IfOk, OnErr, MatchOption, None, Some, Option, true, false};
+ghost use Rattle.std.specs.Prelude.{◌≡◌, ◌≢◌, ℕ, ◌<◌, ◌≤◌, length, slice_index, slice_set, not, IfOk, IsTrue, OnErr, MatchOption, None, Some, Option, true, false};
 ghost use Rattle.std.specs.List.{remove};
 ghost use Rattle.std.specs.Arc.{arc_value};
 ghost use Rattle.std.specs.FinMap as fin;
 ghost use Rattle.registry_core.specs.declared.entry.Entry.{Entry as Held};
 ghost use Rattle.slp_text.specs.Words.{bytes_eq};
-ghost use Rattle.registry_core.specs.Entries.{pair_of, is_kind, is_registered, is_of_url, if_kept, outlives};
+ghost use Rattle.registry_core.specs.Entries.{are_alike, pair_of, is_kind, is_registered, is_of_url, if_kept, outlives};
 ghost use Rattle.registry_slots.specs.Slots.{Apart, slot_at, tests, is_due};
 ghost use Rattle.table_registry.specs.Tables.{contents_of, walked};
 ghost use Rattle.registry_slots.specs.declared.orders.By.TheVariants as by;
@@ -13,7 +13,9 @@ mod walks;
 
 use self::walks::{by_for, is_of_kind};
 use registry_core::{Entry, Registry, RegistryFault};
-use registry_slots::{By, Slots, find_slot, keep_held, put_in, stand_of, take_out};
+use registry_slots::{
+    Alikes, By, Slots, alike_beside, find_slot, keep_held, put_in, stand_of, take_out,
+};
 use service_url::{ServiceType, Url};
 use slot_list::SlotList;
 use slp_scopes::ScopeList;
@@ -32,6 +34,8 @@ pub struct TableRegistry {
     places: SlotList,
     roots: SlotList,
     kinds: SlotList,
+    // Which slots have entries alike.
+    alikes: Alikes,
 }
 
 impl Drop for TableRegistry {
@@ -41,6 +45,7 @@ impl Drop for TableRegistry {
             places: _,
             roots: _,
             kinds: _,
+            alikes: _,
         } = self;
     }
 }
@@ -54,7 +59,7 @@ impl Model for TableRegistry {
 
     ghost view = { λ r. record { slots = r.slots.slots; places = r.places.items; roots = r.roots.items; kinds = r.kinds.items } };
 
-    ghost invariant = { λ r. IsTable r.slots.slots r.places r.roots r.kinds };
+    ghost invariant = { λ r. IsTable r.slots.slots r.places r.roots r.kinds r.alikes };
 }
 
 impl TableRegistry {
@@ -70,11 +75,13 @@ impl TableRegistry {
         let places = SlotList::with_capacity(alloc, capacity)?;
         let roots = SlotList::with_capacity(alloc, capacity)?;
         let kinds = SlotList::with_capacity(alloc, capacity)?;
+        let alikes = Alikes::with_capacity(alloc, capacity)?;
         Ok(TableRegistry {
             slots,
             places,
             roots,
             kinds,
+            alikes,
         })
     }
 
@@ -118,13 +125,15 @@ impl TableRegistry {
         let held: &Entry = &entry;
         put_in(&self.slots, &mut self.places, By::Place, x, held);
         put_in(&self.slots, &mut self.roots, By::Root, x, held);
-        put_in(&self.slots, &mut self.kinds, By::Kind, x, held);
+        let at = put_in(&self.slots, &mut self.kinds, By::Kind, x, held);
+        let like = alike_beside(&self.slots, &self.kinds, at, held);
+        self.alikes.give(x, like);
         self.slots.fill(x, entry);
     }
 
-    // Puts an entry in place of one of its pair and its type, which stays where it is in each order.
+    // Puts an entry in place of one of its pair that is alike, which stays where it is in each order.
     fn renew(&mut self, x: usize, entry: Arc<Entry>)
-        requires { (e : Held) × (slot_at self.old.slots x ≡ Some e) × (pair_of e ≡ pair_of (arc_value entry)) × (e.kind ≡ (arc_value entry).kind) }
+        requires { (e : Held) × (slot_at self.old.slots x ≡ Some e) × (pair_of e ≡ pair_of (arc_value entry)) × (are_alike e (arc_value entry) ≡ true) }
         ensures { self.new.slots ≡ slice_set self.old.slots x (Some (arc_value entry)) }
     {
         self.slots.fill(x, entry);
@@ -132,11 +141,31 @@ impl TableRegistry {
 
     // Whether a slot has an entry of a type.
     fn has_kind(&self, x: usize, kind: &ServiceType) -> bool
-        ensures apart { Apart self.now.slots }
-        ensures value { result ≡ tests (λ e. bytes_eq e.kind kind.now) (slot_at self.now.slots x) }
+        ensures { result ≡ tests (λ e. bytes_eq e.kind kind.now) (slot_at self.now.slots x) }
     {
         match self.slots.entry_at(x) {
             Some(entry) => entry.kind.text() == kind.text(),
+            None => false,
+        }
+    }
+
+    // Whether two slots have one number: then their entries are alike.
+    #[inline(always)]
+    pub(super) fn are_one(&self, x: usize, y: usize) -> bool
+        requires x { x < length self.now.slots }
+        requires y { y < length self.now.slots }
+        ensures { IsTrue result → (e f : Held) → slot_at self.now.slots x ≡ Some e → slot_at self.now.slots y ≡ Some f → are_alike e f ≡ true }
+    {
+        self.alikes.are_one(x, y)
+    }
+
+    // Whether a slot has an entry that is alike to another one.
+    fn has_alike(&self, x: usize, entry: &Entry) -> bool
+        ensures apart { Apart self.now.slots }
+        ensures value { result ≡ tests (λ e. are_alike e entry.now) (slot_at self.now.slots x) }
+    {
+        match self.slots.entry_at(x) {
+            Some(held) => held.is_alike(entry),
             None => false,
         }
     }
@@ -147,7 +176,7 @@ impl TableRegistry {
         ensures { self.new.slots ≡ slice_set self.old.slots x (Some (arc_value entry)) }
     {
         let held: &Entry = &entry;
-        if self.has_kind(x, &held.kind) {
+        if self.has_alike(x, held) {
             self.renew(x, entry);
         } else {
             self.take(x);
@@ -301,6 +330,10 @@ impl Registry for TableRegistry {
             return from;
         }
         self.end_of_kind(kind)
+    }
+
+    fn past_alike(&self, kind: Option<&ServiceType>, entry: &Entry, from: usize) -> usize {
+        self.end_of_run(by_for(kind), entry, from)
     }
 
     #[inline(always)]

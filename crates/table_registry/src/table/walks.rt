@@ -2,7 +2,7 @@
 ghost use Rattle.std.specs.Prelude.{◌≡◌, ◌<◌, ◌≤◌, [], ◌∷◌, length, slice_index, not, IfSome, Bool, MatchOption, None, Some, Option, true, false};
 ghost use Rattle.std.specs.Option.{option_copied};
 ghost use Rattle.registry_core.specs.declared.entry.Entry.{Entry as Held};
-ghost use Rattle.registry_core.specs.Entries.{is_kind, is_registered, is_of_url, is_within, IsListing};
+ghost use Rattle.registry_core.specs.Entries.{is_kind, is_registered, is_of_url, is_within, IsListing, PassesAlike};
 ghost use Rattle.registry_slots.specs.Slots.{slot_at, tests};
 ghost use Rattle.registry_slots.specs.Orders.{IsOrder, place_in, rank_behind};
 ghost use Rattle.table_registry.specs.Tables.{NoneIn, contents_of, order_of, by_for as by_for_kind, walked, in_bound, in_scope, is_wanted, is_past as is_past_in};
@@ -273,5 +273,26 @@ impl TableRegistry {
     {
         let spot = Spot::behind(kind.text().as_bytes());
         place_of(&self.slots, &self.kinds, By::Kind, &spot)
+    }
+
+    // Where a run of entries ends that are alike to one, from a number on: the slots of those after the first have its number.
+    #[inline(never)]
+    pub(super) fn end_of_run(&self, by: By, entry: &Entry, from: usize) -> usize
+        ensures passes { (p : Held → Bool) → PassesAlike entry.now (walked by self.now p from) (walked by self.now p result) }
+        ensures onward { from ≤ result }
+    {
+        let order = self.order(by);
+        if from >= order.len() {
+            return from;
+        }
+        let first = order.at(from);
+        if !entry.is_alike(self.slots.held(first)) {
+            return from;
+        }
+        let mut at = from + 1;
+        while at < order.len() && self.are_one(first, order.at(at)) {
+            at += 1;
+        }
+        at
     }
 }

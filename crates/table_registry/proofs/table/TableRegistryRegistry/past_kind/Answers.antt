@@ -15,7 +15,7 @@ within c = omega (arith, c.if-from-len.false, c.len.ensures.value)
 here : (c : After-end_of_kind) → tests (λ e. bytes_eq e.kind c.args.kind.now) (slot_at c.self.inside.slots.slots (get_or c.self.inside.kinds.items c.args.from 0)) ≡ true
 here c =
     ap (λ x. tests (λ e. bytes_eq e.kind c.args.kind.now) (slot_at c.self.inside.slots.slots x)) (sym c.at.ensures.value)
-    ∙ ap (λ (t : Table). tests (λ e. bytes_eq e.kind c.args.kind.now) (slot_at t.slots c.at.result)) c.self.view_is ∙ sym c.has_kind.ensures.value ∙ c.if-not-has_kind.false
+    ∙ ap (λ (t : Table). tests (λ e. bytes_eq e.kind c.args.kind.now) (slot_at t.slots c.at.result)) c.self.view_is ∙ sym c.has_kind.ensures ∙ c.if-not-has_kind.false
 
 end : (c : After-end_of_kind) → c.end_of_kind.result ≡ place_in by.Kind c.self.inside.slots.slots c.self.inside.kinds.items (rank_behind c.args.kind.now)
 end c = c.end_of_kind.ensures ∙ ap (λ (t : Table). place_in by.Kind t.slots t.kinds (rank_behind c.args.kind.now)) (sym c.self.view_is)
