@@ -18,6 +18,7 @@ pub mod LegalHistories
 pub mod Lifetimes
 pub mod OpenEntries
 pub mod Outcomes
+pub mod PassedEntries
 pub mod Reloads
 pub mod Rows
 pub mod SameAnswers

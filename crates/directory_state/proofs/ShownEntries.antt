@@ -1,6 +1,6 @@
 -- Entries, and what is shown of them.
 use Rattle.std.proofs.Common.{◌≡◌, ◌<◌, ◌+◌, ℕ, Bool, true, false, cond, not, List, [], ◌∷◌, ◌++◌, drop, length, get_or, map, Option, Some, None, refl, sym, ap, subst, ◌∙◌, arith, eqb-true, inl, inr}
-use Rattle.std.specs.Prelude.{◌&&◌, ◌||◌, ◌==◌, nat_eq, filter, flat_map, is_some, slice_get, Contains, IsTrue, MatchOption}
+use Rattle.std.specs.Prelude.{◌&&◌, ◌||◌, ◌==◌, nat_eq, filter, flat_map, is_some, position, slice_get, Contains, IsTrue, MatchOption}
 use Rattle.std.proofs.lemmas.Bool.{and_parts}
 use Rattle.std.proofs.lemmas.Bool.Decides.{nat_tests}
 use Rattle.std.proofs.lemmas.List.{nil_from_length}
@@ -15,7 +15,8 @@ use Rattle.attr_list.proofs.KeptAttributes.{get-kept, joined-kept, kept-all, kep
 use Rattle.slp_text.proofs.KeySets.{bytes_same, member_cases}
 use Rattle.slp_tags.specs.Tags.{Part, selects}
 use Rattle.slp_text.specs.Words.{bytes_eq, texts_eq, IsAscending}
-use Rattle.access_rules.specs.Deciding.{Deed, deciding, deed, hides_in, is_hidden, is_hidden_by, is_hidden_from, part_in, some_hides}
+use Rattle.addresses.specs.Addresses.{holds}
+use Rattle.access_rules.specs.Deciding.{Deed, action_eq, allows_kind, allows_scope, deed, hides_in, rules_in, verdict_at, is_hidden, is_hidden_by, is_hidden_from, part_in, some_hides}
 use Rattle.access_rules.specs.declared.hide.FittingHides.{FittingHides}
 use Rattle.access_rules.specs.declared.rule.Action.TheVariants.{See}
 use Rattle.registry_core.specs.Entries.{outlives}
@@ -25,7 +26,7 @@ use Rattle.directory_questions.specs.Items.{AreInOrder, AreJoined, IsElsewhere}
 use Rattle.directory_questions.specs.Sights.{is_left_in, is_open_in, is_shown}
 use Rattle.directory_questions.specs.declared.query.AttrQuery.{AttrQuery}
 use Rattle.directory_state.specs.Deadlines.{UrlDeadline, with_deadline}
-use Rattle.directory_state.specs.Searches.{are_alike, deadlines_with, is_allowed, is_seen, open_scopes, seen_of, shown_elements, shows_in, AreSeenBy, IsFirst, IsFirstOpen, IsIn, IsInAnd, IsSeenFrom, IsSight, ShowsAll}
+use Rattle.directory_state.specs.Searches.{are_alike_to, deadlines_with, is_allowed, is_seen, open_scopes, seen_of, shown_elements, shows_in, AreSeenBy, IsFirst, IsFirstOpen, IsIn, IsInAnd, IsSeenFrom, IsSight, ShowsAll}
 use Rattle.directory_state.specs.declared.shown.Sight.{Sight}
 use Rattle.directory_state.specs.declared.viewer.Seen.{Seen}
 use Rattle.directory_state.specs.declared.asked.Viewer.{Viewer}
@@ -68,17 +69,33 @@ seen-from v e (Some place) lives first = (
   first,
 )
 
--- entries alike are open in the same scopes
-open-alike : (v : Viewer) (e f : Entry) → are_alike e f ≡ true → (from : ℕ) → open_scopes v e from ≡ open_scopes v f from
-open-alike v e f alike from =
-    let open_of : List ℕ → List (List ℕ) → ℕ → List (List ℕ) =
-    λ kind scopes owner. filter (λ s. list_any (λ k. bytes_eq k s) scopes && (deciding v.rules.now (deed v.asker See kind owner) s).allow) (drop from v.asked) in
-    let scopes = and_parts (e.owner == f.owner && bytes_eq e.kind f.kind) (texts_eq e.scopes f.scopes) alike in
-    let kinds = and_parts (e.owner == f.owner) (bytes_eq e.kind f.kind) scopes.0 in
-    ap (λ kind. open_of kind e.scopes e.owner) (bytes_same e.kind f.kind kinds.1) ∙ ap (λ names. open_of f.kind names e.owner) (texts_same e.scopes f.scopes scopes.1)
-    ∙ ap (open_of f.kind f.scopes) (eqb-true e.owner f.owner kinds.0)
+own-both : (asker one other : ℕ) → (one == other || (not (asker == one) && not (asker == other))) ≡ true → (asker == one) ≡ (asker == other)
+own-both asker one other h = elim (one == other) as (λ b. one == other ≡ b → (b || (not (asker == one) && not (asker == other))) ≡ true → (asker == one) ≡ (asker == other)) [
+  | true ↦ λ same _. ap (λ o. asker == o) (eqb-true one other same)
+  | false ↦ λ _ k. neither (asker == one) (asker == other) k
+] refl h
+  where
+    neither : (x y : Bool) → (not x && not y) ≡ true → x ≡ y
+    neither false false k = refl
+    neither true y k = absurd cc
+    neither false true k = absurd cc
 
-pub first-alike : (v : Viewer) (e f : Entry) (o : Option ℕ) → are_alike e f ≡ true → IsFirstOpen v e o → IsFirstOpen v f o
+-- entries alike are open in the same scopes
+pub open_in-alike : (v : Viewer) (e f : Entry) → are_alike_to v.asker e f ≡ true → is_open_in v.rules.now v.asker e ≡ is_open_in v.rules.now v.asker f
+open_in-alike v e f alike =
+    let a = v.asker in
+    let opens : List ℕ → List (List ℕ) → Bool → List ℕ → Bool =
+    λ kind names own s. list_any (λ k. bytes_eq k s) names
+    && (verdict_at v.rules.now (position (λ r. list_any (λ p. holds p a) r.from && action_eq r.action See && allows_kind r.kind kind && allows_scope r.scopes s && (not r.owner || own)) (rules_in v.rules.now))).allow in
+    let scopes = and_parts ((e.owner == f.owner || (not (a == e.owner) && not (a == f.owner))) && bytes_eq e.kind f.kind) (texts_eq e.scopes f.scopes) alike in
+    let kinds = and_parts (e.owner == f.owner || (not (a == e.owner) && not (a == f.owner))) (bytes_eq e.kind f.kind) scopes.0 in
+    ap (λ kind. opens kind e.scopes (a == e.owner)) (bytes_same e.kind f.kind kinds.1) ∙ ap (λ names. opens f.kind names (a == e.owner)) (texts_same e.scopes f.scopes scopes.1)
+    ∙ ap (opens f.kind f.scopes) (own-both a e.owner f.owner kinds.0)
+
+open-alike : (v : Viewer) (e f : Entry) → are_alike_to v.asker e f ≡ true → (from : ℕ) → open_scopes v e from ≡ open_scopes v f from
+open-alike v e f alike from = ap (λ opens. filter opens (drop from v.asked)) (open_in-alike v e f alike)
+
+pub first-alike : (v : Viewer) (e f : Entry) (o : Option ℕ) → are_alike_to v.asker e f ≡ true → IsFirstOpen v e o → IsFirstOpen v f o
 first-alike v e f None alike none = sym (open-alike v e f alike 0) ∙ none
 first-alike v e f (Some place) alike first = record {
   within = first.within;

@@ -1,11 +1,11 @@
 -- How what answers a question is found: each entry that is seen joins a list of URLs with their latest deadlines, which is cut to its room.
-use Rattle.std.specs.Prelude.{◌≡◌, ℕ, ◌+◌, ◌-◌, ◌<◌, ◌≤◌, ◌==◌, ◌⊎◌, Bool, true, false, ◌&&◌, nat_le, nat_lt, min, if◌then◌else◌, List, [], ◌∷◌, drop, get_or, length, map, filter, Contains, vec_items, Option, Some, None, IfSome, IsTrue, MatchOption}
+use Rattle.std.specs.Prelude.{◌≡◌, ℕ, ◌+◌, ◌-◌, ◌<◌, ◌≤◌, ◌==◌, ◌⊎◌, Bool, true, false, not, ◌&&◌, ◌||◌, nat_le, nat_lt, min, if◌then◌else◌, List, [], ◌∷◌, drop, get_or, length, map, filter, Contains, vec_items, Option, Some, None, IfSome, IsTrue, MatchOption}
 use Rattle.access_rules.specs.Deciding.{SiteRules, deed, is_hidden, is_hidden_by}
 use Rattle.access_rules.specs.declared.rule.Action.TheVariants.{See}
 use Rattle.attr_list.specs.Elements.{Element}
 use Rattle.attr_list.specs.Maps.{elements_in, kept_attributes}
 use Rattle.slp_tags.specs.Tags.{Part, selects}
-use Rattle.registry_core.specs.Entries.{Entries, outlives, pair_of, IsListing}
+use Rattle.registry_core.specs.Entries.{Entries, outlives, pair_of, IsListing, Skips}
 use Rattle.registry_core.specs.declared.entry.Entry.{Entry}
 use Rattle.slp_messages.specs.declared.message.UrlEntry.{UrlEntry}
 use Rattle.directory_questions.specs.Items.{is_under, is_wanted}
@@ -73,9 +73,13 @@ IsFirstOpen v e first = MatchOption first (open_scopes v e 0 ≡ []) (IsFirst v 
 abbrev pub IsLook : Viewer → Look → Type 0
 IsLook v l = IsFirstOpen v l.entry.now l.first
 
--- two entries have the same registrant, type and scopes
-abbrev pub are_alike : Entry → Entry → Bool
-are_alike e f = (e.owner == f.owner) && bytes_eq e.kind f.kind && texts_eq e.scopes f.scopes
+-- two entries have the same type and scopes, and the same registrant, or two others than who asks: the rules say the same of both
+abbrev pub are_alike_to : ℕ → Entry → Entry → Bool
+are_alike_to asker e f = (e.owner == f.owner || (not (asker == e.owner) && not (asker == f.owner))) && bytes_eq e.kind f.kind && texts_eq e.scopes f.scopes
+
+-- what is left of a list without some at its front that are not seen
+abbrev pub PassesUnseen : Viewer → List Entry → List Entry → Type 0
+PassesUnseen v = Skips (λ e. is_seen v e ≡ false)
 
 -- it is seen, and open first in the scope at this place
 abbrev pub IsSeenFrom : Viewer → Entry → ℕ → Type 0

@@ -10,7 +10,7 @@ ghost use Rattle.directory_questions.specs.Verdicts.{IsLegal};
 ghost use Rattle.directory_questions.specs.declared.query.Target.TheVariants.{Kind};
 ghost use Rattle.directory_state.specs.Sources.{clock_of, site_of, AreEntriesOf, IsSourceAt, IsUnbounded};
 ghost use Rattle.directory_state.specs.Deadlines.{UrlDeadline, with_deadline, total_cost};
-ghost use Rattle.directory_state.specs.Searches.{deadlines_with, is_found, is_seen, joined, spoken_of, item_at, cost_in, bytes_in, cut_in, seen_of, shortlist_with, IsBound, IsCounted, IsFirst, IsLook, IsSmall, IsKept};
+ghost use Rattle.directory_state.specs.Searches.{deadlines_with, is_found, is_seen, joined, spoken_of, item_at, cost_in, bytes_in, cut_in, seen_of, shortlist_with, IsBound, IsCounted, IsFirst, IsLook, IsSeenFrom, IsSmall, IsKept};
 ghost use Rattle.directory_questions.specs.Items.{is_wanted, AreServices, IsForeign, IsOpenNow};
 ghost use Rattle.directory_state.specs.Fronts.{IsFront, items_in};
 
@@ -182,8 +182,30 @@ impl<'a> Shortlist<'a> {
         }
     }
 
-    // An entry is looked at, once for all scopes. The rules are asked where it may be kept. What was seen before,
-    // by its language, is counted while nothing is kept.
+    // An entry that is seen is kept, if it is asked for. What was seen before, by its language, is counted while nothing is kept.
+    #[inline(always)]
+    fn take(
+        &mut self,
+        seen: Seen<'a>,
+        question: &Search<'_>,
+        before: Spoken,
+    ) -> Result<Spoken, NoMemory>
+        requires kept { IsKept self.old }
+        requires seen { IsSeenFrom question.now.viewer seen.entry.now seen.first }
+        ensures room { self.new.room ≡ self.old.room }
+        ensures kept { IfOk result (λ _. IsKept self.new) }
+        ensures found { IfOk result (λ _. self.new.latest ≡ cut_in self.old.room (deadlines_with (filter (is_found question.now) (seen.entry.entry.now ∷ [])) self.old.latest)) }
+        ensures spoken { IfOk result (λ s. self.new.latest ≡ [] → s ≡ joined before (spoken_of question.now.query.now (filter (is_seen question.now.viewer) (seen.entry.entry.now ∷ [])))) }
+    {
+        if question.wants(seen) {
+            self.put(&seen.entry.url, seen.entry.deadline)?;
+            self.shrink();
+            return Ok(before);
+        }
+        Ok(before.with_entry(question.query, seen.entry))
+    }
+
+    // An entry is looked at, once for all scopes.
     #[inline(always)]
     fn look(
         &mut self,
@@ -200,15 +222,10 @@ impl<'a> Shortlist<'a> {
         ensures found { IfOk result (λ _. self.new.latest ≡ cut_in self.old.room (deadlines_with (filter (is_found question.now) (entry.now ∷ [])) self.old.latest)) }
         ensures spoken { IfOk result (λ s. self.new.latest ≡ [] → s ≡ joined before (spoken_of question.now.query.now (filter (is_seen question.now.viewer) (entry.now ∷ [])))) }
     {
-        let Some(first) = question.viewer.sees(entry, last) else {
-            return Ok(before);
-        };
-        if question.wants(Seen { entry, first }) {
-            self.put(&entry.url, entry.deadline)?;
-            self.shrink();
-            return Ok(before);
+        match question.viewer.sees(entry, last) {
+            Some(first) => self.take(Seen { entry, first }, question, before),
+            None => Ok(before),
         }
-        Ok(before.with_entry(question.query, entry))
     }
 
     // The URL after which nothing is kept, where there is no room for more.
@@ -307,7 +324,12 @@ impl<'a> Shortlist<'a> {
                 }
                 left -= 1;
             }
-            spoken = self.look(entry, question, spoken, &mut last)?;
+            let Some(first) = question.viewer.sees(entry, &mut last) else {
+                let kind = Some(&question.query.kind);
+                from = question.viewer.past_unseen(registry, kind, entry, next);
+                continue;
+            };
+            spoken = self.take(Seen { entry, first }, question, spoken)?;
             from = next;
         }
         Ok(Some(spoken))

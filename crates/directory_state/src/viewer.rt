@@ -2,12 +2,13 @@
 ghost use Rattle.std.specs.declared.cmp.Ordering.TheVariants.{Equal, Less};
 ghost use Rattle.std.specs.Prelude.{◌≡◌, ◌≤◌, ◌∷◌, [], ◌++◌, false, true, filter, length, map, IfOk, Contains, IfSome, IsTrue, MatchOption, None, Some};
 ghost use Rattle.std.specs.Arc.{arc_value};
+ghost use Rattle.std.specs.Option.{option_copied};
 ghost use Rattle.access_rules.specs.Deciding.{deed, deed_in};
 ghost use Rattle.access_rules.specs.declared.rule.Action.TheVariants.{See};
 ghost use Rattle.registry_core.specs.declared.entry.Entry as spec;
-ghost use Rattle.registry_core.specs.Entries.{is_kind, AreByType, IsListing, Passes};
+ghost use Rattle.registry_core.specs.Entries.{is_kind, AreByType, IsListing, Passes, Skips};
 ghost use Rattle.directory_questions.specs.Sights.{is_open_in};
-ghost use Rattle.directory_state.specs.Searches.{are_alike, entries_in, entries_lent, is_listed, is_over, is_seen, left_after, rest_about, AreByKind, AreFoundIn, AreKindsFor, AreSeenBy, IsFirstOpen, IsLook, IsSeenFrom};
+ghost use Rattle.directory_state.specs.Searches.{are_alike_to, entries_in, entries_lent, is_listed, is_over, is_seen, left_after, rest_about, AreByKind, AreFoundIn, AreKindsFor, AreSeenBy, IsFirstOpen, IsLook, IsSeenFrom, PassesUnseen};
 ghost use Rattle.directory_questions.specs.Items.{is_target};
 
 use crate::asked::Viewer;
@@ -49,15 +50,6 @@ const AT_ONCE: usize = 64;
 pub struct KindEntries<'a> {
     pub entries: Vec<&'a Entry>,
     pub are_ordered: bool,
-}
-
-// Whether two entries have the same type, scopes and registrant: the rules say the same of both.
-fn are_alike(entry: &Entry, other: &Entry) -> bool
-    ensures { result ≡ are_alike entry.now other.now }
-{
-    entry.owner == other.owner
-        && entry.kind.text() == other.kind.text()
-        && entry.scopes == other.scopes
 }
 
 // How the type of the last one that was found stands to that of an entry: before it, where there is none.
@@ -202,6 +194,15 @@ impl Viewer<'_> {
         None
     }
 
+    // Whether two entries have the same type and scopes, and the same registrant, or two others than the asker: the rules say the same of both.
+    fn are_alike(&self, entry: &Entry, other: &Entry) -> bool
+        ensures { result ≡ are_alike_to self.now.asker entry.now other.now }
+    {
+        (entry.owner == other.owner || (self.asker != entry.owner && self.asker != other.owner))
+            && entry.kind.text() == other.kind.text()
+            && entry.scopes == other.scopes
+    }
+
     // The same, as it was found of the last entry, where that was alike. A call of its own in the machine's code, so that the walk over entries
     // keeps its registers where it is not made.
     #[cold]
@@ -212,7 +213,7 @@ impl Viewer<'_> {
         ensures first { IsFirstOpen self.now entry.now result }
     {
         if let Some(look) = *last
-            && are_alike(look.entry, entry)
+            && self.are_alike(look.entry, entry)
         {
             return look.first;
         }
@@ -239,6 +240,43 @@ impl Viewer<'_> {
         self.first_open(entry)
     }
 
+    /// A number to go on from after an entry that is not seen: past those that come next and are as little open, where it lives.
+    // A call of its own in the machine's code, so that walks keep their registers.
+    #[inline(never)]
+    pub fn past_unseen<R: Registry>(
+        &self,
+        registry: &R,
+        kind: Option<&ServiceType>,
+        entry: &Entry,
+        next: usize,
+    ) -> usize
+        requires { is_seen self.now entry.now ≡ false }
+        ensures passes { PassesUnseen self.now (R.rest_of_kind registry.now (option_copied kind.entry) next) (R.rest_of_kind registry.now (option_copied kind.entry) result) }
+        ensures onward { next ≤ result }
+    {
+        if entry.deadline <= self.moment {
+            return next;
+        }
+        registry.past_alike(kind, entry, next)
+    }
+
+    // The same of what a question is about.
+    fn past_about<R: Registry>(
+        &self,
+        registry: &R,
+        target: &Target,
+        entry: &Entry,
+        next: usize,
+    ) -> usize
+        requires { is_seen self.now entry.now ≡ false }
+        ensures { let rest = rest_about (R.rest_of_kind registry.now) (R.rest_of_url registry.now) target.now in PassesUnseen self.now (rest next) (rest result) }
+    {
+        match target {
+            Target::Kind(kind) => self.past_unseen(registry, Some(kind), entry, next),
+            Target::Place(_) => next,
+        }
+    }
+
     /// What is open of what a question is about.
     pub fn gather_about<'a, R: Registry>(
         &self,
@@ -253,9 +291,11 @@ impl Viewer<'_> {
         let mut last = None;
         let mut from = 0;
         while let Some((entry, next)) = next_about(registry, target, from) {
-            if let Some(first) = self.sees(entry, &mut last) {
-                found.push(Seen { entry, first })?;
-            }
+            let Some(first) = self.sees(entry, &mut last) else {
+                from = self.past_about(registry, target, entry, next);
+                continue;
+            };
+            found.push(Seen { entry, first })?;
             from = next;
         }
         Ok(found)
@@ -296,6 +336,24 @@ impl Viewer<'_> {
         authority.is_over(entry) && self.sees(entry, last).is_some()
     }
 
+    // A number to go on from after an entry that is not seen, or of another authority.
+    #[inline(never)]
+    fn past_unlisted<R: Registry>(
+        &self,
+        registry: &R,
+        authority: &Authority,
+        entry: &Entry,
+        next: usize,
+    ) -> usize
+        requires { is_listed self.now authority.now entry.now ≡ false }
+        ensures { Skips (λ e. is_listed self.now authority.now e ≡ false) (R.rest_of_kind registry.now None next) (R.rest_of_kind registry.now None result) }
+    {
+        if !authority.is_over(entry) {
+            return next;
+        }
+        self.past_unseen(registry, None, entry, next)
+    }
+
     /// Of what is open an entry of each type of a naming authority, and it may be more. Where one of a type was seen, the walk goes on past the others
     /// of the type, if the registry knows where they end: after a look at the next one, and where the type before had others, without.
     /// Where the registry walks by type, it ends at the first for which there is no room, in bytes.
@@ -325,8 +383,8 @@ impl Viewer<'_> {
                 repeats = true;
                 continue;
             }
-            from = next;
             if !self.lists(entry, authority, &mut last) {
+                from = self.past_unlisted(registry, authority, entry, next);
                 continue;
             }
             are_ordered = still_ordered(are_ordered, order);

@@ -8,6 +8,7 @@ use Rattle.registry_core.specs.Entries.{AreByType}
 use Rattle.directory_state.specs.Searches.{entries_lent, is_listed, is_over, left_after, AreByKind, HasEachKind, HasFirstKinds}
 use Rattle.directory_state.specs.TypeRooms.{bytes_of, IsMore}
 use Rattle.directory_state.proofs.EachKind.{each-itself, each-past}
+use Rattle.directory_state.proofs.PassedEntries.{filter-past}
 use Rattle.directory_state.proofs.SeenUrls.{here}
 use Rattle.directory_state.proofs.TypeFronts.{by_type-later, counted-first, first-kinds, left-counted, left-some, over-more, over-some, some-weaker}
 use Rattle.directory_state.proofs.asked.Viewer.gather_types.Goals as goal
@@ -49,6 +50,23 @@ loop-entry-preserved-then-is_equal g c =
       last = c.loop-entry.invariant.last;
       sorted = some-weaker (AreByType (rest c.loop-entry.from)) (AreByType (rest c.past_kind-from.result)) c.loop-entry.left
           (λ up. by_type-later (e ∷ passed.0) (rest c.past_kind-from.result) (subst AreByType split up)) c.loop-entry.invariant.sorted;
+      counted = c.loop-entry.invariant.counted;
+    }
+
+pub loop-entry-preserved-then-not-lists : goal.loop-entry-preserved-then-not-lists
+loop-entry-preserved-then-not-lists g c =
+    let is = is_listed c.args.self.now c.args.authority.now in
+    let rest : ℕ → List Entry = g.R.Registry.rest_of_kind c.args.registry.now None in
+    let e : Entry = c.in-Some.entry.now in
+    let found : List Entry = entries_lent c.loop-entry.entries.items in
+    let unlisted : is e ≡ false = sym c.lists.ensures.listed ∙ c.if-not-lists.true in
+    let passed = c.past_unlisted-from.ensures in
+    let split : rest c.loop-entry.from ≡ (e ∷ passed.0) ++ rest c.past_unlisted-from.result = c.in-Some.ensures.next ∙ ap (λ es. e ∷ es) passed.1 in record {
+      each = subst (λ es. HasEachKind (filter is (rest 0)) (found ++ es)) (ap (filter is) c.in-Some.ensures.next ∙ filter-past is e (rest c.in-Some.next) (rest c.past_unlisted-from.result) unlisted passed) c.loop-entry.invariant.each;
+      ordered = c.loop-entry.invariant.ordered;
+      last = c.lists.ensures.last;
+      sorted = some-weaker (AreByType (rest c.loop-entry.from)) (AreByType (rest c.past_unlisted-from.result)) c.loop-entry.left
+          (λ up. by_type-later (e ∷ passed.0) (rest c.past_unlisted-from.result) (subst AreByType split up)) c.loop-entry.invariant.sorted;
       counted = c.loop-entry.invariant.counted;
     }
 

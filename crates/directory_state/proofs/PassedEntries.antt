@@ -1,0 +1,71 @@
+-- What is passed over: entries that are not seen.
+use Rattle.std.proofs.Common.{◌≡◌, ◌≤◌, ℕ, Bool, true, false, cond, List, [], ◌∷◌, ◌++◌, length, filter, refl, sym, ap, ◌∙◌, arith}
+use Rattle.std.specs.Prelude.{◌==◌, ◌&&◌, not}
+use Rattle.std.specs.List.{list_any, AllByRecursion}
+use Rattle.std.proofs.lemmas.Bool.{and_from, and_parts, or_left}
+use Rattle.std.proofs.lemmas.List.{length-append}
+use Rattle.slp_text.specs.Words.{bytes_eq, texts_eq}
+use Rattle.registry_core.specs.declared.entry.Entry.{Entry}
+use Rattle.registry_core.specs.Entries.{are_alike, outlives, PassesAlike, Skips}
+use Rattle.directory_questions.specs.Items.{is_under, is_wanted}
+use Rattle.directory_questions.specs.declared.query.Authority.{Authority}
+use Rattle.directory_state.specs.Searches.{are_alike_to, is_allowed, is_found, is_listed, is_seen, seen_of, PassesUnseen}
+use Rattle.directory_state.specs.declared.asked.Viewer.{Viewer}
+use Rattle.directory_state.specs.declared.search.Search.{Search}
+use Rattle.directory_state.proofs.ShownEntries.{open_in-alike}
+
+module _ (P Q : Entry → Type 0) (weaker : (e : Entry) → P e → Q e) where
+  all-weaker : (es : List Entry) → AllByRecursion P es → AllByRecursion Q es
+  all-weaker [] all = tt
+  all-weaker (e ∷ es) all = (weaker e all.0, all-weaker es all.1)
+
+  pub skips-weaker : (es rest : List Entry) → Skips P es rest → Skips Q es rest
+  skips-weaker es rest skips = (skips.0, skips.1, all-weaker skips.0 skips.2)
+
+module _ (p : Entry → Bool) where
+  filter-none : (es rest : List Entry) → AllByRecursion (λ e. p e ≡ false) es → filter p (es ++ rest) ≡ filter p rest
+  filter-none [] rest all = refl
+  filter-none (e ∷ es) rest all = ap (λ b. cond b (e ∷ filter p (es ++ rest)) (filter p (es ++ rest))) all.0 ∙ filter-none es rest all.1
+
+  pub filter-skips : (es rest : List Entry) → Skips (λ e. p e ≡ false) es rest → filter p es ≡ filter p rest
+  filter-skips es rest skips = ap (filter p) skips.1 ∙ filter-none skips.0 rest skips.2
+
+  pub filter-past : (e : Entry) (es rest : List Entry) → p e ≡ false → Skips (λ f. p f ≡ false) es rest → filter p (e ∷ es) ≡ filter p rest
+  filter-past e es rest not_this skips = ap (λ b. cond b (e ∷ filter p es) (filter p es)) not_this ∙ filter-skips es rest skips
+
+pub length-skips : (P : Entry → Type 0) (es rest : List Entry) → Skips P es rest → length rest ≤ length es
+length-skips P es rest skips = let same = ap length skips.1 in let sum = length-append skips.0 rest in omega (arith, same, sum)
+
+not-both : (a b : Bool) → a ≡ true → (a && b) ≡ false → b ≡ false
+not-both true b is none = none
+not-both false b is none = absurd cc
+
+none-both : (a b : Bool) → b ≡ false → (a && b) ≡ false
+none-both true b none = none
+none-both false b none = refl
+
+alike-to : (asker : ℕ) (e f : Entry) → are_alike e f ≡ true → are_alike_to asker e f ≡ true
+alike-to asker e f alike =
+    let scopes = and_parts (e.owner == f.owner && bytes_eq e.kind f.kind) (texts_eq e.scopes f.scopes) alike in
+    let kinds = and_parts (e.owner == f.owner) (bytes_eq e.kind f.kind) scopes.0 in
+    and_from _ _ (and_from _ _ (or_left (e.owner == f.owner) (not (asker == e.owner) && not (asker == f.owner)) kinds.0) kinds.1) scopes.1
+
+-- one that is alike to one that lives and is not seen is not seen
+unseen-alike : (v : Viewer) (e f : Entry) → outlives v.moment e ≡ true → is_seen v e ≡ false → are_alike e f ≡ true → is_seen v f ≡ false
+unseen-alike v e f lives unseen alike =
+    let to : are_alike_to v.asker e f ≡ true = alike-to v.asker e f alike in
+    let here : is_allowed v.rules.now v.asker v.asked e ≡ false = not-both (outlives v.moment e) _ lives unseen in
+    none-both (outlives v.moment f) _ (ap (λ opens. list_any opens v.asked) (sym (open_in-alike v e f to)) ∙ here)
+
+pub unseen-passes : (v : Viewer) (e : Entry) (es rest : List Entry) → outlives v.moment e ≡ true → is_seen v e ≡ false → PassesAlike e es rest → PassesUnseen v es rest
+unseen-passes v e es rest lives unseen = skips-weaker (λ f. are_alike e f ≡ true) (λ f. is_seen v f ≡ false) (λ f alike. unseen-alike v e f lives unseen alike) es rest
+
+pub unlisted-passes : (v : Viewer) (a : Authority) (es rest : List Entry) → PassesUnseen v es rest → Skips (λ e. is_listed v a e ≡ false) es rest
+unlisted-passes v a = skips-weaker (λ e. is_seen v e ≡ false) (λ e. is_listed v a e ≡ false) (λ e unseen. none-both (is_under a e) (is_seen v e) unseen)
+
+-- what is not seen is not found
+pub unseen-found : (s : Search) (e : Entry) → is_seen s.viewer e ≡ false → is_found s e ≡ false
+unseen-found s e unseen = ap (λ b. b && is_wanted s.query.now (seen_of s.viewer e)) unseen
+
+pub unfound-passes : (s : Search) (es rest : List Entry) → PassesUnseen s.viewer es rest → Skips (λ e. is_found s e ≡ false) es rest
+unfound-passes s = skips-weaker (λ e. is_seen s.viewer e ≡ false) (λ e. is_found s e ≡ false) (unseen-found s)
