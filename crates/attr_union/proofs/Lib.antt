@@ -1,3 +1,4 @@
+pub mod FirstValues
 pub mod KeptPieces
 pub mod LentUnions
 pub mod LentValues

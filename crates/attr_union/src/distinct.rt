@@ -1,5 +1,5 @@
 ghost use Rattle.std.specs.Prelude.{◌≡◌, ◌++◌, ◌∷◌, [], if◌then◌else◌, IfOk};
-ghost use Rattle.attr_list.specs.Lists.{distinct_values};
+ghost use Rattle.attr_union.specs.Rooms.{AreFirstDistinct};
 ghost use Rattle.attr_union.specs.Unions.{IsIdentity};
 
 use crate::lent::LentValue;
@@ -43,10 +43,14 @@ fn keep_if<'a>(
     Ok(())
 }
 
-/// Values without those that are the same as an earlier one. It takes time for the number of values and
-/// its logarithm.
-pub fn distinct<'a>(alloc: Global, values: &[LentValue<'a>]) -> Result<Vec<LentValue<'a>>, NoMemory>
-    ensures { IfOk result (λ v. v.items ≡ distinct_values values.now) }
+/// Values without those that are the same as an earlier one; where these are more than `most`, the first of them suffice. It takes time
+/// for the number of values that are looked at and its logarithm.
+pub fn distinct<'a>(
+    alloc: Global,
+    values: &[LentValue<'a>],
+    most: usize,
+) -> Result<Vec<LentValue<'a>>, NoMemory>
+    ensures { IfOk result (λ v. AreFirstDistinct most values.now v.items) }
 {
     let mut seen = BTreeSet::new(alloc);
     let mut kept = Vec::new(alloc);
@@ -54,6 +58,9 @@ pub fn distinct<'a>(alloc: Global, values: &[LentValue<'a>]) -> Result<Vec<LentV
         let identity = identity_of(alloc, lent.value)?;
         let is_new = seen.insert(identity)?;
         keep_if(is_new, lent.value, &mut kept)?;
+        if kept.len() > most {
+            return Ok(kept);
+        }
     }
     Ok(kept)
 }

@@ -1,6 +1,7 @@
-ghost use Rattle.std.specs.Prelude.{◌≡◌, ◌<◌, ◌++◌, slice_get, string_bytes, IfOk, IfSome};
+ghost use Rattle.std.specs.Prelude.{◌≡◌, ◌<◌, slice_get, string_bytes, IfOk, IfSome};
 ghost use Rattle.std.specs.FinMap as fin;
 ghost use Rattle.attr_list.specs.Texts.{attribute_text};
+ghost use Rattle.attr_union.specs.Rooms.{IsWrittenWithin};
 ghost use Rattle.attr_union.specs.Unions.{union_of, IsUnion};
 
 use crate::gathering::Joined;
@@ -51,15 +52,22 @@ impl<'a> AttrUnion<'a> {
         self.tags.len()
     }
 
-    /// Appends the attribute at a place below the length, counted from 0 in key order, each of its values once. Where
+    /// Appends the attribute at a place below the length, counted from 0 in key order, each of its values once. Where there is too little
+    /// room for it with what was there, in bytes, it may be something else that is too long; no more is joined than makes this clear. Where
     /// memory runs out, a part of it may stand there.
-    pub fn print_one(&self, alloc: Global, place: usize, out: &mut String) -> Result<(), NoMemory>
+    pub fn print_one(
+        &self,
+        alloc: Global,
+        place: usize,
+        room: usize,
+        out: &mut String,
+    ) -> Result<(), NoMemory>
         requires { place < fin.len self.now }
-        ensures { IfOk result (λ _. IfSome (slice_get (fin.entries self.now) place) (λ p. string_bytes out.new ≡ string_bytes out.old ++ attribute_text p.0 p.1)) }
+        ensures { IfOk result (λ _. IfSome (slice_get (fin.entries self.now) place) (λ p. IsWrittenWithin room (string_bytes out.old) (attribute_text p.0 p.1) (string_bytes out.new))) }
     {
         let Some(joined) = self.tags.get(place) else {
             unreachable!()
         };
-        append_attribute(alloc, &joined.tag, &joined.values, out)
+        append_attribute(alloc, &joined.tag, &joined.values, room, out)
     }
 }

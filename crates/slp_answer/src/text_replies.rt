@@ -31,7 +31,7 @@ impl Texts for TypeTexts<'_> {
         self.entries.len()
     }
 
-    fn print(&self, place: usize, out: &mut String) -> Result<(), NoMemory> {
+    fn print(&self, place: usize, _room: usize, out: &mut String) -> Result<(), NoMemory> {
         let entry: &Entry = self.entries[place];
         out.push_str(entry.kind.text())?;
         Ok(())

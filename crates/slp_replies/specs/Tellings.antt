@@ -3,7 +3,6 @@ use Rattle.std.specs.Prelude.{◌≡◌, ℕ, List, [], Option, Some, None}
 use Rattle.std.specs.Option.{option_map_or}
 use Rattle.slp_headers.specs.Headers.{Heading, heading_in}
 use Rattle.access_rules.specs.Deciding.{SiteRules}
-use Rattle.directory_judge.specs.Meaning.{rules}
 use Rattle.directory_judge.specs.Judgements.{by_step, code_by}
 use Rattle.directory_judge.specs.declared.reason.Because.{Because}
 use Rattle.directory_judge.specs.declared.reason.Decider.TheVariants as decider

@@ -1,6 +1,7 @@
 //! Texts that a reply lists with commas, from the front as many as there is room for (RFC 2608, sections 10.2
 //! and 10.4).
 ghost use Rattle.std.specs.Prelude.{◌≡◌, ◌<◌, ◌≤◌, ◌+◌, ◌++◌, ℕ, true, false, IfOk, IfSome, length, slice_get, string_bytes};
+ghost use Rattle.attr_union.specs.Rooms.{IsWrittenWithin};
 ghost use Rattle.slp_replies.specs.TextLists.{written_next, IsAppendedFront};
 
 use attr_union::AttrUnion;
@@ -17,10 +18,11 @@ pub trait Texts {
     fn number(&self) -> usize
         ensures { result ≡ length (texts self.now) };
 
-    /// Appends the one at a place. Where memory runs out, a part of it may stand there.
-    fn print(&self, place: usize, out: &mut String) -> Result<(), NoMemory>
+    /// Appends the one at a place. Where there is too little room for it with what was there, in bytes, it may be something else that
+    /// is too long. Where memory runs out, a part of it may stand there.
+    fn print(&self, place: usize, room: usize, out: &mut String) -> Result<(), NoMemory>
         requires { place < length (texts self.now) }
-        ensures { IfOk result (λ _. IfSome (slice_get (texts self.now) place) (λ t. string_bytes out.new ≡ string_bytes out.old ++ t)) };
+        ensures { IfOk result (λ _. IfSome (slice_get (texts self.now) place) (λ t. IsWrittenWithin room (string_bytes out.old) t (string_bytes out.new))) };
 }
 
 /// Attributes, each as it is written, in key order.
@@ -39,20 +41,25 @@ impl Texts for AttributeTexts<'_, '_> {
         self.attributes.len()
     }
 
-    fn print(&self, place: usize, out: &mut String) -> Result<(), NoMemory> {
-        self.attributes.print_one(self.alloc, place, out)
+    fn print(&self, place: usize, room: usize, out: &mut String) -> Result<(), NoMemory> {
+        self.attributes.print_one(self.alloc, place, room, out)
     }
 }
 
-// Appends the text at a place, after a comma where it is not the first.
-fn append_next<T: Texts>(texts: &T, place: usize, out: &mut String) -> Result<(), NoMemory>
+// Appends the text at a place, after a comma where it is not the first, or something else where that is too long.
+fn append_next<T: Texts>(
+    texts: &T,
+    place: usize,
+    room: usize,
+    out: &mut String,
+) -> Result<(), NoMemory>
     requires { place < length (T.texts texts.now) }
-    ensures { IfOk result (λ _. IfSome (slice_get (T.texts texts.now) place) (λ t. string_bytes out.new ≡ string_bytes out.old ++ written_next place t)) }
+    ensures { IfOk result (λ _. IfSome (slice_get (T.texts texts.now) place) (λ t. IsWrittenWithin room (string_bytes out.old) (written_next place t) (string_bytes out.new))) }
 {
     if place > 0 {
         out.push(',')?;
     }
-    texts.print(place, out)
+    texts.print(place, room, out)
 }
 
 // Appends the text at a place, after a comma where it is not the first, if the whole then has room. Whether it has; if
@@ -66,7 +73,7 @@ fn add<T: Texts>(texts: &T, place: usize, room: usize, out: &mut String) -> Resu
     ensures over { IfOk result (λ fits. fits ≡ false → IfSome (slice_get (T.texts texts.now) place) (λ t. room < length (string_bytes out.old ++ written_next place t))) }
 {
     let before = out.len();
-    append_next(texts, place, out)?;
+    append_next(texts, place, room, out)?;
     if out.len() > room {
         out.truncate(before);
         return Ok(false);

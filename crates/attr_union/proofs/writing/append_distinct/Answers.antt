@@ -1,4 +1,4 @@
-use Rattle.std.proofs.Common.{◌≡◌, ◌<◌, List, [], ◌∷◌, ◌++◌, length, map, ap, ◌∙◌, refl, arith}
+use Rattle.std.proofs.Common.{◌≡◌, ◌<◌, List, [], ◌∷◌, ◌++◌, length, map, ap, ◌∙◌, refl, arith, inl}
 use Rattle.std.specs.Prelude.{string_bytes}
 use Rattle.std.proofs.lemmas.Result.{IfOk-weaker}
 use Rattle.slp_text.specs.Lists.{comma_list}
@@ -13,7 +13,7 @@ few (v ∷ []) h = refl
 few (v ∷ w ∷ vs) h = absurd (omega (arith, h))
 
 pub returns-then-values-lt2 : goal.returns-then-values-lt2
-returns-then-values-lt2 c = IfOk-weaker c.append_values.result _ _ (λ u is. is ∙ ap (λ vs. string_bytes c.args.out.now ++ comma_list (map value_text vs)) (few c.args.values.now (omega arith))) c.append_values.ensures
+returns-then-values-lt2 c = IfOk-weaker c.append_values.result _ _ (λ u is. (c.args.values.now, inl (few c.args.values.now (omega arith)), is)) c.append_values.ensures
 
 pub returns : goal.returns
-returns c = IfOk-weaker c.append_values-2.result _ _ (λ u is. is ∙ ap (λ vs. string_bytes c.args.out.now ++ comma_list (map value_text vs)) (c.deref.ensures.value ∙ c.in_ok-kept.ensures)) c.append_values-2.ensures
+returns c = IfOk-weaker c.append_values-2.result _ _ (λ u is. (c.in_ok-kept.kept.items, c.in_ok-kept.ensures, is ∙ ap (λ vs. string_bytes c.args.out.now ++ comma_list (map value_text vs)) c.deref.ensures.value)) c.append_values-2.ensures
