@@ -1,4 +1,4 @@
-ghost use Rattle.std.specs.Prelude.{◌≡◌, ◌<◌, ◌≤◌, ◌&&◌, [], ◌∷◌, IfOk, IfSome, MatchOption, OnErr, None, Some, position};
+ghost use Rattle.std.specs.Prelude.{◌≡◌, ◌-◌, ◌<◌, ◌≤◌, ◌&&◌, [], ◌∷◌, IfOk, IfSome, MatchOption, OnErr, None, Some, position};
 ghost use Rattle.std.specs.Arc.{arc_value};
 ghost use Rattle.std.specs.FinMap as fin;
 ghost use Rattle.std.specs.Option.{option_copied};
@@ -71,6 +71,7 @@ fn next_of_kind<'a>(
     from: usize,
 ) -> Option<(&'a Entry, usize)>
     ensures next { MatchOption result (kinds_from (Some kind.now) entries.now from ≡ []) (λ p. kinds_from (Some kind.now) entries.now from ≡ p.0.now ∷ kinds_from (Some kind.now) entries.now p.1) }
+    ensures there { IfSome result (λ p. kinds_from (Some kind.now) entries.now (p.1 - 1) ≡ p.0.now ∷ kinds_from (Some kind.now) entries.now p.1) }
     ensures onward { IfSome result (λ p. from < p.1) }
 {
     for at in from..entries.len() {
@@ -85,6 +86,7 @@ fn next_of_kind<'a>(
 // The entry at a place, with the place after it.
 fn next_entry(entries: &[Arc<Entry>], from: usize) -> Option<(&Entry, usize)>
     ensures next { MatchOption result (entries_from entries.now from ≡ []) (λ p. entries_from entries.now from ≡ p.0.now ∷ entries_from entries.now p.1) }
+    ensures there { IfSome result (λ p. entries_from entries.now (p.1 - 1) ≡ p.0.now ∷ entries_from entries.now p.1) }
     ensures onward { IfSome result (λ p. from < p.1) }
 {
     if from >= entries.len() {
@@ -102,6 +104,7 @@ fn next_of<'a>(
     from: usize,
 ) -> Option<(&'a Entry, usize)>
     ensures next { MatchOption result (kinds_from (Some kind.now) entries.now from ≡ []) (λ p. kinds_from (Some kind.now) entries.now from ≡ p.0.now ∷ kinds_from (Some kind.now) entries.now p.1) }
+    ensures there { IfSome result (λ p. kinds_from (Some kind.now) entries.now (p.1 - 1) ≡ p.0.now ∷ kinds_from (Some kind.now) entries.now p.1) }
     ensures onward { IfSome result (λ p. from < p.1) }
 {
     let Some((entry, next)) = next_entry(entries, from) else {
@@ -212,6 +215,10 @@ impl Registry for ListRegistry {
             Some(kind) => next_of(&self.entries, kind, from),
             None => next_entry(&self.entries, from),
         }
+    }
+
+    fn next_alike(&self, _kind: Option<&ServiceType>, _from: usize) -> Option<&Entry> {
+        None
     }
 
     #[inline(never)]

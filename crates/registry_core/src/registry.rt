@@ -1,8 +1,9 @@
-ghost use Rattle.std.specs.Prelude.{◌≡◌, ◌<◌, ◌≤◌, ◌∷◌, [], ◌↔◌, length, filter, map, is_some, not, true, IsErrOf, OnOk, OnErr, IfOk, IfSome, IsTrue, MatchOption, None, Some};
+ghost use Rattle.std.specs.Prelude.{◌≡◌, ◌+◌, ◌-◌, ◌<◌, ◌≤◌, ◌∷◌, [], ◌↔◌, length, filter, map, is_some, not, true, IsErrOf, OnOk, OnErr, IfOk, IfSome, IsTrue, MatchOption, None, Some};
 ghost use Rattle.std.specs.Arc.{arc_value};
 ghost use Rattle.std.specs.FinMap as fin;
 ghost use Rattle.std.specs.Option.{option_copied};
-ghost use Rattle.registry_core.specs.Entries.{Pair, pair_of, outlives, if_kept, passing_entries, is_at_place, is_kind, is_of_url, is_within, is_registered, AreByType, IsListing, Passes, PassesAlike};
+ghost use Rattle.registry_core.specs.Entries.{Pair, are_alike, pair_of, outlives, if_kept, passing_entries, is_at_place, is_kind, is_of_url, is_within, is_registered, AreByType, IsListing, Passes, PassesAlike};
+ghost use Rattle.registry_core.specs.declared.entry.Entry.{Entry as Held};
 ghost use Rattle.registry_core.specs.declared.registry.RegistryFault.TheVariants as fault;
 
 use crate::entry::Entry;
@@ -105,7 +106,15 @@ pub trait Registry {
     fn by_kind(&self, kind: Option<&ServiceType>, from: usize) -> Option<(&Entry, usize)>
         ensures next { MatchOption result (rest_of_kind self.now (option_copied kind.entry) from ≡ []) (λ p. rest_of_kind self.now (option_copied kind.entry) from ≡ p.0.now ∷ rest_of_kind self.now (option_copied kind.entry) p.1) }
         ensures whole { IsListing (is_kind (option_copied kind.entry)) (contents self.now) (rest_of_kind self.now (option_copied kind.entry) 0) }
+        ensures there { IfSome result (λ p. rest_of_kind self.now (option_copied kind.entry) (p.1 - 1) ≡ p.0.now ∷ rest_of_kind self.now (option_copied kind.entry) p.1) }
         ensures onward { IfSome result (λ p. from < p.1) };
+
+    /// The entry that `by_kind` gives at a number, if it is known to be alike to the one that it gives at the number before: of its type, its
+    /// scopes and its registrant. The next number is the one after it.
+    fn next_alike(&self, kind: Option<&ServiceType>, from: usize) -> Option<&Entry>
+        ensures next { IfSome result (λ f. (e : Held) → rest_of_kind self.now (option_copied kind.entry) (from - 1) ≡ e ∷ rest_of_kind self.now (option_copied kind.entry) from
+            → (rest_of_kind self.now (option_copied kind.entry) from ≡ f.now ∷ rest_of_kind self.now (option_copied kind.entry) (from + 1)) × (are_alike e f.now ≡ true)) }
+        ensures within { IfSome result (λ _. from < 65536) };
 
     /// The same without the entries whose URL comes after a bound, in byte order. A registry that walks in that order
     /// ends there.

@@ -315,6 +315,19 @@ impl Registry for TableRegistry {
         self.walk(None, kind, None, from)
     }
 
+    #[inline(always)]
+    fn next_alike(&self, kind: Option<&ServiceType>, from: usize) -> Option<&Entry> {
+        let order = self.order(by_for(kind));
+        if from == 0 || from >= order.len() {
+            return None;
+        }
+        let (last, next) = (order.at(from - 1), order.at(from));
+        if !self.are_one(last, next) {
+            return None;
+        }
+        Some(self.slots.held(next))
+    }
+
     fn by_kind_within(
         &self,
         kind: Option<&ServiceType>,

@@ -1,5 +1,5 @@
 //! Walks along the orders: of a type, of a URL.
-ghost use Rattle.std.specs.Prelude.{◌≡◌, ◌<◌, ◌≤◌, [], ◌∷◌, length, slice_index, not, IfSome, Bool, MatchOption, None, Some, Option, true, false};
+ghost use Rattle.std.specs.Prelude.{◌≡◌, ◌-◌, ◌<◌, ◌≤◌, [], ◌∷◌, length, slice_index, not, IfSome, Bool, MatchOption, None, Some, Option, true, false};
 ghost use Rattle.std.specs.Option.{option_copied};
 ghost use Rattle.registry_core.specs.declared.entry.Entry.{Entry as Held};
 ghost use Rattle.registry_core.specs.Entries.{is_kind, is_registered, is_of_url, is_within, IsListing, PassesAlike};
@@ -165,6 +165,8 @@ impl TableRegistry {
         ensures next { let b = by_for_kind (option_copied kind.entry) in let p = is_wanted (option_copied bound.entry) (option_copied kind.entry) (option_copied scope.entry) in
             MatchOption result (walked b self.now p from ≡ []) (λ r. walked b self.now p from ≡ r.0.now ∷ walked b self.now p r.1) }
         ensures whole { (p : Held → Bool) → IsListing p (contents_of self.now) (walked (by_for_kind (option_copied kind.entry)) self.now p 0) }
+        ensures there { let b = by_for_kind (option_copied kind.entry) in let p = is_wanted (option_copied bound.entry) (option_copied kind.entry) (option_copied scope.entry) in
+            IfSome result (λ r. walked b self.now p (r.1 - 1) ≡ r.0.now ∷ walked b self.now p r.1) }
         ensures onward { IfSome result (λ r. from < r.1) }
     {
         let order = self.order(by_for(kind));

@@ -1,9 +1,9 @@
-use Rattle.std.proofs.Common.{◌≡◌, ◌<◌, ℕ, List, length, get_or, Some, sym, ap, subst, ◌∙◌, arith}
+use Rattle.std.proofs.Common.{◌≡◌, ◌<◌, ◌+◌, ◌-◌, ℕ, List, length, get_or, Some, sym, ap, subst, ◌∙◌, arith}
 use Rattle.std.specs.Option.{option_copied}
 use Rattle.registry_core.specs.declared.entry.Entry.{Entry as Held}
 use Rattle.registry_slots.specs.Slots.{slot_at, tests}
 use Rattle.registry_slots.proofs.Ranks.{held_at, length_most}
-use Rattle.table_registry.specs.Tables.{Table, by_for, order_of, is_wanted}
+use Rattle.table_registry.specs.Tables.{Table, by_for, order_of, is_wanted, walked}
 use Rattle.table_registry.proofs.Along.{gather_here, gather_to, gather_end}
 use Rattle.table_registry.proofs.table.TableRegistry.walk.Goals as goal
 
@@ -39,3 +39,16 @@ returns-in-Some-clause-next c =
 pub returns-in-None-clause-next : goal.returns-in-None-clause-next
 returns-in-None-clause-next c =
     gather_end (is_wanted (option_copied c.args.bound) (option_copied c.args.kind) (option_copied c.args.scope)) c.args.self.now.slots (order_of (by_for (option_copied c.args.kind)) c.args.self.now) c.args.from c.in-None.ensures
+
+pub returns-in-Some-clause-there : goal.returns-in-Some-clause-there
+returns-in-Some-clause-there c =
+    let t : Table = c.args.self.now in
+    let L : List ℕ = order_of (by_for (option_copied c.args.kind)) t in
+    let p = is_wanted (option_copied c.args.bound) (option_copied c.args.kind) (option_copied c.args.scope) in
+    let O : c.order-order.result.now.items ≡ L = c.order-order.ensures.items ∙ ap (λ b. order_of b t) c.by_for.ensures in
+    let f = c.in-Some.ensures in
+    let i : ℕ = c.in-Some.at in
+    let e : Held = c.held.result.now in
+    let there : slot_at t.slots (get_or L i 0) ≡ Some e = ap (λ (o : List ℕ). slot_at t.slots (get_or o i 0)) (sym O) ∙ ap (slot_at t.slots) (sym c.at.ensures.value) ∙ ap (λ (t : Table). slot_at t.slots c.at.result) (sym c.self.view_is) ∙ c.held.ensures in
+    let at : i + 1 - 1 ≡ i = omega arith in
+    ap (walked (by_for (option_copied c.args.kind)) t p) at ∙ gather_here p t.slots L i e f.1 there (sym (ap (tests p) there) ∙ f.3)
