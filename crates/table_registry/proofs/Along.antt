@@ -1,6 +1,6 @@
 -- Walks along the orders of a table.
 use Rattle.std.proofs.Common.{◌≡◌, ◌≢◌, ℕ, zero, suc, ◌+◌, ◌-◌, ◌<◌, ◌≤◌, Bool, true, false, cond, ◌&&◌, List, [], ◌∷◌, length, drop, get_or, filter, Option, Some, None, refl, sym, ap, ap₂, ◌∙◌, arith, inl, inr, ◌⊎◌, add-one, drop-cons}
-use Rattle.std.specs.Prelude.{not, is_some, MatchOption}
+use Rattle.std.specs.Prelude.{not, is_some, IfSome, MatchOption}
 use Rattle.std.specs.Borrow.{Bor}
 use Rattle.std.proofs.lemmas.Option.{none-some, cond_some}
 use Rattle.std.specs.Ordering.{is_lt, is_le, ordering_then, match_ordering}
@@ -214,6 +214,10 @@ whole way slots order o a p =
 pub match_same : (r : Option (Bor Entry × ℕ)) (f g : ℕ → List Entry) (from : ℕ) → ((n : ℕ) → f n ≡ g n) → MatchOption r (f from ≡ []) (λ p. f from ≡ p.0.now ∷ f p.1) → MatchOption r (g from ≡ []) (λ p. g from ≡ p.0.now ∷ g p.1)
 match_same None f g from s h = sym (s from) ∙ h
 match_same (Some p) f g from s h = sym (s from) ∙ h ∙ ap (λ es. p.0.now ∷ es) (s p.1)
+
+pub there_same : (r : Option (Bor Entry × ℕ)) (f g : ℕ → List Entry) → ((n : ℕ) → f n ≡ g n) → IfSome r (λ p. f (p.1 - 1) ≡ p.0.now ∷ f p.1) → IfSome r (λ p. g (p.1 - 1) ≡ p.0.now ∷ g p.1)
+there_same None f g s h = tt
+there_same (Some p) f g s h = sym (s (p.1 - 1)) ∙ h ∙ ap (λ es. p.0.now ∷ es) (s p.1)
 
 and_true : (b : Bool) → (b && true) ≡ b
 and_true true = refl

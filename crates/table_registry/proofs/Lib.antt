@@ -1,5 +1,6 @@
 pub mod Along
 pub mod Contents
+pub mod Neighbours
 pub mod OneType
 pub mod Ranges
 pub mod TypeOrder

@@ -5,7 +5,7 @@ use Rattle.registry_core.specs.Entries.{if_kept, is_kind}
 use Rattle.registry_slots.specs.Slots.{slot_at, gathered}
 use Rattle.registry_slots.proofs.Ranks.{held_at}
 use Rattle.table_registry.specs.Tables.{Table, by_for, is_wanted, order_of, walked}
-use Rattle.table_registry.proofs.Along.{match_same, of_kind, gather_here}
+use Rattle.table_registry.proofs.Along.{match_same, of_kind, there_same, gather_here}
 use Rattle.table_registry.proofs.table.TableRegistryRegistry.by_kind.Goals as goal
 
 pub held-entry-requires : goal.held-entry-requires
@@ -52,5 +52,4 @@ pub returns-clause-there : goal.returns-clause-there
 returns-clause-there c =
     let k = option_copied c.args.kind in
     let t = c.args.self.now in
-    some_same c.walk.result (λ r. walked (by_for k) t (is_wanted None k None) (r.1 - 1) ≡ r.0.now ∷ walked (by_for k) t (is_wanted None k None) r.1) (λ r. walked (by_for k) t (is_kind k) (r.1 - 1) ≡ r.0.now ∷ walked (by_for k) t (is_kind k) r.1)
-    (λ r is. sym (of_kind k t.slots (drop (r.1 - 1) (order_of (by_for k) t))) ∙ is ∙ ap (λ es. r.0.now ∷ es) (of_kind k t.slots (drop r.1 (order_of (by_for k) t)))) c.walk.ensures.there
+    there_same c.walk.result (walked (by_for k) t (is_wanted None k None)) (walked (by_for k) t (is_kind k)) (λ n. of_kind k t.slots (drop n (order_of (by_for k) t))) c.walk.ensures.there
