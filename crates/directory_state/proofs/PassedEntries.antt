@@ -1,6 +1,6 @@
 -- What is passed over: entries that are not seen.
-use Rattle.std.proofs.Common.{◌≡◌, ◌≤◌, ℕ, Bool, true, false, cond, List, [], ◌∷◌, ◌++◌, length, filter, refl, sym, ap, ◌∙◌, arith}
-use Rattle.std.specs.Prelude.{◌==◌, ◌&&◌, not}
+use Rattle.std.proofs.Common.{◌≡◌, ◌≤◌, ℕ, Bool, true, false, cond, List, [], ◌∷◌, ◌++◌, length, filter, refl, sym, ap, ◌∙◌, arith, ◌+◌, ◌-◌, Option, Some, None}
+use Rattle.std.specs.Prelude.{MatchOption, ◌==◌, ◌&&◌, not}
 use Rattle.std.specs.List.{list_any, AllByRecursion}
 use Rattle.std.proofs.lemmas.Bool.{and_from, and_parts, or_left}
 use Rattle.std.proofs.lemmas.List.{length-append}
@@ -9,10 +9,10 @@ use Rattle.registry_core.specs.declared.entry.Entry.{Entry}
 use Rattle.registry_core.specs.Entries.{are_alike, outlives, PassesAlike, Skips}
 use Rattle.directory_questions.specs.Items.{is_under, is_wanted}
 use Rattle.directory_questions.specs.declared.query.Authority.{Authority}
-use Rattle.directory_state.specs.Searches.{are_alike_to, is_allowed, is_found, is_listed, is_seen, seen_of, PassesUnseen}
+use Rattle.directory_state.specs.Searches.{are_alike_to, is_allowed, is_found, is_listed, is_seen, seen_of, IsFirst, IsOpenBefore, IsSeenFrom, PassesUnseen}
 use Rattle.directory_state.specs.declared.asked.Viewer.{Viewer}
 use Rattle.directory_state.specs.declared.search.Search.{Search}
-use Rattle.directory_state.proofs.ShownEntries.{open_in-alike}
+use Rattle.directory_state.proofs.ShownEntries.{first-alike, open_in-alike}
 
 module _ (P Q : Entry → Type 0) (weaker : (e : Entry) → P e → Q e) where
   all-weaker : (es : List Entry) → AllByRecursion P es → AllByRecursion Q es
@@ -69,3 +69,20 @@ unseen-found s e unseen = ap (λ b. b && is_wanted s.query.now (seen_of s.viewer
 
 pub unfound-passes : (s : Search) (es rest : List Entry) → PassesUnseen s.viewer es rest → Skips (λ e. is_found s e ≡ false) es rest
 unfound-passes s = skips-weaker (λ e. is_seen s.viewer e ≡ false) (λ e. is_found s e ≡ false) (unseen-found s)
+
+-- what comes next and is alike to one that is open is open where that is
+pub run-next : (v : Viewer) (rest : ℕ → List Entry) (from first : ℕ) (f : Entry) → IsOpenBefore v rest from (Some first)
+    → ((e : Entry) → rest (from - 1) ≡ e ∷ rest from → (rest from ≡ f ∷ rest (from + 1)) × (are_alike e f ≡ true)) → (rest from ≡ f ∷ rest (from + 1)) × IsFirst v f first
+run-next v rest from first f before next =
+    let now = next before.0 before.1 in
+    (now.0, first-alike v before.0 f (Some first) (alike-to v.asker before.0 f now.1) before.2)
+
+pub run-before : (v : Viewer) (rest : ℕ → List Entry) (from first : ℕ) (f : Entry) → (rest from ≡ f ∷ rest (from + 1)) × IsFirst v f first → IsOpenBefore v rest (from + 1) (Some first)
+run-before v rest from first f is =
+    let at : from + 1 - 1 ≡ from = omega arith in
+    (f, ap rest at ∙ is.0, is.1)
+
+-- where one that is seen is open first is known of the number after it
+pub seen-before : (v : Viewer) (rest : ℕ → List Entry) (next : ℕ) (e : Entry) (first : Option ℕ) → rest (next - 1) ≡ e ∷ rest next → MatchOption first (is_seen v e ≡ false) (IsSeenFrom v e) → IsOpenBefore v rest next first
+seen-before v rest next e None there seen = tt
+seen-before v rest next e (Some first) there seen = (e, there, seen.1)

@@ -81,6 +81,10 @@ are_alike_to asker e f = (e.owner == f.owner || (not (asker == e.owner) && not (
 abbrev pub PassesUnseen : Viewer → List Entry → List Entry → Type 0
 PassesUnseen v = Skips (λ e. is_seen v e ≡ false)
 
+-- where the entry that is given before a number is open first, where that is known
+abbrev pub IsOpenBefore : Viewer → (ℕ → List Entry) → ℕ → Option ℕ → Type 0
+IsOpenBefore v rest from known = IfSome known (λ first. (e : Entry) × (rest (from - 1) ≡ e ∷ rest from) × IsFirst v e first)
+
 -- it is seen, and open first in the scope at this place
 abbrev pub IsSeenFrom : Viewer → Entry → ℕ → Type 0
 IsSeenFrom v e place = IsTrue (is_seen v e) × IsFirst v e place

@@ -1,8 +1,8 @@
-ghost use Rattle.std.specs.Prelude.{◌≡◌, ◌≢◌, Bool, ◌+◌, ◌-◌, ◌^◌, ◌<◌, ◌↔◌, [], ◌∷◌, ℕ, List, false, max, length, map, filter, take, IfOk, IfErr, IsErrOf, IfSome, IfNone, MatchOption, IsTrue, Some};
+ghost use Rattle.std.specs.Prelude.{◌≡◌, ◌≢◌, Bool, ◌+◌, ◌-◌, ◌^◌, ◌<◌, ◌≤◌, ◌↔◌, [], ◌∷◌, ℕ, List, true, false, max, length, map, filter, take, IfOk, IfErr, IsErrOf, IfSome, IfNone, MatchOption, IsTrue, Some};
 ghost use Rattle.std.specs.Arc.{arc_value};
 ghost use Rattle.std.specs.List.{list_any};
 ghost use Rattle.registry_core.specs.declared.entry.Entry.{Entry as Entries};
-ghost use Rattle.registry_core.specs.Entries.{is_kind, IsListing};
+ghost use Rattle.registry_core.specs.Entries.{are_alike, is_kind, IsListing};
 ghost use Rattle.directory_judge.specs.History.{History};
 ghost use Rattle.directory_judge.specs.Judgements.{supports};
 ghost use Rattle.directory_questions.specs.Calls.{Opening, standpoint};
@@ -10,7 +10,7 @@ ghost use Rattle.directory_questions.specs.Verdicts.{IsLegal};
 ghost use Rattle.directory_questions.specs.declared.query.Target.TheVariants.{Kind};
 ghost use Rattle.directory_state.specs.Sources.{clock_of, site_of, AreEntriesOf, IsSourceAt, IsUnbounded};
 ghost use Rattle.directory_state.specs.Deadlines.{UrlDeadline, with_deadline, total_cost};
-ghost use Rattle.directory_state.specs.Searches.{deadlines_with, is_found, is_seen, joined, spoken_of, item_at, cost_in, bytes_in, cut_in, seen_of, shortlist_with, IsBound, IsCounted, IsFirst, IsLook, IsSeenFrom, IsSmall, IsKept};
+ghost use Rattle.directory_state.specs.Searches.{deadlines_with, is_found, is_seen, joined, spoken_of, item_at, cost_in, bytes_in, cut_in, seen_of, shortlist_with, IsBound, IsCounted, IsFirst, IsLook, IsOpenBefore, IsSeenFrom, IsSmall, IsKept};
 ghost use Rattle.directory_questions.specs.Items.{is_wanted, AreServices, IsForeign, IsOpenNow};
 ghost use Rattle.directory_state.specs.Fronts.{IsFront, items_in};
 
@@ -47,6 +47,22 @@ pub struct FoundItems<'a> {
 
 // Of more entries it is asked whether a rule may show one, before they are looked at.
 const MANY: usize = 1_024;
+
+/// What a walk knows of the entry before: the last look, and where it is open first, if one that is alike may come next.
+#[derive(Drop)]
+pub struct Before<'a> {
+    last: Option<Look<'a>>,
+    first: Option<usize>,
+}
+
+/// An entry that a walk meets, the number to go on from, and the place of the first scope in which it is seen, of those that are
+/// asked for.
+#[derive(Clone, Copy)]
+pub struct Met<'a> {
+    entry: &'a Entry,
+    next: usize,
+    first: Option<usize>,
+}
 
 /// What is asked, and by whom.
 #[derive(Drop)]
@@ -264,6 +280,7 @@ impl<'a> Shortlist<'a> {
         ensures next { let rest = R.rest_of_kind registry.now (Some question.now.query.now.kind) in
             MatchOption result (shortlist_with self.now question.now (rest from) ≡ self.now.latest)
             (λ p. shortlist_with self.now question.now (rest from) ≡ shortlist_with self.now question.now (p.0.now ∷ rest p.1)) }
+        ensures there { self.now.used ≤ bytes_in self.now.room → IfSome result (λ p. R.rest_of_kind registry.now (Some question.now.query.now.kind) (p.1 - 1) ≡ p.0.now ∷ R.rest_of_kind registry.now (Some question.now.query.now.kind) p.1) }
         ensures open { self.now.latest ≡ [] → MatchOption result (R.rest_of_kind registry.now (Some question.now.query.now.kind) from ≡ [])
             (λ p. R.rest_of_kind registry.now (Some question.now.query.now.kind) from ≡ p.0.now ∷ R.rest_of_kind registry.now (Some question.now.query.now.kind) p.1) }
         ensures whole { IsListing (is_kind (Some question.now.query.now.kind)) (R.contents registry.now) (R.rest_of_kind registry.now (Some question.now.query.now.kind) 0) }
@@ -274,6 +291,63 @@ impl<'a> Shortlist<'a> {
             Some(bound) => registry.by_kind_within(kind, bound, from),
             None => registry.by_kind(kind, from),
         }
+    }
+
+    // The entry at a number, where it is known to be alike to the one before, and there is room for all so far.
+    #[inline(always)]
+    fn next_alike<R: Registry>(
+        &self,
+        registry: &'a R,
+        question: &Search<'_>,
+        from: usize,
+    ) -> Option<&'a Entry>
+        ensures next { let rest = R.rest_of_kind registry.now (Some question.now.query.now.kind) in
+            IfSome result (λ f. (e : Entries) → rest (from - 1) ≡ e ∷ rest from → (rest from ≡ f.now ∷ rest (from + 1)) × (are_alike e f.now ≡ true)) }
+        ensures within { IfSome result (λ _. from < 65536) }
+    {
+        if self.is_over(self.used) {
+            return None;
+        }
+        registry.next_alike(Some(&question.query.kind), from)
+    }
+
+    // The next entry of the type that may be kept, and whether it is seen. One that is alike to the one before is open where that is:
+    // neither is its type looked at, nor are the rules asked.
+    #[inline(always)]
+    fn meet<R: Registry>(
+        &self,
+        registry: &'a R,
+        question: &Search<'_>,
+        from: usize,
+        before: &mut Before<'a>,
+    ) -> Option<Met<'a>>
+        requires kept { IsKept self.now }
+        requires last { IfSome before.old.last (IsLook question.now.viewer) }
+        requires open { IsOpenBefore question.now.viewer (R.rest_of_kind registry.now (Some question.now.query.now.kind)) from before.old.first }
+        ensures last { IfSome before.new.last (IsLook question.now.viewer) }
+        ensures open { IfSome result (λ m. IsOpenBefore question.now.viewer (R.rest_of_kind registry.now (Some question.now.query.now.kind)) m.next before.new.first) }
+        ensures seen { IfSome result (λ m. MatchOption m.first (is_seen question.now.viewer m.entry.now ≡ false) (IsSeenFrom question.now.viewer m.entry.now)) }
+        ensures next { let rest = R.rest_of_kind registry.now (Some question.now.query.now.kind) in
+            MatchOption result (shortlist_with self.now question.now (rest from) ≡ self.now.latest)
+            (λ m. shortlist_with self.now question.now (rest from) ≡ shortlist_with self.now question.now (m.entry.now ∷ rest m.next)) }
+        ensures each { self.now.latest ≡ [] → MatchOption result (R.rest_of_kind registry.now (Some question.now.query.now.kind) from ≡ [])
+            (λ m. R.rest_of_kind registry.now (Some question.now.query.now.kind) from ≡ m.entry.now ∷ R.rest_of_kind registry.now (Some question.now.query.now.kind) m.next) }
+        ensures whole { IfNone result (IsListing (is_kind (Some question.now.query.now.kind)) (R.contents registry.now) (R.rest_of_kind registry.now (Some question.now.query.now.kind) 0)) }
+        ensures onward { IfSome result (λ m. from < m.next) }
+    {
+        if let Some(first) = before.first
+            && let Some(entry) = self.next_alike(registry, question, from)
+        {
+            return Some(Met {
+                entry,
+                next: from + 1,
+                first: question.viewer.if_live(entry, first),
+            });
+        }
+        let (entry, next) = self.next(registry, question, from)?;
+        let first = question.viewer.sees(entry, &mut before.last);
+        before.first = if self.is_over(self.used) { None } else { first };
+        Some(Met { entry, next, first })
     }
 
     // Whether no entry of the type is seen, of many, whatever they are: no rule may show one. The fewer are looked at one by one.
@@ -314,23 +388,28 @@ impl<'a> Shortlist<'a> {
             return Ok(Some(Spoken::Nothing));
         }
         let mut spoken = Spoken::Nothing;
-        let mut last = None;
+        let mut before = Before {
+            last: None,
+            first: None,
+        };
         let mut from = 0;
         let mut left = looks;
-        while let Some((entry, next)) = self.next(registry, question, from) {
+        while let Some(met) = self.meet(registry, question, from, &mut before) {
             if IS_BOUNDED {
                 if left == 0 {
                     return Ok(None);
                 }
                 left -= 1;
             }
-            let Some(first) = question.viewer.sees(entry, &mut last) else {
+            let entry = met.entry;
+            let Some(first) = met.first else {
                 let kind = Some(&question.query.kind);
-                from = question.viewer.past_unseen(registry, kind, entry, next);
+                from = question.viewer.past_unseen(registry, kind, entry, met.next);
+                before.first = None;
                 continue;
             };
             spoken = self.take(Seen { entry, first }, question, spoken)?;
-            from = next;
+            from = met.next;
         }
         Ok(Some(spoken))
     }

@@ -8,7 +8,7 @@ ghost use Rattle.access_rules.specs.declared.rule.Action.TheVariants.{See};
 ghost use Rattle.registry_core.specs.declared.entry.Entry as spec;
 ghost use Rattle.registry_core.specs.Entries.{is_kind, AreByType, IsListing, Passes, Skips};
 ghost use Rattle.directory_questions.specs.Sights.{is_open_in};
-ghost use Rattle.directory_state.specs.Searches.{are_alike_to, entries_in, entries_lent, is_listed, is_over, is_seen, left_after, rest_about, AreByKind, AreFoundIn, AreKindsFor, AreSeenBy, IsFirstOpen, IsLook, IsSeenFrom, PassesUnseen};
+ghost use Rattle.directory_state.specs.Searches.{are_alike_to, entries_in, entries_lent, is_listed, is_over, is_seen, left_after, rest_about, AreByKind, AreFoundIn, AreKindsFor, AreSeenBy, IsFirst, IsFirstOpen, IsLook, IsSeenFrom, PassesUnseen};
 ghost use Rattle.directory_questions.specs.Items.{is_target};
 
 use crate::asked::Viewer;
@@ -238,6 +238,18 @@ impl Viewer<'_> {
             return self.first_open_as_last(entry, last);
         }
         self.first_open(entry)
+    }
+
+    /// The place of the first scope in which an entry is open, where it is live.
+    #[inline(always)]
+    pub fn if_live(&self, entry: &Entry, first: usize) -> Option<usize>
+        requires { IsFirst self.now entry.now first }
+        ensures { MatchOption result (is_seen self.now entry.now ≡ false) (IsSeenFrom self.now entry.now) }
+    {
+        if entry.deadline <= self.moment {
+            return None;
+        }
+        Some(first)
     }
 
     /// A number to go on from after an entry that is not seen: past those that come next and are as little open, where it lives.
