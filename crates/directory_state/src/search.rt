@@ -45,9 +45,6 @@ pub struct FoundItems<'a> {
     pub is_cut: bool,
 }
 
-// Of more entries it is asked whether a rule may show one, before they are looked at.
-const MANY: usize = 1_024;
-
 /// What a walk knows of the entry before: the last look, and where it is open first, if one that is alike may come next.
 #[derive(Drop)]
 pub struct Before<'a> {
@@ -350,24 +347,22 @@ impl<'a> Shortlist<'a> {
         Some(Met { entry, next, first })
     }
 
-    // Whether no entry of the type is seen, of many, whatever they are: no rule may show one. The fewer are looked at one by one.
+    // Whether no entry of the type is seen, whatever they are: no rule may show one.
     // A call of its own in the machine's code, so that the walk keeps its registers.
     #[inline(never)]
     fn sees_none<R: Registry>(registry: &R, question: &Search<'_>) -> bool
         ensures none { IsTrue result → filter (is_seen question.now.viewer) (R.rest_of_kind registry.now (Some question.now.query.now.kind) 0) ≡ [] }
         ensures whole { IsTrue result → IsListing (is_kind (Some question.now.query.now.kind)) (R.contents registry.now) (R.rest_of_kind registry.now (Some question.now.query.now.kind) 0) }
     {
-        if registry.len() <= MANY {
-            return false;
-        }
         if question.viewer.may_see(&question.query.kind) {
             return false;
         }
-        registry.count_of_kind(&question.query.kind) > MANY
+        registry.count_of_kind(&question.query.kind) > 0
     }
 
     // Finds the entries that are live now, of a type that is covered, and open to the asker. Where nothing is found,
     // it says what was seen, by its language. Where it is bounded, it gives up where it would have to look at more entries than `looks`.
+    // The first that is not seen has it ask whether one may be.
     // A function of its own in the machine's code as well, for each of both, so that its loop keeps its registers.
     #[inline(never)]
     fn collect<R: Registry, const IS_BOUNDED: bool>(
@@ -376,7 +371,8 @@ impl<'a> Shortlist<'a> {
         question: &Search<'_>,
         looks: usize,
     ) -> Result<Option<Spoken>, NoMemory>
-        requires { IsKept self.old }
+        requires kept { IsKept self.old }
+        requires empty { self.old.latest ≡ [] }
         ensures room { self.new.room ≡ self.old.room }
         ensures kept { IfOk result (λ _. IsKept self.new) }
         ensures found { IfOk result (λ o. IfSome o (λ _. self.new.latest ≡ cut_in self.old.room (deadlines_with (filter (is_found question.now) (R.rest_of_kind registry.now (Some question.now.query.now.kind) 0)) self.old.latest))) }
@@ -384,9 +380,6 @@ impl<'a> Shortlist<'a> {
         ensures listing { IfOk result (λ o. IfSome o (λ _. IsListing (is_kind (Some question.now.query.now.kind)) (R.contents registry.now) (R.rest_of_kind registry.now (Some question.now.query.now.kind) 0))) }
         ensures ended { IfOk result (λ o. IfNone o (looks < 2 ^ 64 - 1)) }
     {
-        if Shortlist::sees_none(registry, question) {
-            return Ok(Some(Spoken::Nothing));
-        }
         let mut spoken = Spoken::Nothing;
         let mut before = Before {
             last: None,
@@ -394,6 +387,7 @@ impl<'a> Shortlist<'a> {
         };
         let mut from = 0;
         let mut left = looks;
+        let mut may_see = false;
         while let Some(met) = self.meet(registry, question, from, &mut before) {
             if IS_BOUNDED {
                 if left == 0 {
@@ -403,6 +397,10 @@ impl<'a> Shortlist<'a> {
             }
             let entry = met.entry;
             let Some(first) = met.first else {
+                if !may_see && self.latest.is_empty() && Shortlist::sees_none(registry, question) {
+                    return Ok(Some(Spoken::Nothing));
+                }
+                may_see = true;
                 let kind = Some(&question.query.kind);
                 from = question.viewer.past_unseen(registry, kind, entry, met.next);
                 before.first = None;
@@ -446,7 +444,8 @@ impl<'a> Shortlist<'a> {
         source: &Source<'a, R>,
         question: &Search<'_>,
     ) -> Result<Option<Spoken>, NoMemory>
-        requires { IsKept self.old }
+        requires kept { IsKept self.old }
+        requires empty { self.old.latest ≡ [] }
         ensures room { self.new.room ≡ self.old.room }
         ensures kept { IfOk result (λ _. IsKept self.new) }
         ensures found { IfOk result (λ o. IfSome o (λ s. (all : List Entries) × AreEntriesOf (Kind question.now.query.now.kind) source.now all
