@@ -6,7 +6,7 @@ ghost use Rattle.std.specs.Option.{option_copied};
 ghost use Rattle.access_rules.specs.Deciding.{deed, deed_in};
 ghost use Rattle.access_rules.specs.declared.rule.Action.TheVariants.{See};
 ghost use Rattle.registry_core.specs.declared.entry.Entry as spec;
-ghost use Rattle.registry_core.specs.Entries.{is_kind, AreByType, IsListing, Passes, Skips};
+ghost use Rattle.registry_core.specs.Entries.{is_kind, outlives, AreByType, IsListing, Passes, Skips};
 ghost use Rattle.directory_questions.specs.Sights.{is_open_in};
 ghost use Rattle.directory_state.specs.Searches.{are_alike_to, entries_in, entries_lent, is_listed, is_over, is_seen, left_after, rest_about, AreByKind, AreFoundIn, AreKindsFor, AreSeenBy, IsFirst, IsFirstOpen, IsLook, IsSeenFrom, PassesUnseen};
 ghost use Rattle.directory_questions.specs.Items.{is_target};
@@ -222,6 +222,14 @@ impl Viewer<'_> {
         first
     }
 
+    // Whether an entry lives at the moment.
+    #[inline(always)]
+    fn lives(&self, entry: &Entry) -> bool
+        ensures { result ≡ outlives self.now.moment entry.now }
+    {
+        entry.deadline > self.moment
+    }
+
     /// The place of the first scope in which an entry is open, of those that are asked for, where it is seen: it is live, and open to the
     /// asker in one of them. The last look is kept, where that saves much: the scopes are asked once for a run of entries of one type,
     /// with the same scopes and registrant. Takes no memory.
@@ -231,7 +239,7 @@ impl Viewer<'_> {
         ensures last { IfSome last.new (IsLook self.now) }
         ensures seen { MatchOption result (is_seen self.now entry.now ≡ false) (IsSeenFrom self.now entry.now) }
     {
-        if entry.deadline <= self.moment {
+        if !self.lives(entry) {
             return None;
         }
         if self.asks_much {
@@ -246,7 +254,7 @@ impl Viewer<'_> {
         requires { IsFirst self.now entry.now first }
         ensures { MatchOption result (is_seen self.now entry.now ≡ false) (IsSeenFrom self.now entry.now) }
     {
-        if entry.deadline <= self.moment {
+        if !self.lives(entry) {
             return None;
         }
         Some(first)
@@ -266,7 +274,7 @@ impl Viewer<'_> {
         ensures passes { PassesUnseen self.now (R.rest_of_kind registry.now (option_copied kind.entry) next) (R.rest_of_kind registry.now (option_copied kind.entry) result) }
         ensures onward { next ≤ result }
     {
-        if entry.deadline <= self.moment {
+        if !self.lives(entry) {
             return next;
         }
         registry.past_alike(kind, entry, next)
