@@ -45,20 +45,20 @@ pub struct FoundItems<'a> {
     pub is_cut: bool,
 }
 
-/// What a walk knows of the entry before: the last look, and where it is open first, if one that is alike may come next.
-#[derive(Drop)]
-pub struct Before<'a> {
-    last: Option<Look<'a>>,
+/// The number from which a walk goes on, and where the entry before it is open first, if one that is alike may come next.
+#[derive(Clone, Copy)]
+pub struct Stand {
+    from: usize,
     first: Option<usize>,
 }
 
-/// An entry that a walk meets, the number to go on from, and the place of the first scope in which it is seen, of those that are
-/// asked for.
+/// An entry that a walk meets, the place of the first scope in which it is seen, of those that are asked for, and where the walk stands
+/// then.
 #[derive(Clone, Copy)]
 pub struct Met<'a> {
     entry: &'a Entry,
-    next: usize,
     first: Option<usize>,
+    then: Stand,
 }
 
 /// What is asked, and by whom.
@@ -315,36 +315,39 @@ impl<'a> Shortlist<'a> {
         &self,
         registry: &'a R,
         question: &Search<'_>,
-        from: usize,
-        before: &mut Before<'a>,
+        stand: Stand,
+        last: &mut Option<Look<'a>>,
     ) -> Option<Met<'a>>
         requires kept { IsKept self.now }
-        requires last { IfSome before.old.last (IsLook question.now.viewer) }
-        requires open { IsOpenBefore question.now.viewer (R.rest_of_kind registry.now (Some question.now.query.now.kind)) from before.old.first }
-        ensures last { IfSome before.new.last (IsLook question.now.viewer) }
-        ensures open { IfSome result (λ m. IsOpenBefore question.now.viewer (R.rest_of_kind registry.now (Some question.now.query.now.kind)) m.next before.new.first) }
+        requires last { IfSome last.old (IsLook question.now.viewer) }
+        requires open { IsOpenBefore question.now.viewer (R.rest_of_kind registry.now (Some question.now.query.now.kind)) stand.from stand.first }
+        ensures last { IfSome last.new (IsLook question.now.viewer) }
+        ensures open { IfSome result (λ m. IsOpenBefore question.now.viewer (R.rest_of_kind registry.now (Some question.now.query.now.kind)) m.then.from m.then.first) }
         ensures seen { IfSome result (λ m. MatchOption m.first (is_seen question.now.viewer m.entry.now ≡ false) (IsSeenFrom question.now.viewer m.entry.now)) }
         ensures next { let rest = R.rest_of_kind registry.now (Some question.now.query.now.kind) in
-            MatchOption result (shortlist_with self.now question.now (rest from) ≡ self.now.latest)
-            (λ m. shortlist_with self.now question.now (rest from) ≡ shortlist_with self.now question.now (m.entry.now ∷ rest m.next)) }
-        ensures each { self.now.latest ≡ [] → MatchOption result (R.rest_of_kind registry.now (Some question.now.query.now.kind) from ≡ [])
-            (λ m. R.rest_of_kind registry.now (Some question.now.query.now.kind) from ≡ m.entry.now ∷ R.rest_of_kind registry.now (Some question.now.query.now.kind) m.next) }
+            MatchOption result (shortlist_with self.now question.now (rest stand.from) ≡ self.now.latest)
+            (λ m. shortlist_with self.now question.now (rest stand.from) ≡ shortlist_with self.now question.now (m.entry.now ∷ rest m.then.from)) }
+        ensures each { self.now.latest ≡ [] → MatchOption result (R.rest_of_kind registry.now (Some question.now.query.now.kind) stand.from ≡ [])
+            (λ m. R.rest_of_kind registry.now (Some question.now.query.now.kind) stand.from ≡ m.entry.now ∷ R.rest_of_kind registry.now (Some question.now.query.now.kind) m.then.from) }
         ensures whole { IfNone result (IsListing (is_kind (Some question.now.query.now.kind)) (R.contents registry.now) (R.rest_of_kind registry.now (Some question.now.query.now.kind) 0)) }
-        ensures onward { IfSome result (λ m. from < m.next) }
+        ensures onward { IfSome result (λ m. stand.from < m.then.from) }
     {
-        if let Some(first) = before.first
+        let Stand { from, first } = stand;
+        if let Some(place) = first
             && let Some(entry) = self.next_alike(registry, question, from)
         {
-            return Some(Met {
-                entry,
-                next: from + 1,
-                first: question.viewer.if_live(entry, first),
-            });
+            let first = question.viewer.if_live(entry, place);
+            let then = Stand {
+                from: from + 1,
+                first: Some(place),
+            };
+            return Some(Met { entry, first, then });
         }
-        let (entry, next) = self.next(registry, question, from)?;
-        let first = question.viewer.sees(entry, &mut before.last);
-        before.first = if self.is_over(self.used) { None } else { first };
-        Some(Met { entry, next, first })
+        let (entry, from) = self.next(registry, question, from)?;
+        let first = question.viewer.sees(entry, last);
+        let known = if self.is_over(self.used) { None } else { first };
+        let then = Stand { from, first: known };
+        Some(Met { entry, first, then })
     }
 
     // Whether no entry of the type is seen, whatever they are: no rule may show one.
@@ -381,33 +384,35 @@ impl<'a> Shortlist<'a> {
         ensures ended { IfOk result (λ o. IfNone o (looks < 2 ^ 64 - 1)) }
     {
         let mut spoken = Spoken::Nothing;
-        let mut before = Before {
-            last: None,
+        let mut last = None;
+        let mut stand = Stand {
+            from: 0,
             first: None,
         };
-        let mut from = 0;
         let mut left = looks;
         let mut may_see = false;
-        while let Some(met) = self.meet(registry, question, from, &mut before) {
+        while let Some(met) = self.meet(registry, question, stand, &mut last) {
             if IS_BOUNDED {
                 if left == 0 {
                     return Ok(None);
                 }
                 left -= 1;
             }
-            let entry = met.entry;
-            let Some(first) = met.first else {
+            let Met { entry, first, then } = met;
+            stand = then;
+            let Some(first) = first else {
                 if !may_see && self.latest.is_empty() && Shortlist::sees_none(registry, question) {
                     return Ok(Some(Spoken::Nothing));
                 }
                 may_see = true;
                 let kind = Some(&question.query.kind);
-                from = question.viewer.past_unseen(registry, kind, entry, met.next);
-                before.first = None;
+                let from = question
+                    .viewer
+                    .past_unseen(registry, kind, entry, then.from);
+                stand = Stand { from, first: None };
                 continue;
             };
             spoken = self.take(Seen { entry, first }, question, spoken)?;
-            from = met.next;
         }
         Ok(Some(spoken))
     }
