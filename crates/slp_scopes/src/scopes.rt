@@ -364,9 +364,8 @@ impl ScopeList {
     pub fn has(&self, scope: &Key) -> bool
         ensures { result ≡ list_any (λ k. bytes_eq k scope.now) self.now }
     {
-        let text = scope.as_str();
         for key in &self.keys {
-            if key.as_str() == text {
+            if *key == *scope {
                 return true;
             }
         }
