@@ -1,15 +1,13 @@
 -- What is passed over: entries that are not seen.
-use Rattle.std.proofs.Common.{◌≡◌, ◌≤◌, ℕ, Bool, true, false, cond, List, [], ◌∷◌, ◌++◌, length, filter, refl, sym, ap, ◌∙◌, arith, ◌+◌, ◌-◌, Option, Some, None}
+use Rattle.std.proofs.Common.{◌≡◌, ℕ, Bool, true, false, cond, List, [], ◌∷◌, ◌++◌, filter, refl, sym, ap, ◌∙◌, arith, ◌+◌, ◌-◌, Option, Some, None}
 use Rattle.std.specs.Prelude.{MatchOption, ◌==◌, ◌&&◌, not}
 use Rattle.std.specs.List.{list_any, AllByRecursion}
 use Rattle.std.proofs.lemmas.Bool.{and_from, and_parts, or_left}
-use Rattle.std.proofs.lemmas.List.{length-append}
 use Rattle.slp_text.specs.Words.{bytes_eq, texts_eq}
 use Rattle.registry_core.specs.declared.entry.Entry.{Entry}
 use Rattle.registry_core.specs.Entries.{are_alike, outlives, PassesAlike, Skips}
-use Rattle.directory_questions.specs.Items.{is_under, is_wanted}
-use Rattle.directory_questions.specs.declared.query.Authority.{Authority}
-use Rattle.directory_state.specs.Searches.{are_alike_to, is_allowed, is_found, is_listed, is_seen, seen_of, IsFirst, IsOpenBefore, IsSeenFrom, PassesUnseen}
+use Rattle.directory_questions.specs.Items.{is_wanted}
+use Rattle.directory_state.specs.Searches.{are_alike_to, is_allowed, is_found, is_seen, seen_of, IsFirst, IsOpenBefore, IsSeenFrom, PassesUnseen}
 use Rattle.directory_state.specs.declared.asked.Viewer.{Viewer}
 use Rattle.directory_state.specs.declared.search.Search.{Search}
 use Rattle.directory_state.proofs.ShownEntries.{first-alike, open_in-alike}
@@ -32,9 +30,6 @@ module _ (p : Entry → Bool) where
 
   pub filter-past : (e : Entry) (es rest : List Entry) → p e ≡ false → Skips (λ f. p f ≡ false) es rest → filter p (e ∷ es) ≡ filter p rest
   filter-past e es rest not_this skips = ap (λ b. cond b (e ∷ filter p es) (filter p es)) not_this ∙ filter-skips es rest skips
-
-pub length-skips : (P : Entry → Type 0) (es rest : List Entry) → Skips P es rest → length rest ≤ length es
-length-skips P es rest skips = let same = ap length skips.1 in let sum = length-append skips.0 rest in omega (arith, same, sum)
 
 not-both : (a b : Bool) → a ≡ true → (a && b) ≡ false → b ≡ false
 not-both true b is none = none
@@ -59,9 +54,6 @@ unseen-alike v e f lives unseen alike =
 
 pub unseen-passes : (v : Viewer) (e : Entry) (es rest : List Entry) → outlives v.moment e ≡ true → is_seen v e ≡ false → PassesAlike e es rest → PassesUnseen v es rest
 unseen-passes v e es rest lives unseen = skips-weaker (λ f. are_alike e f ≡ true) (λ f. is_seen v f ≡ false) (λ f alike. unseen-alike v e f lives unseen alike) es rest
-
-pub unlisted-passes : (v : Viewer) (a : Authority) (es rest : List Entry) → PassesUnseen v es rest → Skips (λ e. is_listed v a e ≡ false) es rest
-unlisted-passes v a = skips-weaker (λ e. is_seen v e ≡ false) (λ e. is_listed v a e ≡ false) (λ e unseen. none-both (is_under a e) (is_seen v e) unseen)
 
 -- what is not seen is not found
 pub unseen-found : (s : Search) (e : Entry) → is_seen s.viewer e ≡ false → is_found s e ≡ false
