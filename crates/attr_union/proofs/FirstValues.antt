@@ -28,11 +28,9 @@ commas (t ∷ u ∷ ts) = let more = commas (u ∷ ts) in let sum = length-appen
 
 between-signs : (t l : List ℕ) (a b c : ℕ) → suc (length l) < length (a ∷ t ++ b ∷ l ++ c ∷ [])
 between-signs t l a b c =
-    let front = length-append t (b ∷ l ++ c ∷ []) in
-    let back = length-append (b ∷ l) (c ∷ []) in
     let first = length-append (t ++ b ∷ l) (c ∷ []) in
     let then = length-append t (b ∷ l) in
-    omega (arith, front, back, first, then)
+    omega (arith, first, then)
 
 long-text : (tag : List ℕ) (vs : List Value) → length vs ≤ length (attribute_text tag (held.Values vs))
 long-text tag vs =

@@ -198,6 +198,7 @@ pub fn put_in(slots: &Slots, order: &mut SlotList, by: By, x: usize, entry: &Ent
     requires few { length slots.now.slots ≤ 65536 }
     requires room { length slots.now.slots ≤ order.old.room }
     ensures order { IsOrder by (slice_set slots.now.slots x (Some entry.now)) order.new.items }
+    ensures there { slice_index order.new.items result ≡ x }
     ensures room { order.new.room ≡ order.old.room }
 {
     let at = place_of(slots, order, by, &by.spot(entry));

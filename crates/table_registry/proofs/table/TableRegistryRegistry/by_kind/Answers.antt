@@ -30,17 +30,8 @@ returns-then-is_of_kind-clause-next c =
 
 pub returns-then-is_of_kind-clause-there : goal.returns-then-is_of_kind-clause-there
 returns-then-is_of_kind-clause-there c =
-    let t : Table = c.args.self.now in
-    let L : List ℕ = c.order-order.result.now.items in
-    let k = option_copied c.args.kind in
-    let i : ℕ = c.args.from in
-    let e : Held = c.held-entry.result.now in
-    let O : L ≡ order_of (by_for k) t = c.order-order.ensures.items ∙ ap (λ b. order_of b t) c.by_for.ensures in
-    let l : i < length L = omega (arith, c.if-from-len.false, c.len.ensures.value) in
-    let there : slot_at t.slots (get_or L i 0) ≡ Some e = ap (slot_at t.slots) (sym c.at.ensures.value) ∙ ap (λ (t : Table). slot_at t.slots c.at.result) (sym c.self.view_is) ∙ c.held-entry.ensures in
-    let at : i + 1 - 1 ≡ i = omega arith in
-    ap (walked (by_for k) t (is_kind k)) at ∙ subst (λ o. gathered (λ x. if_kept (is_kind k) (slot_at t.slots x)) (drop i o) ≡ e ∷ gathered (λ x. if_kept (is_kind k) (slot_at t.slots x)) (drop (i + 1) o)) O
-    (gather_here (is_kind k) t.slots L i e l there (sym c.if-is_of_kind.ensures))
+    let at : c.args.from + 1 - 1 ≡ c.args.from = omega arith in
+    ap (walked (by_for (option_copied c.args.kind)) c.args.self.now (is_kind (option_copied c.args.kind))) at ∙ returns-then-is_of_kind-clause-next c
 
 pub returns-clause-next : goal.returns-clause-next
 returns-clause-next c =
