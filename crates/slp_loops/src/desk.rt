@@ -191,7 +191,7 @@ impl<'r, 's, J: Naming, R: Wait, M: Moments + Drop, G: Gate, L: Log + Drop> Desk
             Err(_) => {
                 if let Some(heard) = heard {
                     let line = refused_line_of(heard);
-                    self.lines.push(line.as_str().as_bytes());
+                    self.lines.push(line.as_slice());
                 }
                 Err(NoMemory)
             }

@@ -1,13 +1,13 @@
-ghost use Rattle.std.specs.Prelude.{◌≡◌, ◌≤◌, ◌+◌, [], ◌++◌, ◌∷◌, IfSome, OnOk, OnErr, chars, codes, length, encode_utf8, encode_utf8_all};
+ghost use Rattle.std.specs.Prelude.{◌≡◌, ◌≤◌, ◌+◌, [], ◌++◌, OnOk, OnErr, chars, codes, length, encode_utf8, encode_utf8_all};
 ghost use Rattle.std.specs.Fmt.{decimal};
 ghost use Rattle.std.specs.Option.{option_copied};
 ghost use Rattle.addresses.specs.Addresses.{address_text};
 ghost use Rattle.directory_judge.specs.Judgements.{decider_text};
 ghost use Rattle.slp_replies.specs.Audits.{action_text, audit_of, rule_named, text_or_dash, beginning_text, ending_text, head_text, tail_text, line_text, audit_text};
-ghost use Rattle.slp_text.specs.Ascii.{dot};
 ghost use Rattle.slp_text.specs.Escapes.{written_character, escaped_text};
 ghost use Rattle.slp_text.specs.declared.escapes.Place.TheVariants.{Scope};
 
+use crate::octets::address_bytes;
 use crate::sink::Sink;
 use access_rules::{Action, Rules};
 use addresses::Addr;
@@ -65,70 +65,23 @@ fn rule_name(rules: &Rules, decider: Decider) -> &str
 
 // ---- each function below appends a part of a line
 
-// The text of a number of one digit.
-#[inline(always)]
-fn digit_text(number: u16) -> Option<&'static str>
-    ensures { IfSome result (λ t. t.now ≡ decimal number) }
-{
-    match number {
-        0 => Some("0"),
-        1 => Some("1"),
-        2 => Some("2"),
-        3 => Some("3"),
-        4 => Some("4"),
-        5 => Some("5"),
-        6 => Some("6"),
-        7 => Some("7"),
-        8 => Some("8"),
-        9 => Some("9"),
-        _ => None,
-    }
-}
-
-// A number of several digits.
-#[inline(never)]
-fn put_digits<S: Sink>(sink: &mut S, number: u16) -> Result<(), NoMemory>
-    ensures ok { OnOk result (S.written sink.new ≡ S.written sink.old ++ decimal number) }
-    ensures room { OnOk result (S.room sink.old ≤ S.room sink.new + length (decimal number)) }
-    ensures err { OnErr result (S.room sink.old ≤ length (decimal number)) }
-{
-    let mut digits = Buffer::new();
-    sink.put(digits.format(number))
-}
-
-// Inlined, and so is what calls it: most of an address is of one digit.
-#[inline(always)]
 fn put_number<S: Sink>(sink: &mut S, number: u16) -> Result<(), NoMemory>
     ensures ok { OnOk result (S.written sink.new ≡ S.written sink.old ++ decimal number) }
     ensures room { OnOk result (S.room sink.old ≤ S.room sink.new + length (decimal number)) }
     ensures err { OnErr result (S.room sink.old ≤ length (decimal number)) }
 {
-    match digit_text(number) {
-        Some(digit) => sink.put(digit),
-        None => put_digits(sink, number),
-    }
+    let mut digits = Buffer::new();
+    sink.put(digits.format(number).as_bytes())
 }
 
-#[inline(always)]
-fn put_dotted<S: Sink>(sink: &mut S, number: u16) -> Result<(), NoMemory>
-    ensures ok { OnOk result (S.written sink.new ≡ S.written sink.old ++ (decimal number ++ dot ∷ [])) }
-    ensures room { OnOk result (S.room sink.old ≤ S.room sink.new + length (decimal number ++ dot ∷ [])) }
-    ensures err { OnErr result (S.room sink.old ≤ length (decimal number ++ dot ∷ [])) }
-{
-    put_number(sink, number)?;
-    sink.put(".")
-}
-
+// In one piece.
 fn put_address<S: Sink>(sink: &mut S, address: Addr) -> Result<(), NoMemory>
     ensures ok { OnOk result (S.written sink.new ≡ S.written sink.old ++ address_text address) }
     ensures room { OnOk result (S.room sink.old ≤ S.room sink.new + length (address_text address)) }
     ensures err { OnErr result (S.room sink.old ≤ length (address_text address)) }
 {
-    let number = address.0;
-    put_dotted(sink, (number / 16_777_216) as u16)?;
-    put_dotted(sink, (number / 65_536 % 256) as u16)?;
-    put_dotted(sink, (number / 256 % 256) as u16)?;
-    put_number(sink, (number % 256) as u16)
+    let (text, end) = address_bytes(address);
+    sink.put(&text[..end])
 }
 
 // The code, and whether it allows.
@@ -138,11 +91,11 @@ fn put_beginning<S: Sink>(sink: &mut S, code: u16) -> Result<(), NoMemory>
     ensures err { OnErr result (S.room sink.old ≤ length (beginning_text code)) }
 {
     if code == 0 {
-        return sink.put("# allow code=0 by=");
+        return sink.put(b"# allow code=0 by=");
     }
-    sink.put("# deny code=")?;
+    sink.put(b"# deny code=")?;
     put_number(sink, code)?;
-    sink.put(" by=")
+    sink.put(b" by=")
 }
 
 // Who decided: a word, and the name of the rule.
@@ -152,8 +105,8 @@ fn put_decider<S: Sink>(sink: &mut S, rule: &str, decider: Decider) -> Result<()
     ensures err { OnErr result (S.room sink.old ≤ length (decider_text rule.now decider)) }
 {
     let (word, name) = decider.words(rule);
-    sink.put(word)?;
-    sink.put(name)
+    sink.put(word.as_bytes())?;
+    sink.put(name.as_bytes())
 }
 
 fn put_character<S: Sink>(sink: &mut S, c: char) -> Result<(), NoMemory>
@@ -162,7 +115,7 @@ fn put_character<S: Sink>(sink: &mut S, c: char) -> Result<(), NoMemory>
     ensures err { OnErr result (S.room sink.old ≤ length (encode_utf8 c)) }
 {
     let mut buffer = [0; 4];
-    sink.put(c.encode_utf8(&mut buffer))
+    sink.put(c.encode_utf8(&mut buffer).as_bytes())
 }
 
 // A character of a scope, as it is written in lists of scopes.
@@ -199,7 +152,7 @@ fn put_scope<S: Sink>(sink: &mut S, scope: &str) -> Result<(), NoMemory>
     ensures err { OnErr result (S.room sink.old ≤ length (encode_utf8_all (escaped_text Scope (chars scope.now)))) }
 {
     if is_plain(scope.as_bytes()) {
-        return sink.put(scope);
+        return sink.put(scope.as_bytes());
     }
     put_escaped(sink, scope)
 }
@@ -211,22 +164,28 @@ fn put_ending<S: Sink>(sink: &mut S, scope: Option<&Key>) -> Result<(), NoMemory
     ensures err { OnErr result (S.room sink.old ≤ length (ending_text (option_copied scope.entry))) }
 {
     let Some(scope) = scope else {
-        return sink.put(" scope=-\n");
+        return sink.put(b" scope=-\n");
     };
-    sink.put(" scope=")?;
+    sink.put(b" scope=")?;
     put_scope(sink, scope.as_str())?;
-    sink.put("\n")
+    sink.put(b"\n")
 }
 
-// The code, who decided and what was asked for.
+// The code, who decided and what was asked for: in one piece where it is a question that is answered and nobody had to decide.
 fn put_head<S: Sink>(sink: &mut S, rule: &str, audit: &AuditView<'_>) -> Result<(), NoMemory>
     ensures ok { OnOk result (S.written sink.new ≡ S.written sink.old ++ head_text rule.now (audit_of audit.now)) }
     ensures room { OnOk result (S.room sink.old ≤ S.room sink.new + length (head_text rule.now (audit_of audit.now))) }
     ensures err { OnErr result (S.room sink.old ≤ length (head_text rule.now (audit_of audit.now))) }
 {
+    if audit.code == 0
+        && let Decider::Nobody = audit.finding.decider
+        && let Action::See = audit.action
+    {
+        return sink.put(b"# allow code=0 by=none action=see asker=");
+    }
     put_beginning(sink, audit.code)?;
     put_decider(sink, rule, audit.finding.decider)?;
-    sink.put(action_part(audit.action))
+    sink.put(action_part(audit.action).as_bytes())
 }
 
 // By whom, and on what.
@@ -235,8 +194,8 @@ fn put_tail<S: Sink>(sink: &mut S, audit: &AuditView<'_>) -> Result<(), NoMemory
     ensures err { OnErr result (S.room sink.old ≤ length (tail_text (audit_of audit.now))) }
 {
     put_address(sink, audit.asker)?;
-    sink.put(" type=")?;
-    sink.put(kind_text(audit.finding.kind))?;
+    sink.put(b" type=")?;
+    sink.put(kind_text(audit.finding.kind).as_bytes())?;
     put_ending(sink, audit.finding.scope)
 }
 

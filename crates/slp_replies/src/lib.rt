@@ -5,6 +5,7 @@ mod adverts;
 mod answer;
 mod audit;
 mod copies;
+mod octets;
 mod refusals;
 mod replies;
 mod sink;

@@ -31,8 +31,8 @@ fn put_reply(heard: &Heard<'_>, reply: &mut [u8; 80]) -> usize
 
 // Writes the line of a message that found no memory.
 fn put_refusal(told: &mut ShortLine, action: Action, asker: Addr)
-    requires { told.old.bytes ≡ [] }
-    ensures { told.new.bytes ≡ audit_text no_rules (record { code = INTERNAL_ERROR; because = by_step Memory None; action = action; asker = asker }) }
+    requires { told.old.items ≡ [] }
+    ensures { told.new.items ≡ audit_text no_rules (record { code = INTERNAL_ERROR; because = by_step Memory None; action = action; asker = asker }) }
 {
     let audit = AuditView {
         code: code::INTERNAL_ERROR,
@@ -74,7 +74,7 @@ fn refused_reply_to(heard: &Heard<'_>) -> ShortReply
 
 /// The audit line of a message that found no memory. Takes no memory.
 pub fn refused_line_of(heard: &Heard<'_>) -> ShortLine
-    ensures { result.bytes ≡ line_of no_rules heard.now.call.now.asker (heading_of heard.now.call.now.bytes.now) (refusal_outcome (heading_of heard.now.call.now.bytes.now)) }
+    ensures { result.items ≡ line_of no_rules heard.now.call.now.asker (heading_of heard.now.call.now.bytes.now) (refusal_outcome (heading_of heard.now.call.now.bytes.now)) }
 {
     let mut told = ShortLine::new();
     put_refusal(&mut told, heard.action(), heard.call.asker);
@@ -98,7 +98,7 @@ pub fn refused_reply(bytes: &[u8]) -> ShortReply
 /// The audit line of bytes that found no memory. It is empty where the header is not readable, and where the function is
 /// none that is answered. Takes no memory.
 pub fn refused_line(bytes: &[u8], asker: Addr) -> ShortLine
-    ensures { result.bytes ≡ line_of no_rules asker (heading_of bytes.now) (refusal_outcome (heading_of bytes.now)) }
+    ensures { result.items ≡ line_of no_rules asker (heading_of bytes.now) (refusal_outcome (heading_of bytes.now)) }
 {
     match Heard::of(&Call::anywhere(0, asker, bytes)) {
         Some(heard) => refused_line_of(&heard),
@@ -122,6 +122,6 @@ pub fn refusal(
     let told = refused_line(bytes, asker);
     let replied = sent.bytes;
     *reply = replied;
-    line[..told.len()].copy_from_slice(told.as_str().as_bytes());
+    line[..told.len()].copy_from_slice(told.as_slice());
     (sent.end, told.len())
 }

@@ -1,7 +1,7 @@
 //! Where a line is written: into a vector, which may find no memory, or into a short line, which takes none.
 ghost use Rattle.std.specs.Prelude.{◌≡◌, ◌≤◌, ◌+◌, ◌++◌, length, OnOk, OnErr};
 
-use arrayvec::ArrayString;
+use arrayvec::ArrayVec;
 use slp_text::NoMemory;
 
 /// Bytes that are written one after the other.
@@ -14,11 +14,11 @@ pub(crate) trait Sink {
     /// For so many bytes there is room for certain.
     ghost room: { Self → ℕ };
 
-    /// Appends a text. It is refused only where it fills the room.
-    fn put(&mut self, text: &str) -> Result<(), NoMemory>
-        ensures ok { OnOk result (written self.new ≡ written self.old ++ text.now) }
-        ensures room { OnOk result (room self.old ≤ room self.new + length text.now) }
-        ensures err { OnErr result (room self.old ≤ length text.now) };
+    /// Appends bytes. They are refused only where they fill the room.
+    fn put(&mut self, bytes: &[u8]) -> Result<(), NoMemory>
+        ensures ok { OnOk result (written self.new ≡ written self.old ++ bytes.now) }
+        ensures room { OnOk result (room self.old ≤ room self.new + length bytes.now) }
+        ensures err { OnErr result (room self.old ≤ length bytes.now) };
 }
 
 impl Sink for Vec<u8> {
@@ -26,24 +26,24 @@ impl Sink for Vec<u8> {
 
     ghost room = { λ v. 0 };
 
-    fn put(&mut self, text: &str) -> Result<(), NoMemory> {
-        self.extend_from_slice(text.as_bytes())?;
+    fn put(&mut self, bytes: &[u8]) -> Result<(), NoMemory> {
+        self.extend_from_slice(bytes)?;
         Ok(())
     }
 }
 
 /// A line of at most 128 bytes. It takes no memory.
-pub type ShortLine = ArrayString<128>;
+pub type ShortLine = ArrayVec<u8, 128>;
 
 impl Sink for ShortLine {
     ghost use Rattle.std.specs.Prelude.{◌-◌, length};
 
-    ghost written = { λ l. l.bytes };
+    ghost written = { λ l. l.items };
 
-    ghost room = { λ l. 128 - length l.bytes };
+    ghost room = { λ l. 128 - length l.items };
 
-    fn put(&mut self, text: &str) -> Result<(), NoMemory> {
-        match self.try_push_str(text) {
+    fn put(&mut self, bytes: &[u8]) -> Result<(), NoMemory> {
+        match self.try_extend_from_slice(bytes) {
             Ok(()) => Ok(()),
             Err(_) => Err(NoMemory),
         }
