@@ -11,6 +11,8 @@ use Rattle.site_opening.specs.declared.fault.ReadFault.{ReadFault}
 use Rattle.site_opening.specs.declared.fault.ReadFault.TheVariants as read
 use Rattle.site_opening.specs.declared.fault.StartFault.{StartFault}
 use Rattle.site_opening.specs.declared.fault.StartFault.TheVariants.{Failed, NoMemory}
+use Rattle.agent_watch.specs.declared.words.End.{End}
+use Rattle.agent_watch.specs.declared.words.End.TheVariants.{Well, Badly}
 use Rattle.agent_program.specs.declared.fault.ReloadFault.{ReloadFault}
 use Rattle.agent_program.specs.declared.fault.ReloadFault.TheVariants.{File, Rules, Shut}
 
@@ -40,7 +42,12 @@ abbrev pub sweep_text : Result (Unit {0}) ViewFault → List ℕ
 sweep_text (Ok x) = codes "# sweep" ++ line_feed ∷ []
 sweep_text (Err e) = codes "! memory" ++ line_feed ∷ []
 
--- the status of an agent one of whose loops ended, beside those that ended before it
+-- what the end of an operator's words tells: an input that failed is a fault, as a socket's
+abbrev pub input_told : End → Result (Unit {0}) LoopFault
+input_told Well = Ok tt
+input_told Badly = Err loop_fault.Io
+
+-- the status of an agent one of whose threads ended, beside those that ended before it
 abbrev pub end_status : ℕ → Result (Unit {0}) LoopFault → ℕ
 end_status before (Ok x) = before
 end_status before (Err loop_fault.Io) = 1

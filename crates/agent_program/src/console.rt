@@ -2,7 +2,7 @@
 ghost use Rattle.std.specs.Prelude.{◌≡◌, ◌⊎◌, ◌∷◌, ⊤, Result, IfOk, IfErr, OnOk, OnErr};
 ghost use Rattle.std.specs.Io.KnownBytes.{Appends};
 ghost use Rattle.access_rules.specs.Deciding.{number};
-ghost use Rattle.agent_program.specs.Statuses.{IsRefused, reload_text, sweep_text};
+ghost use Rattle.agent_program.specs.Statuses.{IsRefused, input_told, reload_text, sweep_text};
 ghost use Rattle.directory_judge.specs.History.{now};
 ghost use Rattle.directory_runs.specs.Changes.{reload_at, sweep_at};
 ghost use Rattle.published_view.specs.Changes.{written_at};
@@ -12,15 +12,16 @@ use crate::fault::{ReloadFault, refused_rules, unread_rules};
 use crate::sweeping::wait_for_loops;
 use crate::threads::Task;
 use access_rules::Rules;
-use agent_watch::{Act, Input, Word, hear};
+use agent_watch::{Act, End, Input, Word, hear};
 use arrayvec::ArrayVec;
 use published_view::{DirectoryWriter, Gate, Naming, ViewFault};
 use rule_files::RuleFault;
 use site_opening::rules_at;
 use site_reports::print_rules;
-use slp_loops::{Log, Moments, WallClock};
+use slp_loops::{Log, LoopFault, Moments, WallClock};
 use slp_text::Text;
 use std::alloc::Global;
+use std::fs;
 use std::io::{self, Write};
 use std::rt::Files;
 use std::sync::atomic::{AtomicBool, Ordering};
@@ -61,6 +62,27 @@ fn sweep_line(told: Result<(), ViewFault>) -> &'static str
     match told {
         Ok(()) => "# sweep\n",
         Err(_) => "! memory\n",
+    }
+}
+
+// What the agent is told of the end of words: an input that fails is its fault.
+fn heard(end: End) -> Result<(), LoopFault>
+    ensures { result ≡ input_told end }
+{
+    match end {
+        End::Well => Ok(()),
+        End::Badly => Err(LoopFault::Io),
+    }
+}
+
+// Whether what stands at a path is to be opened: a regular file, or what can't be looked at, so that opening it tells why. Of a pipe that nobody writes to the opening would not end.
+fn may_open<R: Files>(rt: &R, path: Option<&Text>) -> bool {
+    match path {
+        Some(path) => match fs::metadata(rt, path.as_str()) {
+            Ok(metadata) => metadata.is_file(),
+            Err(_) => true,
+        },
+        None => true,
     }
 }
 
@@ -118,6 +140,9 @@ where
     fn read_rules(&mut self) -> Result<usize, ReloadFault>
         ensures { self.new.output ≡ self.old.output }
     {
+        if !may_open(self.rt, self.rules) {
+            return Err(ReloadFault::File);
+        }
         match rules_at(self.rt, self.alloc, self.rules) {
             Ok(rules) => self.put(rules),
             Err(fault) => Err(unread_rules(fault)),
@@ -204,10 +229,11 @@ where
     L: Log + Drop,
     I: Input + Drop,
 {
-    // Says that the agent is ready, acts on each line until one is `stop` or the input ends, and sets the flag.
-    fn run(&mut self, stop: &AtomicBool) {
+    // Says that the agent is ready, acts on each line until one is `stop` or the input ends or fails, and sets the flag.
+    fn run(&mut self, stop: &AtomicBool) -> Result<(), LoopFault> {
         self.console.output.write(b"ready\n");
-        hear(self.console.rt, &mut self.input, &mut self.console);
+        let end = hear(self.console.rt, &mut self.input, &mut self.console);
         stop.store(true, Ordering::SeqCst);
+        heard(end)
     }
 }

@@ -6,7 +6,7 @@ use crate::threads::Task;
 use agent_watch::{Watch, sweep_on};
 use expiry_sweep::{Schedule, Sweeper};
 use published_view::{DirectoryWriter, Gate, Naming};
-use slp_loops::{Moments, WallClock};
+use slp_loops::{LoopFault, Moments, WallClock};
 use std::sync::atomic::{AtomicBool, Ordering};
 use std::sync::{Mutex, Wait};
 use std::thread;
@@ -91,7 +91,8 @@ impl<'r, 's, J: Naming, R: Wait + Clock, G: Gate> Watch for Sweeping<'r, 's, J, 
 }
 
 impl<'r, 's, J: Naming, R: Wait + Clock, G: Gate> Task for Sweeping<'r, 's, J, R, G> {
-    fn run(&mut self, stop: &AtomicBool) {
+    fn run(&mut self, stop: &AtomicBool) -> Result<(), LoopFault> {
         sweep_on(self.rt, self, stop);
+        Ok(())
     }
 }

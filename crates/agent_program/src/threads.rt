@@ -12,9 +12,9 @@ use std::thread;
 use std::thread::{JoinHandle, Scope, Threads};
 use std::time::Clock;
 
-/// Work that ends soon after a flag is set.
+/// Work that ends soon after a flag is set, well or with a fault.
 pub(crate) trait Task {
-    fn run(&mut self, stop: &AtomicBool);
+    fn run(&mut self, stop: &AtomicBool) -> Result<(), LoopFault>;
 }
 
 /// What one thread does.
@@ -52,10 +52,7 @@ impl Signals {
         drop(self.door.lock(rt));
         match job {
             Job::Serve(mut agent) => agent.run(rt, &self.stop),
-            Job::Other(mut task) => {
-                task.run(&self.stop);
-                Ok(())
-            }
+            Job::Other(mut task) => task.run(&self.stop),
         }
     }
 }
@@ -83,7 +80,7 @@ where
     Ok(())
 }
 
-// The status of an agent one of whose loops ended, beside those that ended before it.
+// The status of an agent one of whose threads ended, beside those that ended before it.
 fn end_status(before: u8, told: Result<(), LoopFault>) -> u8
     ensures { result ≡ spec.end_status before told }
 {
@@ -126,10 +123,11 @@ where
         signals.stop.store(true, Ordering::SeqCst);
     }
     drop(door);
-    if told.is_ok() {
-        console.run(&signals.stop);
-    }
-    let status = join_all(rt, started);
+    let heard = match told {
+        Ok(()) => console.run(&signals.stop),
+        Err(_) => Ok(()),
+    };
+    let status = end_status(join_all(rt, started), heard);
     told?;
     Ok(status)
 }

@@ -1,6 +1,8 @@
 -- Lines, byte after byte.
-use Rattle.std.proofs.Common.{◌≡◌, ◌<◌, ◌≤◌, ℕ, ◌+◌, Bool, true, false, List, [], ◌∷◌, ◌++◌, length, get_or, take, drop, set, Option, Some, None, refl, sym, ◌∙◌, subst, arith}
+use Rattle.std.proofs.Common.{◌≡◌, ◌<◌, ◌≤◌, ℕ, ◌+◌, Bool, true, false, List, [], ◌∷◌, ◌++◌, length, get_or, take, drop, set, Result, Ok, Err, refl, sym, ◌∙◌, subst, arith}
 use Rattle.std.proofs.lemmas.List.{take_all, take_more_set, drop_more, drop_all, length-append, length-take-le, take_at}
+use Rattle.agent_watch.specs.declared.words.End.{End}
+use Rattle.agent_watch.specs.declared.words.End.TheVariants.{Well}
 use Rattle.agent_watch.specs.Words.{Acts, Hears, Reading, TakesByte, Takes, TakesLast, kept, piece_of}
 
 -- a byte more is kept where there is room, and none where there is none
@@ -28,23 +30,24 @@ module _ {A : Type 0} (acts : Acts A) (piece : List ℕ) (i : ℕ) where
 
 module _ {A : Type 0} (acts : Acts A) where
   -- what is heard by a reading that brings this
-  abbrev heard : Option (List ℕ) → A → List ℕ → List Reading → A → Type 0
-  heard o before line rs after = elim o [
-    | None ↦ (rs ≡ []) × TakesLast acts before line after
-    | Some piece ↦ (told : Bool) × (rest : List ℕ) × (between : A) × Takes acts before line piece told rest between × elim told [
-      | true ↦ Hears acts between rest rs after
-      | false ↦ (rs ≡ []) × (after ≡ between)
+  abbrev heard : Result (List ℕ) End → A → List ℕ → List Reading → End → A → Type 0
+  heard o before line rs end after = elim o [
+    | Err ended ↦ (rs ≡ []) × (end ≡ ended) × TakesLast acts before line after
+    | Ok piece ↦ (told : Bool) × (rest : List ℕ) × (between : A) × Takes acts before line piece told rest between × elim told [
+      | true ↦ Hears acts between rest rs end after
+      | false ↦ (rs ≡ []) × (end ≡ Well) × (after ≡ between)
     ]
   ]
 
   -- the input is over
-  pub hears_last : (a b : A) (line : List ℕ) (r : Reading) → piece_of r ≡ None → TakesLast acts a line b → Hears acts a line (r ∷ []) b
-  hears_last a b line r none last = subst (λ o. heard o a line [] b) (sym none) (refl, last)
+  pub hears_last : (a b : A) (line : List ℕ) (r : Reading) (end : End) → piece_of r ≡ Err end → TakesLast acts a line b → Hears acts a line (r ∷ []) end b
+  hears_last a b line r end over last = subst (λ o. heard o a line [] end b) (sym over) (refl, refl, last)
 
   -- the last word was heard
-  pub hears_end : (a b : A) (line rest piece : List ℕ) (r : Reading) → piece_of r ≡ Some piece → Takes acts a line piece false rest b → Hears acts a line (r ∷ []) b
-  hears_end a b line rest piece r is takes = subst (λ o. heard o a line [] b) (sym is) (false, rest, b, takes, (refl, refl))
+  pub hears_end : (a b : A) (line rest piece : List ℕ) (r : Reading) → piece_of r ≡ Ok piece → Takes acts a line piece false rest b → Hears acts a line (r ∷ []) Well b
+  hears_end a b line rest piece r is takes = subst (λ o. heard o a line [] Well b) (sym is) (false, rest, b, takes, (refl, refl, refl))
 
   -- more is heard
-  pub hears_more : (a b c : A) (line rest piece : List ℕ) (r : Reading) (rs : List Reading) → piece_of r ≡ Some piece → Takes acts a line piece true rest b → Hears acts b rest rs c → Hears acts a line (r ∷ rs) c
-  hears_more a b c line rest piece r rs is takes more = subst (λ o. heard o a line rs c) (sym is) (true, rest, b, takes, more)
+  pub hears_more : (a b c : A) (line rest piece : List ℕ) (r : Reading) (rs : List Reading) (end : End) → piece_of r ≡ Ok piece → Takes acts a line piece true rest b → Hears acts b rest rs end c
+      → Hears acts a line (r ∷ rs) end c
+  hears_more a b c line rest piece r rs end is takes more = subst (λ o. heard o a line rs end c) (sym is) (true, rest, b, takes, more)

@@ -1,11 +1,13 @@
 -- What the words of an operator ask for, line by line.
-use Rattle.std.specs.Prelude.{◌≡◌, ℕ, Bool, true, false, ◌==◌, List, [], ◌∷◌, ◌++◌, codes, take, if◌then◌else◌, Option, Some, None, Result, Ok, Err}
+use Rattle.std.specs.Prelude.{◌≡◌, ℕ, Bool, true, false, ◌==◌, List, [], ◌∷◌, ◌++◌, codes, take, if◌then◌else◌, Result, Ok, Err}
 use Rattle.std.specs.IoError.{error_kind}
 use Rattle.std.specs.declared.io.Error.{Error}
 use Rattle.std.specs.declared.io.ErrorKind.{ErrorKind}
-use Rattle.std.specs.declared.io.ErrorKind.TheVariants.{Interrupted}
+use Rattle.std.specs.declared.io.ErrorKind.TheVariants.{Interrupted, WouldBlock}
 use Rattle.slp_text.specs.Ascii.{line_feed}
 use Rattle.slp_text.specs.Words.{bytes_eq}
+use Rattle.agent_watch.specs.declared.words.End.{End}
+use Rattle.agent_watch.specs.declared.words.End.TheVariants.{Well, Badly}
 use Rattle.agent_watch.specs.declared.words.Word.{Word}
 use Rattle.agent_watch.specs.declared.words.Word.TheVariants.{Reload, Sweep, Stop, Unknown}
 
@@ -45,12 +47,19 @@ abbrev pub Gives : {I : Type 0} → Inputs I → I → List Reading → I → Ty
 Gives gives before [] after = after ≡ before
 Gives {I = I} gives before (r ∷ rs) after = (between : I) × gives before r between × Gives gives between rs after
 
--- the bytes that a reading brings: none where it was interrupted, and is made again; `None` where the input is over, at its end or since it failed
-abbrev pub piece_of : Reading → Option (List ℕ)
-piece_of (Brought []) = None
-piece_of (Brought (b ∷ bs)) = Some (b ∷ bs)
-piece_of (Failed Interrupted) = Some []
-piece_of (Failed kind) = None
+-- The bytes that a reading brings: none where it was interrupted, or nothing was there, and it is made again. Where the input is over it says how that ended:
+-- well where no more come, and badly where it failed.
+abbrev pub piece_of : Reading → Result (List ℕ) End
+piece_of (Brought []) = Err Well
+piece_of (Brought (b ∷ bs)) = Ok (b ∷ bs)
+piece_of (Failed Interrupted) = Ok []
+piece_of (Failed WouldBlock) = Ok []
+piece_of (Failed kind) = Err Badly
+
+-- the same of what lies in front of what was read
+abbrev pub piece_in : List ℕ → Result ℕ End → Result (List ℕ) End
+piece_in chunk (Ok count) = Ok (take count chunk)
+piece_in chunk (Err end) = Err end
 
 module _ {A : Type 0} (acts : Acts A) where
   -- one byte behind a line that is begun: at the line's end it is acted on
@@ -73,13 +82,13 @@ module _ {A : Type 0} (acts : Acts A) where
   TakesLast before [] after = after ≡ before
   TakesLast before (b ∷ bs) after = (told : Bool) × acts before (word_in (b ∷ bs)) told after
 
-  -- The lines of what is brought are acted on, each once and in order, until one is the last, or the input is over.
-  abbrev pub Hears : A → List ℕ → List Reading → A → Type 0
-  Hears before line [] after = ⊥
-  Hears before line (r ∷ rs) after = elim (piece_of r) [
-    | None ↦ (rs ≡ []) × TakesLast before line after
-    | Some piece ↦ (told : Bool) × (rest : List ℕ) × (between : A) × Takes before line piece told rest between × elim told [
-      | true ↦ Hears between rest rs after
-      | false ↦ (rs ≡ []) × (after ≡ between)
+  -- The lines of what is brought are acted on, each once and in order, until one is the last, which is a good end, or the input is over.
+  abbrev pub Hears : A → List ℕ → List Reading → End → A → Type 0
+  Hears before line [] end after = ⊥
+  Hears before line (r ∷ rs) end after = elim (piece_of r) [
+    | Err ended ↦ (rs ≡ []) × (end ≡ ended) × TakesLast before line after
+    | Ok piece ↦ (told : Bool) × (rest : List ℕ) × (between : A) × Takes before line piece told rest between × elim told [
+      | true ↦ Hears between rest rs end after
+      | false ↦ (rs ≡ []) × (end ≡ Well) × (after ≡ between)
     ]
   ]

@@ -5,4 +5,4 @@ mod watching;
 mod words;
 
 pub use watching::{Watch, sweep_on};
-pub use words::{Act, Input, SharedInput, Word, hear};
+pub use words::{Act, End, Input, SharedInput, Word, hear};

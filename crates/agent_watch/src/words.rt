@@ -1,17 +1,21 @@
 //! The words of an operator: what a line asks for, and how lines are taken from an input.
-ghost use Rattle.std.specs.Prelude.{◌≡◌, ◌≤◌, ◌++◌, ◌∷◌, [], List, take, length, IfOk, IfSome};
-ghost use Rattle.std.specs.Option.{option_map};
-ghost use Rattle.agent_watch.specs.Words.{Gives, Hears, Reading, Takes, TakesByte, TakesLast, kept, piece_of, reading, word_in};
+ghost use Rattle.std.specs.Prelude.{◌≡◌, ◌≤◌, ◌++◌, ◌∷◌, [], List, length, IfOk};
+ghost use Rattle.agent_watch.specs.Words.{Gives, Hears, Reading, Takes, TakesByte, TakesLast, kept, piece_in, piece_of, reading, word_in};
 
 use std::io::{self, ErrorKind, Read};
 use std::marker::Model;
 use std::sync::{Mutex, Wait};
+use std::thread;
+use std::time::{Clock, Duration};
 
 /// The bytes of a line that are kept: more than any word has.
 const LONGEST_WORD: usize = 16;
 
 /// The bytes that one read asks for.
 const CHUNK: usize = 256;
+
+/// How many milliseconds pass before an input is read again that has nothing now.
+const PAUSE: u64 = 200;
 
 /// What a line asks for.
 #[derive(Clone, Copy, Debug, PartialEq, Eq)]
@@ -20,6 +24,15 @@ pub enum Word {
     Sweep,
     Stop,
     Unknown,
+}
+
+/// How words ended.
+#[derive(Clone, Copy, Debug, PartialEq, Eq)]
+pub enum End {
+    /// One was the last, or no more come.
+    Well,
+    /// The input failed.
+    Badly,
 }
 
 /// What acts on words. Each implementation says by `acts` what may come of one.
@@ -45,16 +58,20 @@ pub trait Input {
     fn read(&mut self, chunk: &mut [u8]) -> io::Result<usize>
         ensures within { IfOk result (λ count. count ≤ length chunk.new) }
         ensures given { gives self.old (reading result chunk.new) self.new };
+
+    /// Waits a little, where it did not wait for bytes since somebody made it one that does not.
+    fn pause(&mut self)
+        ensures { self.new ≡ self.old };
 }
 
 /// An input that is locked for each reading.
 #[derive(Drop)]
-pub struct SharedInput<'r, 's, R: Wait, I: Read> {
+pub struct SharedInput<'r, 's, R: Wait + Clock, I: Read> {
     pub rt: &'r R,
     pub input: &'s Mutex<I>,
 }
 
-impl<'r, 's, R: Wait, I: Read> Input for SharedInput<'r, 's, R, I> {
+impl<'r, 's, R: Wait + Clock, I: Read> Input for SharedInput<'r, 's, R, I> {
     ghost use Rattle.std.specs.Prelude.{⊤};
 
     // No clause follows what lies under a lock.
@@ -62,6 +79,10 @@ impl<'r, 's, R: Wait, I: Read> Input for SharedInput<'r, 's, R, I> {
 
     fn read(&mut self, chunk: &mut [u8]) -> io::Result<usize> {
         self.input.lock(self.rt).read(chunk)
+    }
+
+    fn pause(&mut self) {
+        thread::sleep(self.rt, Duration::from_millis(PAUSE));
     }
 }
 
@@ -172,33 +193,42 @@ fn take_last<A: Act>(actor: &mut A, line: &[u8])
     }
 }
 
-// Takes the next bytes of an input, and answers how many came: none where it was interrupted, and `None` where it is over.
-fn next_piece<I: Input>(input: &mut I, chunk: &mut [u8]) -> Option<usize>
-    ensures within { IfSome result (λ count. count ≤ length chunk.new) }
-    ensures given { (r : Reading) × I.gives input.old r input.new × (piece_of r ≡ option_map (λ count. take count chunk.new) result) }
+// Takes the next bytes of an input, and answers how many came: none where it was interrupted or had nothing, and how it ended where it is over.
+fn next_piece<I: Input>(input: &mut I, chunk: &mut [u8]) -> Result<usize, End>
+    ensures within { IfOk result (λ count. count ≤ length chunk.new) }
+    ensures given { (r : Reading) × I.gives input.old r input.new × (piece_of r ≡ piece_in chunk.new result) }
 {
     match input.read(chunk) {
-        Ok(0) => None,
-        Ok(count) => Some(count),
+        Ok(0) => Err(End::Well),
+        Ok(count) => Ok(count),
         Err(e) => match e.kind() {
-            ErrorKind::Interrupted => Some(0),
-            _ => None,
+            ErrorKind::Interrupted => Ok(0),
+            ErrorKind::WouldBlock => {
+                input.pause();
+                Ok(0)
+            }
+            _ => Err(End::Badly),
         },
     }
 }
 
-/// Acts on each line until one is the last, or the input ends or fails; a line without its end is one, too.
-pub fn hear<R: Wait, I: Input, A: Act>(rt: &R, input: &mut I, actor: &mut A)
-    ensures { (rs : List Reading) × Gives I.gives input.old rs input.new × Hears A.acts actor.old [] rs actor.new }
+/// Acts on each line until one is the last, or the input ends or fails, and answers how it ended; a line without its end is one, too.
+pub fn hear<R: Wait, I: Input, A: Act>(rt: &R, input: &mut I, actor: &mut A) -> End
+    ensures { (rs : List Reading) × Gives I.gives input.old rs input.new × Hears A.acts actor.old [] rs result actor.new }
 {
     let mut line = Line::new();
     let mut chunk = [0; CHUNK];
     for _ in rt.forever() {
-        let Some(count) = next_piece(input, &mut chunk) else {
-            return take_last(actor, line.as_slice());
-        };
-        if !take_bytes(actor, &mut line, &chunk[..count]) {
-            return;
+        match next_piece(input, &mut chunk) {
+            Ok(count) => {
+                if !take_bytes(actor, &mut line, &chunk[..count]) {
+                    return End::Well;
+                }
+            }
+            Err(end) => {
+                take_last(actor, line.as_slice());
+                return end;
+            }
         }
     }
     unreachable!()

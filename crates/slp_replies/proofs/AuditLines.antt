@@ -4,11 +4,13 @@ use Rattle.std.specs.Prelude.{◌==◌, OnErr}
 use Rattle.std.specs.Fmt.{decimal, digits}
 use Rattle.std.proofs.lemmas.Bool.Decides.{nat_tests}
 use Rattle.std.proofs.lemmas.List.{length-append}
+use Rattle.access_rules.specs.declared.rule.Action.TheVariants.{See}
 use Rattle.addresses.specs.Addresses.{address_text}
+use Rattle.directory_judge.specs.declared.reason.Decider.TheVariants.{Nobody}
 use Rattle.directory_judge.specs.Judgements.{decider_text}
 use Rattle.slp_replies.specs.Audits.{line_text, head_text, tail_text, beginning_text, action_text, text_or_dash, ending_text}
 use Rattle.slp_replies.specs.declared.copies.Audit.{Audit}
-use Rattle.slp_text.specs.Ascii.{backslash, digit_zero, dot}
+use Rattle.slp_text.specs.Ascii.{backslash, digit_zero}
 use Rattle.slp_text.specs.Escapes.{is_reserved, capital_digit, written_character}
 use Rattle.slp_text.specs.declared.escapes.Place.TheVariants.{Scope}
 
@@ -74,30 +76,12 @@ denies code some =
 pub allows : (code : ℕ) → code ≡ 0 → codes "# allow code=0 by=" ≡ beginning_text code
 allows code h = sym (ap beginning_text h ∙ ap (λ (d : List ℕ). codes "# allow code=" ++ d ++ codes " by=") zero_digit)
 
--- ---- an address
-
--- a number with a dot after it
-abbrev pub dotted : ℕ → List ℕ
-dotted n = decimal n ++ dot ∷ []
-
-address_of_parts : (w a b d e : List ℕ) → (((w ++ (a ++ dot ∷ [])) ++ (b ++ dot ∷ [])) ++ (d ++ dot ∷ [])) ++ e ≡ w ++ (a ++ dot ∷ b ++ dot ∷ d ++ dot ∷ e)
-address_of_parts w a b d e = simp append_assoc refl
-
--- of a number that an address is
-pub address_is_written : (w : List ℕ) (n a : ℕ) → n ≡ a → (((w ++ dotted (n / 16777216)) ++ dotted (n / 65536 % 256)) ++ dotted (n / 256 % 256)) ++ decimal (n % 256) ≡ w ++ address_text a
-address_is_written w n a is =
-    address_of_parts w (decimal (n / 16777216)) (decimal (n / 65536 % 256)) (decimal (n / 256 % 256)) (decimal (n % 256)) ∙ ap (λ m. w ++ address_text m) is
-
-pub address_length : (n a : ℕ) → n ≡ a → length (address_text a) ≡ length (dotted (n / 16777216)) + (length (dotted (n / 65536 % 256)) + (length (dotted (n / 256 % 256)) + length (decimal (n % 256))))
-address_length n a is =
-    let p = dotted (n / 16777216) in
-    let q = dotted (n / 65536 % 256) in
-    let r = dotted (n / 256 % 256) in
-    let whole = ap length (address_is_written [] n a is) in
-    let two = length-append p q in
-    let three = length-append (p ++ q) r in
-    let four = length-append ((p ++ q) ++ r) (decimal (n % 256)) in
-    omega (arith, whole, two, three, four)
+-- of a question that is answered, where nobody had to decide
+pub usual_is : (name : List ℕ) (a : Audit) → a.code ≡ 0 → a.because.decider ≡ Nobody → a.action ≡ See → codes "# allow code=0 by=none action=see asker=" ≡ head_text name a
+usual_is name a zero nobody see =
+    ap (λ b. b ++ decider_text name Nobody ++ codes " action=" ++ action_text See ++ codes " asker=") (allows a.code zero)
+    ∙ ap (λ d. beginning_text a.code ++ decider_text name d ++ codes " action=" ++ action_text See ++ codes " asker=") (sym nobody)
+    ∙ ap (λ x. beginning_text a.code ++ decider_text name a.because.decider ++ codes " action=" ++ action_text x ++ codes " asker=") (sym see)
 
 -- ---- a character of a scope
 

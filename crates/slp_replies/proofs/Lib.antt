@@ -1,3 +1,4 @@
+pub mod LastDigits
 pub mod WrittenTexts
 pub mod AdvertSizes
 pub mod AuditLines

@@ -1,4 +1,4 @@
-ghost use Rattle.std.specs.Prelude.{◌≡◌, ◌≤◌, ◌+◌, [], ◌++◌, OnOk, OnErr, chars, codes, length, encode_utf8, encode_utf8_all};
+ghost use Rattle.std.specs.Prelude.{◌≡◌, ◌≤◌, ◌+◌, ℕ, List, [], ◌++◌, IfSome, OnOk, OnErr, chars, codes, length, encode_utf8, encode_utf8_all};
 ghost use Rattle.std.specs.Fmt.{decimal};
 ghost use Rattle.std.specs.Option.{option_copied};
 ghost use Rattle.addresses.specs.Addresses.{address_text};
@@ -171,17 +171,24 @@ fn put_ending<S: Sink>(sink: &mut S, scope: Option<&Key>) -> Result<(), NoMemory
     sink.put(b"\n")
 }
 
-// The code, who decided and what was asked for: in one piece where it is a question that is answered and nobody had to decide.
+// The same of a question that is answered, where nobody had to decide: most lines begin so.
+fn usual_head(audit: &AuditView<'_>) -> Option<&'static str>
+    ensures { IfSome result (λ t. (name : List ℕ) → t.now ≡ head_text name (audit_of audit.now)) }
+{
+    match (audit.code, audit.finding.decider, audit.action) {
+        (0, Decider::Nobody, Action::See) => Some("# allow code=0 by=none action=see asker="),
+        _ => None,
+    }
+}
+
+// The code, who decided and what was asked for.
 fn put_head<S: Sink>(sink: &mut S, rule: &str, audit: &AuditView<'_>) -> Result<(), NoMemory>
     ensures ok { OnOk result (S.written sink.new ≡ S.written sink.old ++ head_text rule.now (audit_of audit.now)) }
     ensures room { OnOk result (S.room sink.old ≤ S.room sink.new + length (head_text rule.now (audit_of audit.now))) }
     ensures err { OnErr result (S.room sink.old ≤ length (head_text rule.now (audit_of audit.now))) }
 {
-    if audit.code == 0
-        && let Decider::Nobody = audit.finding.decider
-        && let Action::See = audit.action
-    {
-        return sink.put(b"# allow code=0 by=none action=see asker=");
+    if let Some(head) = usual_head(audit) {
+        return sink.put(head.as_bytes());
     }
     put_beginning(sink, audit.code)?;
     put_decider(sink, rule, audit.finding.decider)?;

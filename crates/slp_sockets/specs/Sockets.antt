@@ -1,6 +1,17 @@
--- When a socket of a loop is of no use any more.
-use Rattle.std.specs.Prelude.{◌≡◌, ◌⊎◌, Option, Some, ℤ, pos}
+-- What a failed call tells: that a socket is of no use any more, or that memory is wanting.
+use Rattle.std.specs.Prelude.{◌≡◌, ◌⊎◌, ¬◌, Option, Some, ℤ, pos}
+use Rattle.slp_sockets.specs.declared.fault.LoopFault.{LoopFault}
+use Rattle.slp_sockets.specs.declared.fault.LoopFault.TheVariants.{Io, NoMemory}
 
 -- the system's number of a failed call says that the descriptor is bad, does not do this, or is no socket; none other does, as that memory or descriptors are short
 abbrev pub IsLost : Option ℤ → Type 0
 IsLost number = (number ≡ Some (pos 9)) ⊎ ((number ≡ Some (pos 22)) ⊎ (number ≡ Some (pos 88)))
+
+-- it says that the system found no memory for it, or no room in its buffers
+abbrev pub IsWanting : Option ℤ → Type 0
+IsWanting number = (number ≡ Some (pos 12)) ⊎ (number ≡ Some (pos 105))
+
+-- why what is opened at the start was not: want of memory, or that it failed
+abbrev pub IsUnopened : Option ℤ → LoopFault → Type 0
+IsUnopened number NoMemory = IsWanting number
+IsUnopened number Io = ¬ IsWanting number

@@ -7,8 +7,9 @@ ghost use Rattle.slp_sockets.specs.declared.fault.LoopFault.TheVariants.{Io as F
 
 use crate::clock::{Moments, SteadyClock};
 use crate::datagrams::{DATAGRAMS, Datagrams};
-use crate::fault::LoopFault;
+use crate::fault::{LoopFault, is_want_of_memory};
 use crate::lane::{Giver, Taker, hand_over, has_next, lane_to, take_over};
+use crate::opening::{Parts, parts_at, poll_with};
 use crate::serve::Serve;
 use crate::streams::{LISTENER, Streams};
 use addresses::Addr;
@@ -28,9 +29,6 @@ const LONGEST_WAIT: u64 = 500;
 
 /// The same where a message is put aside that waits for others.
 const SHORT_WAIT: u64 = 1;
-
-/// How many events one wait gives.
-const EVENTS: usize = 256;
 
 // Serves the socket of an event.
 fn serve_event<S: Serve>(
@@ -97,11 +95,26 @@ fn longest_wait<S: Serve>(
     }
 }
 
-// Whether a turn tells that its sockets are of no use any more. Want of memory may pass.
-fn is_lost(told: Result<(), LoopFault>) -> bool
-    ensures { IsTrue result ↔ (told ≡ Err Failing) }
+// Waits until a socket is ready, so many milliseconds at most, and answers whether it could: no memory for that may pass, and nothing is ready then.
+fn wait_for(poll: &mut Poll, events: &mut Events, millis: u64) -> Result<bool, LoopFault>
+    ensures fault { IfErr result (λ e. e ≡ Failing) }
+    ensures none { IfOk result (λ told. IsFalse told → tokens_of events.new ≡ []) }
 {
-    told == Err(LoopFault::Io)
+    match poll.poll(events, Some(Duration::from_millis(millis))) {
+        Ok(()) => Ok(true),
+        Err(e) if is_want_of_memory(&e) => Ok(false),
+        Err(_) => Err(LoopFault::Io),
+    }
+}
+
+// What a turn tells that could not wait: that memory was wanting.
+fn told_after(has_waited: bool, told: Result<(), LoopFault>) -> Result<(), LoopFault>
+    ensures { result ≢ Err Failing ↔ told ≢ Err Failing }
+{
+    match told {
+        Ok(()) if !has_waited => Err(LoopFault::NoMemory),
+        _ => told,
+    }
 }
 
 /// Serves the datagrams and the streams of one address.
@@ -139,150 +152,6 @@ impl<S: Serve + Drop> Model for AgentLoop<S> {
     ghost Value = { Looping S };
 
     ghost view = { λ l. record { limit = l.streams.limit; held = l.streams.held; moment = l.streams.moment; seats = l.streams.seats; ready = tokens_of l.events; server = l.server } };
-}
-
-// What a loop has beside its server.
-#[derive(Drop)]
-struct Parts {
-    poll: Poll,
-    events: Events,
-    datagrams: Datagrams<UdpSocket>,
-    streams: Streams,
-    socket: Option<UdpSocket>,
-    takes: Option<Taker>,
-}
-
-// A listener at an address, which is waited for.
-fn listen<N: Net>(net: &N, registry: &Registry, address: SocketAddr) -> io::Result<TcpListener> {
-    let mut listener = TcpListener::bind(net, address)?;
-    registry.register(&mut listener, LISTENER, Interest::READABLE)?;
-    Ok(listener)
-}
-
-// A socket for datagrams at an address.
-fn bind<N: Net>(net: &N, address: SocketAddr) -> io::Result<net::UdpSocket> {
-    let socket = net::UdpSocket::bind(net, address)?;
-    socket.set_nonblocking(true)?;
-    Ok(socket)
-}
-
-// A socket for datagrams at an address, which is waited for, and the same once more.
-fn receive<N: Net>(
-    net: &N,
-    registry: &Registry,
-    address: SocketAddr,
-) -> io::Result<(UdpSocket, UdpSocket)> {
-    let socket = bind(net, address)?;
-    let again = UdpSocket::from_std(socket.try_clone()?);
-    let mut socket = UdpSocket::from_std(socket);
-    registry.register(&mut socket, DATAGRAMS, Interest::READABLE)?;
-    Ok((socket, again))
-}
-
-// The streams of an address, with places for this many.
-fn streams_at<N: Net>(
-    net: &N,
-    alloc: Global,
-    registry: &Registry,
-    address: SocketAddr,
-    connections: usize,
-) -> Result<Streams, LoopFault>
-    ensures limit { IfOk result (λ s. s.limit ≡ connections) }
-    ensures held { IfOk result (λ s. s.held ≡ 0) }
-{
-    let listener = listen(net, registry, address)?;
-    Ok(Streams::new(alloc, Some(listener), connections)?)
-}
-
-// The datagrams of an address, and their socket once more.
-fn datagrams_at<N: Net>(
-    net: &N,
-    alloc: Global,
-    registry: &Registry,
-    address: SocketAddr,
-) -> Result<(Datagrams<UdpSocket>, UdpSocket), LoopFault> {
-    let (socket, again) = receive(net, registry, address)?;
-    match Datagrams::new(alloc, socket) {
-        Ok(datagrams) => Ok((datagrams, again)),
-        Err(fault) => {
-            drop(again);
-            Err(fault.into())
-        }
-    }
-}
-
-// The sockets of an address.
-#[derive(Drop)]
-struct Sockets {
-    datagrams: Datagrams<UdpSocket>,
-    again: UdpSocket,
-    streams: Streams,
-}
-
-// The datagrams and the streams of an address, with places for this many streams.
-fn sockets_at<N: Net>(
-    net: &N,
-    alloc: Global,
-    registry: &Registry,
-    address: SocketAddr,
-    connections: usize,
-) -> Result<Sockets, LoopFault>
-    ensures limit { IfOk result (λ s. s.streams.limit ≡ connections) }
-    ensures held { IfOk result (λ s. s.streams.held ≡ 0) }
-{
-    let streams = streams_at(net, alloc, registry, address, connections)?;
-    let address = streams.address()?;
-    match datagrams_at(net, alloc, registry, address) {
-        Ok((datagrams, again)) => Ok(Sockets {
-            datagrams,
-            again,
-            streams,
-        }),
-        Err(fault) => {
-            drop(streams);
-            Err(fault)
-        }
-    }
-}
-
-// What waits for sockets, and what tells of those that are ready.
-fn poll_with<N: Net>(net: &N, alloc: Global) -> Result<(Poll, Events), LoopFault> {
-    let events = Events::with_capacity(alloc, EVENTS)?;
-    Ok((Poll::new(net)?, events))
-}
-
-// The parts of a loop at an address, with places for this many streams.
-fn parts_at<N: Net>(
-    net: &N,
-    alloc: Global,
-    address: SocketAddr,
-    connections: usize,
-) -> Result<Parts, LoopFault>
-    ensures limit { IfOk result (λ p. p.streams.limit ≡ connections) }
-    ensures held { IfOk result (λ p. p.streams.held ≡ 0) }
-{
-    let (poll, events) = poll_with(net, alloc)?;
-    match sockets_at(net, alloc, poll.registry(), address, connections) {
-        Ok(
-            Sockets {
-                datagrams,
-                again,
-                streams,
-            },
-        ) => Ok(Parts {
-            poll,
-            events,
-            datagrams,
-            streams,
-            socket: Some(again),
-            takes: None,
-        }),
-        Err(fault) => {
-            drop(poll);
-            drop(events);
-            Err(fault)
-        }
-    }
 }
 
 // The address and the port at a place of a configuration.
@@ -414,21 +283,24 @@ impl<S: Serve + Drop> AgentLoop<S> {
         ensures whole { result ≢ Err Failing → IsTurn S.manner (tended self.old) self.new.ready (tended self.new) }
     {
         let told = match self.begin(steady) {
-            Ok(()) => serve_events(
-                self.poll.registry(),
-                &self.events,
-                &mut self.datagrams,
-                &mut self.streams,
-                &mut self.server,
-            ),
+            Ok(has_waited) => {
+                let told = serve_events(
+                    self.poll.registry(),
+                    &self.events,
+                    &mut self.datagrams,
+                    &mut self.streams,
+                    &mut self.server,
+                );
+                told_after(has_waited, told)
+            }
             Err(fault) => Err(fault),
         };
         self.streams.close_still();
         told
     }
 
-    // Has the lines of the last turn out, waits, and serves what could not be served then.
-    fn begin<M: Moments>(&mut self, steady: &mut M) -> Result<(), LoopFault>
+    // Has the lines of the last turn out, waits, and serves what could not be served then. Answers whether it could wait.
+    fn begin<M: Moments>(&mut self, steady: &mut M) -> Result<bool, LoopFault>
         ensures limit { self.new.limit ≡ self.old.limit }
         ensures fault { IfErr result (λ e. e ≡ Failing) }
         ensures served { SettlesFirst S.manner (tended self.old) (tended self.new) }
@@ -441,8 +313,7 @@ impl<S: Serve + Drop> AgentLoop<S> {
             &mut self.takes,
             &self.server,
         );
-        self.poll
-            .poll(&mut self.events, Some(Duration::from_millis(wait)))?;
+        let has_waited = wait_for(&mut self.poll, &mut self.events, wait)?;
         self.streams.go_on_to(steady.now());
         self.streams.accept_again(self.poll.registry())?;
         hand_over(
@@ -461,7 +332,8 @@ impl<S: Serve + Drop> AgentLoop<S> {
         self.datagrams.take_up(&mut self.server);
         self.streams.resume(self.poll.registry(), &mut self.server);
         self.datagrams
-            .serve_again(self.poll.registry(), &mut self.server)
+            .serve_again(self.poll.registry(), &mut self.server)?;
+        Ok(has_waited)
     }
 
     /// Takes turns until the flag is set, or a turn answers `Io`, which is its only fault. What was told of the last
@@ -477,9 +349,13 @@ impl<S: Serve + Drop> AgentLoop<S> {
                 self.server.settle();
                 return Ok(());
             }
-            if is_lost(self.turn(&mut steady)) {
-                self.server.settle();
-                return Err(LoopFault::Io);
+            match self.turn(&mut steady) {
+                Ok(()) => {}
+                Err(LoopFault::NoMemory) => rt.sleep(Duration::from_millis(SHORT_WAIT)),
+                Err(LoopFault::Io) => {
+                    self.server.settle();
+                    return Err(LoopFault::Io);
+                }
             }
         }
         unreachable!()

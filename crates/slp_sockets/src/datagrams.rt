@@ -429,10 +429,13 @@ impl Datagrams<UdpSocket> {
         ensures { IfErr result (λ e. e ≡ Failing) }
     {
         let rest = told?;
-        self.receives_again = rest == Rest::Later;
-        if rest == Rest::More {
-            registry.reregister(&mut self.port, DATAGRAMS, Interest::READABLE)?;
-        }
+        self.receives_again = match rest {
+            Rest::Nothing => false,
+            Rest::More => registry
+                .reregister(&mut self.port, DATAGRAMS, Interest::READABLE)
+                .is_err(),
+            Rest::Later => true,
+        };
         Ok(())
     }
 

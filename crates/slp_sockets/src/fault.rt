@@ -1,8 +1,8 @@
 ghost use Rattle.std.specs.Prelude.{◌↔◌, IsTrue};
 ghost use Rattle.std_io.specs.IoError.{raw_os_error};
-ghost use Rattle.slp_sockets.specs.Sockets.{IsLost};
+ghost use Rattle.slp_sockets.specs.Sockets.{IsLost, IsWanting};
 
-use libc::{EBADF, EINVAL, ENOTSOCK};
+use libc::{EBADF, EINVAL, ENOBUFS, ENOMEM, ENOTSOCK};
 use std::alloc::AllocError;
 use std::io;
 use thiserror::Error;
@@ -45,4 +45,11 @@ pub fn is_socket_lost(error: &io::Error) -> bool
     ensures { IsTrue result ↔ IsLost (raw_os_error error.now) }
 {
     matches!(error.raw_os_error(), Some(EBADF | EINVAL | ENOTSOCK))
+}
+
+/// Whether a failed call tells that the system found no memory for it.
+pub fn is_want_of_memory(error: &io::Error) -> bool
+    ensures { IsTrue result ↔ IsWanting (raw_os_error error.now) }
+{
+    matches!(error.raw_os_error(), Some(ENOMEM | ENOBUFS))
 }

@@ -11,6 +11,7 @@ ghost use Rattle.slp_sockets.specs.Sitting.{seats};
 use crate::datagrams::{Datagrams, Taken};
 use crate::exchange::Exchange;
 use crate::fault::LoopFault;
+use crate::opening::opened;
 use crate::peer::Peer;
 use crate::serve::Serve;
 use crate::streams::Streams;
@@ -97,7 +98,7 @@ impl Taker {
 pub(crate) fn lane_to(alloc: Global, registry: &Registry) -> Result<(Giver, Taker), LoopFault>
     ensures { IfOk result (λ r. (sent r.0.producer ≡ []) × (received r.1.consumer ≡ [])) }
 {
-    let waker = Waker::new(registry, LANE)?;
+    let waker = opened(Waker::new(registry, LANE))?;
     match RingBuffer::with_protocol::<Global, Fronted>(alloc, ON_THE_WAY) {
         Ok((producer, consumer)) => Ok((Giver { producer, waker }, Taker { consumer })),
         Err(fault) => {

@@ -8,6 +8,7 @@ mod datagrams;
 mod exchange;
 mod fault;
 mod lane;
+mod opening;
 mod peer;
 mod port;
 mod serve;

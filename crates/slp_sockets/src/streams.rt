@@ -249,7 +249,7 @@ impl Streams {
                 },
             }
         }
-        self.wait_again(registry)?;
+        self.accepts_again = self.wait_again(registry).is_err();
         Ok(())
     }
 

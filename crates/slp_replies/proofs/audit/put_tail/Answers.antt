@@ -26,7 +26,7 @@ returns-in_err-put-2-clause-err g c =
     let f0 = tail_length (audit_of c.args.audit.now) in
     let f1 = c.in_ok-put_address.ensures.room in
     let f2 = c.in_ok-put.ensures.room in
-    let f3 = ap length c.kind_text.ensures in
+    let f3 = ap length (c.as_bytes.ensures.value ∙ c.kind_text.ensures) in
     let f4 = c.in_err-put-2.ensures.err in
     let full : g.S.Sink.room c.args.sink.now ≤ length (tail_text (audit_of c.args.audit.now)) = omega (arith, f0, f1, f2, f3, f4) in
     on_err _ _ full
@@ -36,9 +36,9 @@ returns-clause-ok g c =
     let a = audit_of c.args.audit.now in
     let start = g.S.Sink.written c.args.sink.now in
     let typed = c.in_ok-put.ensures.ok ∙ ap (λ w. w ++ codes " type=") c.in_ok-put_address.ensures.ok in
-    let named = c.in_ok-put-2.ensures.ok ∙ ap (λ w. w ++ c.kind_text.result.now) typed in
+    let named = c.in_ok-put-2.ensures.ok ∙ ap (λ w. w ++ c.as_bytes.result.now) typed in
     subst (λ t. OnOk c.put_ending.result (g.S.Sink.written c.put_ending.new.sink ≡ t))
-    (ap (λ w. w ++ ending_text a.because.scope) (named ∙ ap (λ q. ((start ++ address_text a.asker) ++ codes " type=") ++ q) c.kind_text.ensures) ∙ tail_is_written start a)
+    (ap (λ w. w ++ ending_text a.because.scope) (named ∙ ap (λ q. ((start ++ address_text a.asker) ++ codes " type=") ++ q) (c.as_bytes.ensures.value ∙ c.kind_text.ensures)) ∙ tail_is_written start a)
     c.put_ending.ensures.ok
 
 pub returns-clause-err : goal.returns-clause-err
@@ -47,5 +47,5 @@ returns-clause-err g c =
     let f1 = c.in_ok-put_address.ensures.room in
     let f2 = c.in_ok-put.ensures.room in
     let f3 = c.in_ok-put-2.ensures.room in
-    let f4 = ap length c.kind_text.ensures in
+    let f4 = ap length (c.as_bytes.ensures.value ∙ c.kind_text.ensures) in
     on_err_weaker c.put_ending.result (λ full. omega (arith, full, f0, f1, f2, f3, f4)) c.put_ending.ensures.err

@@ -13,10 +13,10 @@ pub unreachable-requires : goal.unreachable-requires
 unreachable-requires c =
     let short = line_is_short c.args.action c.args.asker (omega arith) in
     let same = ap (λ b. length (line_for c.args.action c.args.asker b)) c.deny.ensures.because in
-    let empty : length c.args.told.now.bytes ≡ 0 = ap (λ (bytes : List ℕ). length bytes) c.requires in omega (arith, short, same, c.in-Err.ensures.err, empty)
+    let empty : length c.args.told.now.items ≡ 0 = ap (λ (items : List ℕ). length items) c.requires in omega (arith, short, same, c.in-Err.ensures.err, empty)
 
 pub returns : goal.returns
 unfolding audit_text
 returns c =
-    c.in-Ok.ensures.ok ∙ ap (λ b. c.args.told.now.bytes ++ line_for c.args.action c.args.asker b) c.deny.ensures.because
+    c.in-Ok.ensures.ok ∙ ap (λ b. c.args.told.now.items ++ line_for c.args.action c.args.asker b) c.deny.ensures.because
     ∙ ap (λ bytes. bytes ++ line_text [] (lacking c.args.action c.args.asker)) c.requires

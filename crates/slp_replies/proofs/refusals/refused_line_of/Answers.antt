@@ -10,6 +10,6 @@ pub returns : goal.returns
 returns c =
     let heard = c.args.heard.now in
     let some = answered heard.request in
-    line_is_refused heard.call.now.asker (heading_in heard.header) some.0 c.action.result c.put_refusal.new.told.bytes
+    line_is_refused heard.call.now.asker (heading_in heard.header) some.0 c.action.result c.put_refusal.new.told.items
     (some.1 ∙ ap reply_function_of heard.asked) c.action.ensures c.put_refusal.ensures
     ∙ sym (ap (λ (o : Option Heading). line_of no_rules heard.call.now.asker o (refusal_outcome o)) heard.headed)
