@@ -1,5 +1,5 @@
 -- What a failed call tells: that a socket is of no use any more, or that memory is wanting.
-use Rattle.std.specs.Prelude.{◌≡◌, ◌⊎◌, ¬◌, Option, Some, ℤ, pos}
+use Rattle.std.specs.Prelude.{◌≡◌, ◌⊎◌, Option, Some, ℤ, pos}
 use Rattle.slp_sockets.specs.declared.fault.LoopFault.{LoopFault}
 use Rattle.slp_sockets.specs.declared.fault.LoopFault.TheVariants.{Io, NoMemory}
 

@@ -1,4 +1,4 @@
-ghost use Rattle.std.specs.Prelude.{◌≡◌, ◌≢◌, ◌≤◌, ◌<◌, ◌↔◌, ◌++◌, ℕ, List, [], length, slice_get, Some, Err, IfOk, IfErr, IsTrue};
+ghost use Rattle.std.specs.Prelude.{◌≡◌, ◌≢◌, ◌≤◌, ◌<◌, ◌↔◌, ◌++◌, ℕ, List, [], length, slice_get, Some, Err, IfOk, IfErr, IsFalse};
 ghost use Rattle.slp_sockets.specs.Handing.{taken_in};
 ghost use Rattle.slp_sockets.specs.Holding.{NoneSits, longest_stay};
 ghost use Rattle.slp_sockets.specs.Readiness.{tokens_of};

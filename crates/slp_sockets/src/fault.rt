@@ -2,10 +2,13 @@ ghost use Rattle.std.specs.Prelude.{◌↔◌, IsTrue};
 ghost use Rattle.std_io.specs.IoError.{raw_os_error};
 ghost use Rattle.slp_sockets.specs.Sockets.{IsLost, IsWanting};
 
-use libc::{EBADF, EINVAL, ENOBUFS, ENOMEM, ENOTSOCK};
+use libc::{EBADF, EINVAL, ENOMEM, ENOTSOCK};
 use std::alloc::AllocError;
 use std::io;
 use thiserror::Error;
+
+/// That the system has no room in its buffers: Linux's number, which the crate `libc` does not name.
+const ENOBUFS: i32 = 105;
 
 /// Why a call of a loop was given up.
 #[derive(Clone, Copy, Debug, PartialEq, Eq, Error)]

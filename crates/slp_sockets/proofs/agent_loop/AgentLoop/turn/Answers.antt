@@ -26,7 +26,7 @@ returns-clause-whole g c = λ not. (
   elim c.match-begin.branch [
     | in-Ok w ↦
         let all = w.serve_events-told.ensures.served in
-        rw (w.self-inside-is, all.2, all.3 (λ is. not (w.told-is ∙ is)), append-nil) (
+        rw (w.self-inside-is, all.2, all.3 (w.told_after-told.ensures.0 (λ is. not (w.told-is ∙ is))), append-nil) (
           tended c.begin.new.self,
           w.in-Ok.ensures.begun,
           subst (λ s. AreServedAt g.S.Serve.manner s all.0 (record { seats = w.serve_events-told.new.streams.seats; server = w.serve_events-told.new.server })) (ap tended c.self.view_is) all.4,
