@@ -1,5 +1,7 @@
 -- What a failed call tells: that a socket is of no use any more, or that memory is wanting.
-use Rattle.std.specs.Prelude.{◌≡◌, ◌⊎◌, Option, Some, ℤ, pos}
+use Rattle.std.specs.Prelude.{◌≡◌, ◌⊎◌, ⊤, Bool, true, false, Option, Some, Result, Ok, Err, ℤ, pos}
+use Rattle.std.specs.declared.io.Error.{Error}
+use Rattle.std_io.specs.IoError.{raw_os_error}
 use Rattle.slp_sockets.specs.declared.fault.LoopFault.{LoopFault}
 use Rattle.slp_sockets.specs.declared.fault.LoopFault.TheVariants.{Io, NoMemory}
 
@@ -15,3 +17,9 @@ IsWanting number = (number ≡ Some (pos 12)) ⊎ (number ≡ Some (pos 105))
 abbrev pub IsUnopened : Option ℤ → LoopFault → Type 0
 IsUnopened number NoMemory = IsWanting number
 IsUnopened number Io = ¬ IsWanting number
+
+-- whether a wait came to pass, by what the system says of it: it did; it did not, for want of memory, which may pass; or it can't, which is the end of a loop
+abbrev pub Waits : Result ⊤ Error → Result Bool LoopFault → Type 0
+Waits (Ok x) told = told ≡ Ok true
+Waits (Err e) (Ok has_waited) = IsWanting (raw_os_error e) × (has_waited ≡ false)
+Waits (Err e) (Err fault) = ¬ IsWanting (raw_os_error e) × (fault ≡ Io)

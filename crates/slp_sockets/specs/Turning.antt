@@ -61,6 +61,12 @@ lack_of (Ok next) = Ok tt
 lack_of (Err Io) = Ok tt
 lack_of (Err NoMemory) = Err NoMemory
 
+-- what a turn tells of what was served: that memory was wanting also where it could not wait
+abbrev pub turn_told : Bool → Result ⊤ LoopFault → Result ⊤ LoopFault
+turn_told true told = told
+turn_told false (Ok x) = Err NoMemory
+turn_told false (Err e) = Err e
+
 -- What is there of a stream by what its steps came to: it stays where it is blocked, and is closed where it ended or failed. One that may go on stays where it can
 -- be waited for.
 abbrev pub Remains : Link → Result Next LoopFault → Option Seat → Type 0

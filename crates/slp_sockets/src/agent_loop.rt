@@ -2,7 +2,8 @@ ghost use Rattle.std.specs.Prelude.{◌≡◌, ◌≢◌, ◌≤◌, ◌<◌, �
 ghost use Rattle.slp_sockets.specs.Handing.{taken_in};
 ghost use Rattle.slp_sockets.specs.Holding.{NoneSits, longest_stay};
 ghost use Rattle.slp_sockets.specs.Readiness.{tokens_of};
-ghost use Rattle.slp_sockets.specs.Turning.{AreServedAt, IsBegun, IsServedAt, IsTurn, SettlesFirst, SettlesLast, tended};
+ghost use Rattle.slp_sockets.specs.Sockets.{Waits};
+ghost use Rattle.slp_sockets.specs.Turning.{AreServedAt, IsBegun, IsServedAt, IsTurn, SettlesFirst, SettlesLast, tended, turn_told};
 ghost use Rattle.slp_sockets.specs.declared.fault.LoopFault.TheVariants.{Io as Failing};
 
 use crate::clock::{Moments, SteadyClock};
@@ -95,21 +96,28 @@ fn longest_wait<S: Serve>(
     }
 }
 
-// Waits until a socket is ready, so many milliseconds at most, and answers whether it could: no memory for that may pass, and nothing is ready then.
-fn wait_for(poll: &mut Poll, events: &mut Events, millis: u64) -> Result<bool, LoopFault>
-    ensures fault { IfErr result (λ e. e ≡ Failing) }
-    ensures none { IfOk result (λ told. IsFalse told → tokens_of events.new ≡ []) }
+// Whether a wait came to pass. No memory for it may pass; what else fails is the end of a loop.
+fn has_waited(told: io::Result<()>) -> Result<bool, LoopFault>
+    ensures { Waits told result }
 {
-    match poll.poll(events, Some(Duration::from_millis(millis))) {
+    match told {
         Ok(()) => Ok(true),
         Err(e) if is_want_of_memory(&e) => Ok(false),
         Err(_) => Err(LoopFault::Io),
     }
 }
 
-// What a turn tells that could not wait: that memory was wanting.
+// Waits until a socket is ready, so many milliseconds at most, and answers whether it could: nothing is ready where it could not.
+fn wait_for(poll: &mut Poll, events: &mut Events, millis: u64) -> Result<bool, LoopFault>
+    ensures fault { IfErr result (λ e. e ≡ Failing) }
+    ensures none { IfOk result (λ told. IsFalse told → tokens_of events.new ≡ []) }
+{
+    has_waited(poll.poll(events, Some(Duration::from_millis(millis))))
+}
+
+// What a turn tells: that memory was wanting also where it could not wait.
 fn told_after(has_waited: bool, told: Result<(), LoopFault>) -> Result<(), LoopFault>
-    ensures { result ≢ Err Failing ↔ told ≢ Err Failing }
+    ensures { result ≡ turn_told has_waited told }
 {
     match told {
         Ok(()) if !has_waited => Err(LoopFault::NoMemory),
@@ -283,7 +291,7 @@ impl<S: Serve + Drop> AgentLoop<S> {
         ensures whole { result ≢ Err Failing → IsTurn S.manner (tended self.old) self.new.ready (tended self.new) }
     {
         let told = match self.begin(steady) {
-            Ok(has_waited) => {
+            Ok(waited) => {
                 let told = serve_events(
                     self.poll.registry(),
                     &self.events,
@@ -291,7 +299,7 @@ impl<S: Serve + Drop> AgentLoop<S> {
                     &mut self.streams,
                     &mut self.server,
                 );
-                told_after(has_waited, told)
+                told_after(waited, told)
             }
             Err(fault) => Err(fault),
         };
@@ -313,7 +321,7 @@ impl<S: Serve + Drop> AgentLoop<S> {
             &mut self.takes,
             &self.server,
         );
-        let has_waited = wait_for(&mut self.poll, &mut self.events, wait)?;
+        let waited = wait_for(&mut self.poll, &mut self.events, wait)?;
         self.streams.go_on_to(steady.now());
         self.streams.accept_again(self.poll.registry())?;
         hand_over(
@@ -333,7 +341,7 @@ impl<S: Serve + Drop> AgentLoop<S> {
         self.streams.resume(self.poll.registry(), &mut self.server);
         self.datagrams
             .serve_again(self.poll.registry(), &mut self.server)?;
-        Ok(has_waited)
+        Ok(waited)
     }
 
     /// Takes turns until the flag is set, or a turn answers `Io`, which is its only fault. What was told of the last

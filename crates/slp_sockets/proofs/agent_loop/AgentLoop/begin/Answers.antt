@@ -5,8 +5,8 @@ use Rattle.slp_sockets.proofs.Reaching.{begins, begun_first, resumes_none, taken
 use Rattle.slp_sockets.proofs.Sitting.{come_then_go}
 use Rattle.slp_sockets.proofs.agent_loop.AgentLoop.begin.Goals as goal
 
-pub returns-in_err-has_waited-clause-served : goal.returns-in_err-has_waited-clause-served
-returns-in_err-has_waited-clause-served g c =
+pub returns-in_err-waited-clause-served : goal.returns-in_err-waited-clause-served
+returns-in_err-waited-clause-served g c =
     begun_first _ _ _
     (begins g.S.Serve.manner (tended c.args.self.now) c.self.inside.streams.seats c.self.inside.streams.seats c.self.inside.streams.seats c.self.inside.streams.seats c.self.inside.streams.seats c.self.inside.server c.settle.new.self c.settle.new.self c.settle.new.self c.settle.new.self
     (ap tended c.self.view_is) c.settle.ensures refl (λ _ _ here. inl here) (λ _ _ here. inl here) (takes_none _ c.settle.new.self) (resumes_none _ _) (inr refl))

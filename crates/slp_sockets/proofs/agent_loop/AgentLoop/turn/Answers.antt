@@ -1,10 +1,18 @@
-use Rattle.std.proofs.Common.{[], refl, sym, ap, ◌∙◌, subst}
+use Rattle.std.proofs.Common.{◌≡◌, Bool, true, false, Result, Err, [], refl, sym, ap, ◌∙◌, subst}
+use Rattle.std.specs.Prelude.{⊤}
 use Rattle.std.proofs.lemmas.List.{append-nil}
-use Rattle.slp_sockets.specs.Turning.{Tended, AreServedAt, SettlesFirst, tended}
+use Rattle.slp_sockets.specs.Turning.{Tended, AreServedAt, SettlesFirst, tended, turn_told}
+use Rattle.slp_sockets.specs.declared.fault.LoopFault.{LoopFault}
+use Rattle.slp_sockets.specs.declared.fault.LoopFault.TheVariants.{Io}
 use Rattle.slp_sockets.proofs.Reaching.{first_on, reach_on, reach_peers, reach_tokens}
 use Rattle.slp_sockets.proofs.Sitting.{only_gone}
 use Rattle.slp_sockets.proofs.agent_loop.AgentLoop.turn.Goals as goal
 use Rattle.slp_sockets.proofs.agent_loop.AgentLoop.turn.Goals.{in-Ok, in-Err}
+
+-- a socket that is lost is told of, whether it could wait or not
+lost_told : (waited : Bool) (told : Result ⊤ LoopFault) → told ≡ Err Io → turn_told waited told ≡ Err Io
+lost_told true told is = is
+lost_told false told is = ap (turn_told false) is
 
 pub returns-clause-served : goal.returns-clause-served
 returns-clause-served g c =
@@ -26,7 +34,7 @@ returns-clause-whole g c = λ not. (
   elim c.match-begin.branch [
     | in-Ok w ↦
         let all = w.serve_events-told.ensures.served in
-        rw (w.self-inside-is, all.2, all.3 (w.told_after-told.ensures.0 (λ is. not (w.told-is ∙ is))), append-nil) (
+        rw (w.self-inside-is, all.2, all.3 (λ is. not (w.told-is ∙ w.told_after-told.ensures ∙ lost_told w.in-Ok.waited w.serve_events-told.result is)), append-nil) (
           tended c.begin.new.self,
           w.in-Ok.ensures.begun,
           subst (λ s. AreServedAt g.S.Serve.manner s all.0 (record { seats = w.serve_events-told.new.streams.seats; server = w.serve_events-told.new.server })) (ap tended c.self.view_is) all.4,
