@@ -1,4 +1,4 @@
-ghost use Rattle.std.specs.Prelude.{◌≡◌, ◌≢◌, ◌≤◌, ◌<◌, ◌↔◌, ◌++◌, ℕ, List, [], length, slice_get, Some, Err, IfOk, IfErr, IsFalse};
+ghost use Rattle.std.specs.Prelude.{◌≡◌, ◌≢◌, ◌≤◌, ◌<◌, ◌↔◌, ◌++◌, ℕ, List, [], length, slice_get, Some, Err, IfOk, IfErr, IsTrue, IsFalse};
 ghost use Rattle.slp_sockets.specs.Handing.{taken_in};
 ghost use Rattle.slp_sockets.specs.Holding.{NoneSits, longest_stay};
 ghost use Rattle.slp_sockets.specs.Readiness.{tokens_of};
@@ -123,6 +123,13 @@ fn told_after(has_waited: bool, told: Result<(), LoopFault>) -> Result<(), LoopF
         Ok(()) if !has_waited => Err(LoopFault::NoMemory),
         _ => told,
     }
+}
+
+// Whether a turn tells that its sockets are of no use any more. Want of memory may pass.
+fn is_lost(told: Result<(), LoopFault>) -> bool
+    ensures { IsTrue result ↔ (told ≡ Err Failing) }
+{
+    told == Err(LoopFault::Io)
 }
 
 /// Serves the datagrams and the streams of one address.
@@ -357,13 +364,13 @@ impl<S: Serve + Drop> AgentLoop<S> {
                 self.server.settle();
                 return Ok(());
             }
-            match self.turn(&mut steady) {
-                Ok(()) => {}
-                Err(LoopFault::NoMemory) => rt.sleep(Duration::from_millis(SHORT_WAIT)),
-                Err(LoopFault::Io) => {
-                    self.server.settle();
-                    return Err(LoopFault::Io);
-                }
+            let told = self.turn(&mut steady);
+            if is_lost(told) {
+                self.server.settle();
+                return Err(LoopFault::Io);
+            }
+            if told.is_err() {
+                rt.sleep(Duration::from_millis(SHORT_WAIT));
             }
         }
         unreachable!()
