@@ -1,10 +1,12 @@
-ghost use Rattle.std.specs.Prelude.{◌≡◌, ◌⊎◌, ◌≤◌, ◌<◌, ◌+◌, ◌↔◌, ℕ, List, [], true, false, Some, IfErr, IfOk, IsTrue, IsFalse};
+ghost use Rattle.std.specs.Prelude.{◌≡◌, ◌⊎◌, ◌≤◌, ◌<◌, ◌+◌, ◌↔◌, ℕ, List, [], true, false, Some, pos, IfErr, IfOk, IsTrue, IsFalse, MatchResult};
+ghost use Rattle.std_io.specs.IoError.{raw_os_error};
 ghost use Rattle.slab.specs.Slab.{slab_len};
 ghost use Rattle.slp_sockets.specs.Holding.{HasNoOther, IsStillest, KeepsOthers, NoneSits, least_stay, longest_stay, moment_of};
 ghost use Rattle.slp_sockets.specs.Holding as holding;
 ghost use Rattle.slp_sockets.specs.Handing.{AreGiven, Joins, given_by};
 ghost use Rattle.slp_sockets.specs.Linking.{has_message};
 ghost use Rattle.slp_sockets.specs.Sitting.{seat, seats};
+ghost use Rattle.slp_sockets.specs.Sockets.{IsLost};
 ghost use Rattle.slp_sockets.specs.Turning.{AdvancesAt, Admits, ComeOrGo, Keeps, Resumes, ServesAt};
 ghost use Rattle.slp_sockets.specs.Turning as turning;
 ghost use Rattle.slp_sockets.specs.declared.fault.LoopFault.TheVariants.{Io as Failing};
@@ -15,6 +17,7 @@ use crate::lane::{Giver, give_streams};
 use crate::peer::Peer;
 use crate::serve::Serve;
 use addresses::Addr;
+use libc::EMFILE;
 use mio::net::{TcpListener, TcpStream};
 use mio::{Interest, Registry, Token};
 use slab::Slab;
@@ -127,6 +130,7 @@ impl Streams {
     // Closes the stream that has sat there longest, where that is 60 seconds, and answers whether there is a place now.
     fn give_place(&mut self) -> bool
         ensures room { IsTrue result → self.new.held < self.new.limit }
+        ensures closed { IsTrue result → self.new.held + 1 ≡ self.old.held }
         ensures gives { IsFalse result → NoneSits least_stay self.new.moment self.new.seats }
         ensures moment { self.new.moment ≡ self.old.moment }
         ensures kept { KeepsOthers least_stay self.old.moment self.old.seats self.new.seats }
@@ -223,6 +227,25 @@ impl Streams {
         self.keep(registry, peer);
     }
 
+    // What is told where a stream could not be accepted: whether the listener itself failed. Where no descriptor is left, the stream that has sat there longest gives
+    // its own, where that is 60 seconds.
+    fn unaccepted(&mut self, error: &io::Error) -> Result<(), LoopFault>
+        ensures told { MatchResult result (λ _. ¬ IsLost (raw_os_error error.now)) (λ e. IsLost (raw_os_error error.now) × (e ≡ Failing)) }
+        ensures gives { raw_os_error error.now ≡ Some (pos 24) → (self.new.held + 1 ≡ self.old.held) ⊎ NoneSits least_stay self.new.moment self.new.seats }
+        ensures limit { self.new.limit ≡ self.old.limit }
+        ensures moment { self.new.moment ≡ self.old.moment }
+        ensures only { HasNoOther self.old.seats self.new.seats }
+        ensures kept { KeepsOthers least_stay self.old.moment self.old.seats self.new.seats }
+    {
+        if is_socket_lost(error) {
+            return Err(LoopFault::Io);
+        }
+        if error.raw_os_error() == Some(EMFILE) {
+            self.give_place();
+        }
+        Ok(())
+    }
+
     /// Accepts what waits. `Io` where the listener itself failed.
     pub fn accept(&mut self, registry: &Registry) -> Result<(), LoopFault>
         ensures fault { IfErr result (λ e. e ≡ Failing) }
@@ -240,11 +263,7 @@ impl Streams {
                     ErrorKind::Interrupted | ErrorKind::ConnectionAborted => {}
                     _ => {
                         self.accepts_again = true;
-                        return if is_socket_lost(&e) {
-                            Err(LoopFault::Io)
-                        } else {
-                            Ok(())
-                        };
+                        return self.unaccepted(&e);
                     }
                 },
             }
