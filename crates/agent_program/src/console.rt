@@ -33,13 +33,15 @@ const LONGEST_TEXT: usize = 64;
 
 /// What acts on words: the writer and the gate, which it shares with the loops, the output, the rule file and the clock. Contracts see the output.
 #[derive(Drop)]
-pub(crate) struct Console<'r, 's, J: Naming, R: Wait + Clock, G: Gate, L: Log + Drop> {
+pub(crate) struct Console<'r, 's, J: Naming, R: Files + Wait + Clock, G: Gate, L: Log + Drop> {
     pub rt: &'r R,
     pub alloc: Global,
     pub writer: &'s Mutex<DirectoryWriter<J, &'r R>>,
     pub gate: &'s G,
     pub output: L,
     pub rules: Option<&'s Text>,
+    /// The rule file, which is closed for a reload: so there is a descriptor for it where streams have taken the others.
+    pub spare: Option<R::File>,
     pub clock: WallClock<'r, R>,
 }
 
@@ -76,13 +78,32 @@ fn heard(end: End) -> Result<(), LoopFault>
 }
 
 // Whether what stands at a path is to be opened: a regular file, or what can't be looked at, so that opening it tells why. Of a pipe that nobody writes to the opening would not end.
-fn may_open<R: Files>(rt: &R, path: Option<&Text>) -> bool {
-    match path {
-        Some(path) => match fs::metadata(rt, path.as_str()) {
-            Ok(metadata) => metadata.is_file(),
-            Err(_) => true,
-        },
-        None => true,
+fn may_open<R: Files>(rt: &R, path: &Text) -> bool {
+    match fs::metadata(rt, path.as_str()) {
+        Ok(metadata) => metadata.is_file(),
+        Err(_) => true,
+    }
+}
+
+/// A rule file, opened and unread, where there is one.
+pub(crate) fn opened<R: Files>(rt: &R, path: Option<&Text>) -> Option<R::File> {
+    let path = path?;
+    if !may_open(rt, path) {
+        return None;
+    }
+    fs::open(rt, path.as_str()).ok()
+}
+
+// The rules of a file, where one is named.
+fn rules_of<R: Files>(rt: &R, alloc: Global, path: Option<&Text>) -> Result<Rules, ReloadFault> {
+    if let Some(path) = path
+        && !may_open(rt, path)
+    {
+        return Err(ReloadFault::File);
+    }
+    match rules_at(rt, alloc, path) {
+        Ok(rules) => Ok(rules),
+        Err(fault) => Err(unread_rules(fault)),
     }
 }
 
@@ -140,13 +161,10 @@ where
     fn read_rules(&mut self) -> Result<usize, ReloadFault>
         ensures { self.new.output ≡ self.old.output }
     {
-        if !may_open(self.rt, self.rules) {
-            return Err(ReloadFault::File);
-        }
-        match rules_at(self.rt, self.alloc, self.rules) {
-            Ok(rules) => self.put(rules),
-            Err(fault) => Err(unread_rules(fault)),
-        }
+        self.spare = None;
+        let told = rules_of(self.rt, self.alloc, self.rules);
+        self.spare = opened(self.rt, self.rules);
+        self.put(told?)
     }
 
     // Prints what came of a reload.
@@ -212,7 +230,7 @@ pub(crate) struct Operator<
     'r,
     's,
     J: Naming,
-    R: Wait + Clock,
+    R: Files + Wait + Clock,
     G: Gate,
     L: Log + Drop,
     I: Input + Drop,

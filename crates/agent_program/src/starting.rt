@@ -4,7 +4,7 @@ ghost use Rattle.std.specs.Arc.{arc_value};
 ghost use Rattle.std.specs.Option.{option_map};
 ghost use Rattle.agent_program.specs.Jobs.{AreJobs, IsLoop};
 
-use crate::console::{Console, Operator};
+use crate::console::{Console, Operator, opened};
 use crate::fault::loop_fault;
 use crate::opening::{Beginning, begun};
 use crate::sweeping::Sweeping;
@@ -207,6 +207,7 @@ where
             output: shared.output,
         },
         rules: config.rules.as_ref(),
+        spare: opened(shared.rt, config.rules.as_ref()),
         clock: WallClock::new(shared.rt),
     };
     let input = SharedInput {
