@@ -35,7 +35,7 @@ module _ {S : Type 0} (manner : Manner S) where
   reach_again a b (inl one) = reach_part a b (inr (inl one))
   reach_again a b (inr same) = ([], same)
 
-  received_again : (seats : List (Option Seat)) (a b : S) → ServesRound manner a b ⊎ (b ≡ a)
+  pub received_again : (seats : List (Option Seat)) (a b : S) → ServesRound manner a b ⊎ (b ≡ a)
       → ReceivesAgain manner (record { seats = seats; server = a }) (record { seats = seats; server = b })
   received_again seats a b (inl one) = inl (one, refl)
   received_again seats a b (inr same) = inr (ap (λ s. record { seats = seats; server = s }) same)
@@ -76,7 +76,7 @@ module _ {S : Type 0} (manner : Manner S) where
     | inl is ↦ reach_part a b (inr (inl (one.datagrams is)))
     | inr not ↦ elim (cases_eq token listener_token) [
       | inl is ↦ reach_peers a b (one.listener is)
-      | inr nor ↦ reach_stream token a b (one.stream not nor)
+      | inr nor ↦ let moved = one.stream not nor in reach_on a moved.0 b (reach_stream token a moved.0 moved.1) (reach_again moved.0 b moved.2)
     ]
   ]
 

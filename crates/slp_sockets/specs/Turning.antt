@@ -148,11 +148,15 @@ module _ {S : Type 0} (manner : Manner S) where
   abbrev pub IsByPeers : Tended S → Tended S → Type 0
   IsByPeers before after = ComeOrGo before.seats after.seats × (after.server ≡ before.server)
 
+  -- a stream goes on, and datagrams that came while streams did are served
+  abbrev pub IsStreamServed : ℕ → Tended S → Tended S → Type 0
+  IsStreamServed key before after = (moved : Tended S) × ServesAt key before moved × ReceivesAgain moved after
+
   -- the socket with a token is served, which is ready
   pub record IsServedAt (token : ℕ) (before after : Tended S) : Type 0 where
     pub datagrams : token ≡ datagrams_token → IsByDatagrams before after
     pub listener : token ≡ listener_token → IsByPeers before after
-    pub stream : token ≢ datagrams_token → token ≢ listener_token → ServesAt token before after
+    pub stream : token ≢ datagrams_token → token ≢ listener_token → IsStreamServed token before after
 
   -- each of them is, one after the other
   abbrev pub AreServedAt : Tended S → List ℕ → Tended S → Type 0

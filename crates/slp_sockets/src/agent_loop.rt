@@ -3,7 +3,7 @@ ghost use Rattle.slp_sockets.specs.Handing.{taken_in};
 ghost use Rattle.slp_sockets.specs.Holding.{NoneSits, longest_stay};
 ghost use Rattle.slp_sockets.specs.Readiness.{tokens_of};
 ghost use Rattle.slp_sockets.specs.Sockets.{Waits};
-ghost use Rattle.slp_sockets.specs.Turning.{AreServedAt, IsBegun, IsServedAt, IsTurn, SettlesFirst, SettlesLast, tended, turn_told};
+ghost use Rattle.slp_sockets.specs.Turning.{AreServedAt, IsBegun, IsServedAt, IsStreamServed, IsTurn, SettlesFirst, SettlesLast, tended, turn_told};
 ghost use Rattle.slp_sockets.specs.declared.fault.LoopFault.TheVariants.{Io as Failing};
 
 use crate::clock::{Moments, SteadyClock};
@@ -31,6 +31,22 @@ const LONGEST_WAIT: u64 = 500;
 /// The same where a message is put aside that waits for others.
 const SHORT_WAIT: u64 = 1;
 
+// Lets a stream go on, and then serves the datagrams that came while streams did.
+fn serve_stream<S: Serve>(
+    registry: &Registry,
+    key: usize,
+    datagrams: &mut Datagrams<UdpSocket>,
+    streams: &mut Streams,
+    server: &mut S,
+) -> Result<(), LoopFault>
+    ensures limit { streams.new.limit ≡ streams.old.limit }
+    ensures served { IsStreamServed S.manner key (record { seats = streams.old.seats; server = server.old }) (record { seats = streams.new.seats; server = server.new }) }
+{
+    let told = streams.advance(registry, key, server);
+    datagrams.serve_between(registry, server)?;
+    told
+}
+
 // Serves the socket of an event.
 fn serve_event<S: Serve>(
     registry: &Registry,
@@ -48,7 +64,7 @@ fn serve_event<S: Serve>(
     } else if token.0 == LISTENER.0 {
         streams.accept(registry)
     } else {
-        streams.advance(registry, token.0, server)
+        serve_stream(registry, token.0, datagrams, streams, server)
     }
 }
 
@@ -65,6 +81,7 @@ fn serve_events<S: Serve>(
     ensures served { (front : List ℕ) × (rest : List ℕ) × (tokens_of events.now ≡ front ++ rest) × (result ≢ Err Failing → rest ≡ [])
         × AreServedAt S.manner (record { seats = streams.old.seats; server = server.old }) front (record { seats = streams.new.seats; server = server.new }) }
 {
+    datagrams.look(server);
     let mut outcome = Ok(());
     for event in events.iter() {
         match serve_event(registry, event.token(), datagrams, streams, server) {

@@ -322,6 +322,8 @@ pub struct Datagrams<P: Port + Drop> {
     aside: VecDeque<Exchange>,
     // Whether a datagram may wait that no event will report.
     receives_again: bool,
+    // When it was last looked whether one waits, in microseconds of the server's clock.
+    looked: u64,
 }
 
 impl<P: Port + Drop> Drop for Datagrams<P> {
@@ -331,6 +333,7 @@ impl<P: Port + Drop> Drop for Datagrams<P> {
             exchanges: _,
             aside: _,
             receives_again: _,
+            looked: _,
         } = self;
     }
 }
@@ -359,6 +362,7 @@ impl<P: Port + Drop> Datagrams<P> {
             exchanges,
             aside: VecDeque::new(alloc),
             receives_again: false,
+            looked: 0,
         })
     }
 
@@ -451,6 +455,31 @@ impl Datagrams<UdpSocket> {
         if !self.receives_again {
             return Ok(());
         }
+        let told = self.serve(server);
+        self.note(told, registry)
+    }
+
+    /// Begins a turn, whose events tell whether one waits.
+    pub fn look<S: Serve>(&mut self, server: &S)
+        ensures { self.new ≡ self.old }
+    {
+        self.looked = server.micros();
+    }
+
+    /// Serves what came meanwhile, where the last look was a millisecond ago: so no datagram waits for all the streams of a turn.
+    pub fn serve_between<S: Serve>(
+        &mut self,
+        registry: &Registry,
+        server: &mut S,
+    ) -> Result<(), LoopFault>
+        ensures fault { IfErr result (λ e. e ≡ Failing) }
+        ensures served { ServesRound S.manner server.old server.new ⊎ (server.new ≡ server.old) }
+    {
+        let now = server.micros();
+        if now.saturating_sub(self.looked) <= LATE {
+            return Ok(());
+        }
+        self.looked = now;
         let told = self.serve(server);
         self.note(told, registry)
     }
