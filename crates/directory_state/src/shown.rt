@@ -6,6 +6,7 @@ ghost use Rattle.access_rules.specs.declared.rule.Action.TheVariants.{See};
 ghost use Rattle.attr_list.specs.Lists.{attributes_of};
 ghost use Rattle.search_filter.specs.Filters.{holds};
 ghost use Rattle.directory_questions.specs.Sights.{is_left_in, is_shown};
+ghost use Rattle.slp_tags.specs.Tags.{selects};
 ghost use Rattle.directory_state.specs.Searches.{entries_in, open_scopes, seen_of, shown_elements, shows_in, AreSeenBy, IsFirst, IsSight, ShowsAll};
 
 use crate::asked::Viewer;
@@ -25,6 +26,14 @@ use std::alloc::Global;
 pub struct Sight<'a> {
     pub first: usize,
     pub tables: FittingHides<'a>,
+}
+
+// Whether a tag is selected. By no parts each is, which is known without a call.
+#[inline(always)]
+fn is_selected(tags: &TagList, tag: &Key) -> bool
+    ensures { result ≡ selects tags.now tag.now }
+{
+    tags.is_empty() || tags.selects(tag)
 }
 
 impl Viewer<'_> {
@@ -135,7 +144,7 @@ impl Viewer<'_> {
         ensures { IfOk result (λ _. gathering.new ≡ gathering.old ++ shown_elements self.now tags.now seen.entry.entry.now) }
     {
         if self.about.hide_nothing() {
-            return gathering.add(&seen.entry.attrs, &|tag: &Key| tags.selects(tag));
+            return gathering.add(&seen.entry.attrs, &|tag: &Key| is_selected(tags, tag));
         }
         self.add_by_sight(seen, tags, gathering)
     }
@@ -156,9 +165,9 @@ impl Viewer<'_> {
         match self.sight(seen) {
             Some(sight) => gathering.add(
                 &entry.attrs,
-                &|tag: &Key| { tags.selects(tag) && self.shows(entry, &sight, tag) },
+                &|tag: &Key| { is_selected(tags, tag) && self.shows(entry, &sight, tag) },
             ),
-            None => gathering.add(&entry.attrs, &|tag: &Key| tags.selects(tag)),
+            None => gathering.add(&entry.attrs, &|tag: &Key| is_selected(tags, tag)),
         }
     }
 
