@@ -54,11 +54,12 @@ line_is_short a asker small =
     let head = head_length [] (lacking a asker) in
     let tail = tail_length (lacking a asker) in
     let beginning = length-append (decimal 10) (codes " by=") in
+    let asked = length-append (address_text asker) (codes " type=") in
     let word = length-append (action_text a) (codes " asker=") in
     let ten = length-decimal-le 2 10 (omega arith) (omega arith) (omega arith) in
     let short_word = action_is_short a in
     let short_address = address_is_short asker small in
-    omega (arith, whole, head, tail, beginning, word, ten, short_word, short_address)
+    omega (arith, whole, head, tail, beginning, asked, word, ten, short_word, short_address)
 
 -- what is asked for has a reply
 pub answered : (r : Request) → (f : ℕ) × (Some f ≡ reply_function_of (function_in r))

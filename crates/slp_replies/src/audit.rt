@@ -7,7 +7,7 @@ ghost use Rattle.slp_replies.specs.Audits.{action_text, audit_of, rule_named, te
 ghost use Rattle.slp_text.specs.Escapes.{written_character, escaped_text};
 ghost use Rattle.slp_text.specs.declared.escapes.Place.TheVariants.{Scope};
 
-use crate::octets::address_bytes;
+use crate::octets::asker_bytes;
 use crate::sink::Sink;
 use access_rules::{Action, Rules};
 use addresses::Addr;
@@ -74,13 +74,13 @@ fn put_number<S: Sink>(sink: &mut S, number: u16) -> Result<(), NoMemory>
     sink.put(digits.format(number).as_bytes())
 }
 
-// In one piece.
-fn put_address<S: Sink>(sink: &mut S, address: Addr) -> Result<(), NoMemory>
-    ensures ok { OnOk result (S.written sink.new ≡ S.written sink.old ++ address_text address) }
-    ensures room { OnOk result (S.room sink.old ≤ S.room sink.new + length (address_text address)) }
-    ensures err { OnErr result (S.room sink.old ≤ length (address_text address)) }
+// Who asked, and what stands before the type, in one piece.
+fn put_asker<S: Sink>(sink: &mut S, asker: Addr) -> Result<(), NoMemory>
+    ensures ok { OnOk result (S.written sink.new ≡ S.written sink.old ++ (address_text asker ++ codes " type=")) }
+    ensures room { OnOk result (S.room sink.old ≤ S.room sink.new + length (address_text asker ++ codes " type=")) }
+    ensures err { OnErr result (S.room sink.old ≤ length (address_text asker ++ codes " type=")) }
 {
-    let (text, end) = address_bytes(address);
+    let (text, end) = asker_bytes(asker);
     sink.put(&text[..end])
 }
 
@@ -200,8 +200,7 @@ fn put_tail<S: Sink>(sink: &mut S, audit: &AuditView<'_>) -> Result<(), NoMemory
     ensures ok { OnOk result (S.written sink.new ≡ S.written sink.old ++ tail_text (audit_of audit.now)) }
     ensures err { OnErr result (S.room sink.old ≤ length (tail_text (audit_of audit.now))) }
 {
-    put_address(sink, audit.asker)?;
-    sink.put(b" type=")?;
+    put_asker(sink, audit.asker)?;
     sink.put(kind_text(audit.finding.kind).as_bytes())?;
     put_ending(sink, audit.finding.scope)
 }
