@@ -21,13 +21,13 @@ action_piece a = codes " action=" ++ action_text a.action ++ codes " asker="
 head_of : (w b d a e f : List ℕ) → ((w ++ b) ++ d) ++ (a ++ (e ++ f)) ≡ w ++ (b ++ d ++ a ++ e ++ f)
 head_of w b d a e f = simp append_assoc refl
 
-tail_of : (w g p q t : List ℕ) → ((w ++ (g ++ p)) ++ q) ++ t ≡ w ++ (g ++ p ++ q ++ t)
+tail_of : (w g p q t : List ℕ) → (w ++ (g ++ p)) ++ (q ++ t) ≡ w ++ (g ++ p ++ q ++ t)
 tail_of w g p q t = simp append_assoc refl
 
 pub head_is_written : (w name : List ℕ) (a : Audit) → ((w ++ beginning_text a.code) ++ decider_text name a.because.decider) ++ action_piece a ≡ w ++ head_text name a
 head_is_written w name a = head_of w (beginning_text a.code) (decider_text name a.because.decider) (codes " action=") (action_text a.action) (codes " asker=")
 
-pub tail_is_written : (w : List ℕ) (a : Audit) → ((w ++ (address_text a.asker ++ codes " type=")) ++ text_or_dash a.because.kind) ++ ending_text a.because.scope ≡ w ++ tail_text a
+pub tail_is_written : (w : List ℕ) (a : Audit) → (w ++ (address_text a.asker ++ codes " type=")) ++ (text_or_dash a.because.kind ++ ending_text a.because.scope) ≡ w ++ tail_text a
 tail_is_written w a = tail_of w (address_text a.asker) (codes " type=") (text_or_dash a.because.kind) (ending_text a.because.scope)
 
 pub line_is_written : (w name : List ℕ) (a : Audit) → (w ++ head_text name a) ++ tail_text a ≡ w ++ line_text name a
@@ -42,14 +42,8 @@ head_length name a =
     let three = length-append (beginning_text a.code ++ decider_text name a.because.decider) (action_piece a) in
     omega (arith, whole, two, three)
 
-pub tail_length : (a : Audit) → length (tail_text a) ≡ length (address_text a.asker ++ codes " type=") + (length (text_or_dash a.because.kind) + length (ending_text a.because.scope))
-tail_length a =
-    let g = address_text a.asker ++ codes " type=" in
-    let q = text_or_dash a.because.kind in
-    let whole = ap length (tail_is_written [] a) in
-    let two = length-append g q in
-    let three = length-append (g ++ q) (ending_text a.because.scope) in
-    omega (arith, whole, two, three)
+pub tail_length : (a : Audit) → length (tail_text a) ≡ length (address_text a.asker ++ codes " type=") + length (text_or_dash a.because.kind ++ ending_text a.because.scope)
+tail_length a = ap length (sym (tail_is_written [] a)) ∙ length-append (address_text a.asker ++ codes " type=") (text_or_dash a.because.kind ++ ending_text a.because.scope)
 
 pub line_length : (name : List ℕ) (a : Audit) → length (line_text name a) ≡ length (head_text name a) + length (tail_text a)
 unfolding line_text

@@ -195,14 +195,29 @@ fn put_head<S: Sink>(sink: &mut S, rule: &str, audit: &AuditView<'_>) -> Result<
     sink.put(action_part(audit.action).as_bytes())
 }
 
+// On what, and the end of the line: in one piece where it is on nothing.
+fn put_subject<S: Sink>(
+    sink: &mut S,
+    kind: Option<&ServiceType>,
+    scope: Option<&Key>,
+) -> Result<(), NoMemory>
+    ensures ok { OnOk result (S.written sink.new ≡ S.written sink.old ++ (text_or_dash (option_copied kind.entry) ++ ending_text (option_copied scope.entry))) }
+    ensures err { OnErr result (S.room sink.old ≤ length (text_or_dash (option_copied kind.entry) ++ ending_text (option_copied scope.entry))) }
+{
+    if let (None, None) = (kind, scope) {
+        return sink.put(b"- scope=-\n");
+    }
+    sink.put(kind_text(kind).as_bytes())?;
+    put_ending(sink, scope)
+}
+
 // By whom, and on what.
 fn put_tail<S: Sink>(sink: &mut S, audit: &AuditView<'_>) -> Result<(), NoMemory>
     ensures ok { OnOk result (S.written sink.new ≡ S.written sink.old ++ tail_text (audit_of audit.now)) }
     ensures err { OnErr result (S.room sink.old ≤ length (tail_text (audit_of audit.now))) }
 {
     put_asker(sink, audit.asker)?;
-    sink.put(kind_text(audit.finding.kind).as_bytes())?;
-    put_ending(sink, audit.finding.scope)
+    put_subject(sink, audit.finding.kind, audit.finding.scope)
 }
 
 /// Appends the line that tells what came of a message, with the name of the rule that decided.
