@@ -13,8 +13,9 @@
 # make bench       counts what a message costs, and measures the server: minutes, once make build is done; needs valgrind, python3, cc
 # make refusals    refuses each request for memory of the programs in turn: minutes, once make build is done; needs python3
 # make hostile     sends the server ten million broken messages, or count=N, and asks whether anyone else noticed: minutes; needs make build, python3
+# make faults      has each system call of the server fail in turn, or those of call=NAME: half an hour or so, once make build is done; needs python3, cc
 # What is proved is kept in crates/*/out: a second call proves what changed since, and what stands on it. All that builds needs python3.
-.PHONY: help try build demo run day install uninstall test wrong scripts bench refusals hostile
+.PHONY: help try build demo run day install uninstall test wrong scripts bench refusals hostile faults
 .DEFAULT_GOAL := help
 
 script := examples/printer.script
@@ -57,6 +58,7 @@ codes := $(call page_of,slp-codes.7)
 completions := $(root)/share/bash-completion/completions
 completed := slptool slpda slpcheck slpctl slpstat slp
 units := $(root)/lib/systemd/system
+named := $(notdir $(wildcard examples/systemd/*))
 examples := $(root)/share/doc/slpda/examples
 site := rules.toml printer.template slpda.toml
 etc := $(DESTDIR)/etc/slpda
@@ -71,9 +73,7 @@ install:
 	install -d $(dir $(codes)) && make/codes > $(codes) && chmod 644 $(codes)
 	install -m 644 contrib/slptool.bash $(completions)/slptool
 	$(foreach name,$(filter-out slptool,$(completed)),ln -sf slptool $(completions)/$(name) &&) true
-	sed 's|/usr/local/bin/|$(prefix)/bin/|g' examples/systemd/slpda.service > $(units)/slpda.service
-	install -m 644 examples/systemd/slpda.socket $(units)
-	chmod 644 $(units)/slpda.service
+	for unit in $(named); do sed 's|/usr/local/bin|$(prefix)/bin|g' examples/systemd/$$unit > $(units)/$$unit && chmod 644 $(units)/$$unit || exit 1; done
 	install -m 644 $(addprefix examples/site/,$(site) closed.toml one-scope.toml) $(examples)
 	@test ! -e $(etc)/slpda.toml || { echo "$(etc) stays as it is; examples are in $(examples)."; exit 0; }; \
 	for file in $(site); do test -e $(etc)/$$file || install -m 644 examples/site/$$file $(etc) || exit 1; done; \
@@ -82,7 +82,7 @@ install:
 
 uninstall:
 	rm -f $(addprefix $(root)/bin/,$(programs) $(tools)) $(foreach page,$(pages),$(call page_of,$(page))) $(codes)
-	rm -f $(addprefix $(completions)/,$(completed)) $(addprefix $(units)/,slpda.service slpda.socket)
+	rm -f $(addprefix $(completions)/,$(completed)) $(addprefix $(units)/,$(named))
 	rm -f $(addprefix $(examples)/,$(site) closed.toml one-scope.toml)
 	@rmdir $(examples) $(dir $(examples)) 2> /dev/null || true
 	@echo "$(etc) is left as it is."
@@ -108,10 +108,13 @@ refusals:
 	@cd crates/unit_tests && rt test
 	@refusals/try
 
-# Another seed=TEXT than 1 brings other messages.
+# Another seed=TEXT than 1 brings other messages. plant=lost, late, turned, torn or left-out has the server itself do wrong, which has to be noticed.
 hostile:
-	@hostile/try bin/slpda $(or $(count),10000000) $(seed)
-	@hostile/beside
+	@hostile/try bin/slpda $(or $(count),$(if $(plant),1000000,10000000)) $(or $(seed),1) $(plant)
+	@$(if $(plant),true,hostile/beside)
+
+faults:
+	@faults/try bin/slpda $(call)
 
 # One program alone, with what it needs.
 .PHONY: $(addprefix bin/,$(programs))

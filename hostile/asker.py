@@ -1,10 +1,11 @@
 """The second asker, whom no attack may disturb."""
 
 import multiprocessing
+import socket
 import time
 
 from messages import acknowledgement, attributes, code_of, registration, services, spelled, string, types
-from server import ASKED, ASKER, ask, take
+from server import ASKED, ASKER, ask, dropped, take
 
 QUIET = [
     ("service:quiet:one://h1", "service:quiet:one", "(a=1),(b=x)"),
@@ -39,32 +40,49 @@ QUESTIONS = [
 ]
 
 
+def echo(server, it):
+    """Sends each datagram back."""
+    server.leave()
+    while True:
+        message, source = it.recvfrom(65535)
+        it.sendto(message, source)
+
+
 class Asker:
-    """Asks at the other address, one question after the other, in a process of its own, until it is told to stop."""
+    """Asks at the other address, one question after the other, in a process of its own, until it is told to stop. Before each it asks an echo there, which
+    stands for what the machine takes: both are late as often where the server is not."""
 
     def __init__(self, server, patience, pause, stream_each):
         self.server, self.patience, self.pause, self.stream_each = server, patience, pause, stream_each
         self.socket, self.wrong, self.waits, self.again, self.stamp = server.datagrams(ASKER, ASKED), [], [], 0, None
+        self.judged, self.echo, self.echoed = len(QUIET), socket.socket(type=socket.SOCK_DGRAM), socket.socket(type=socket.SOCK_DGRAM)
+        self.echo.bind((ASKED, 0))
+        self.echoed.bind((ASKER, 0))
+        self.echoed.connect(self.echo.getsockname())
         self.stopping, (self.told, self.telling) = multiprocessing.Event(), multiprocessing.Pipe(False)
         self.began = time.time()
 
     def registers(self):
-        """Whether its services were taken."""
-        told = [ask(self.socket, registration(url, kind, "quiet", attrs))[0] for url, kind, attrs in QUIET]
-        return told == [acknowledgement()] * len(QUIET)
+        """Whether its services were taken, each at once."""
+        told = [ask(self.socket, registration(url, kind, "quiet", attrs)) for url, kind, attrs in QUIET]
+        return told == [(acknowledgement(), 1)] * len(QUIET)
 
     def start(self):
+        multiprocessing.Process(target=echo, args=(self.server, self.echo), daemon=True).start()
         multiprocessing.Process(target=self.run, daemon=True).start()
 
     def stop(self):
-        """When it asked and how long each answer took; how many were asked again; what was wrong or lost."""
+        """When it asked, how long each answer took, and that of the echo before it; how many were asked again; how many of its messages the server judged;
+        what was wrong or lost."""
         self.stopping.set()
-        return self.told.recv() if self.told.poll(10) else ([], 0, ["the second asker did not end"])
+        return self.told.recv() if self.told.poll(10) else ([], 0, 0, ["the second asker did not end"])
 
     def run(self):
         self.server.leave()
         while not self.stopping.is_set() and len(self.wrong) < 100:
-            began, number = time.monotonic(), len(self.waits)
+            number, before = len(self.waits), time.monotonic()
+            ask(self.echoed, QUESTIONS[0][0])
+            began = time.monotonic()
             question, right = QUESTIONS[number % len(QUESTIONS)]
             try:
                 reply = self.by_stream(question) if number % self.stream_each == 0 else self.by_datagram(question, number)
@@ -72,19 +90,31 @@ class Asker:
                 fault = self.fault(question, right, reply, took)
             except OSError as e:
                 took, fault = time.monotonic() - began, f"met {e!r}"
-            self.waits.append((began, took))
+            self.waits.append((began, took, began - before))
             if fault:
                 self.wrong.append(f"question {number} of the second asker, {question.hex()}, {fault}")
             time.sleep(max(0, self.pause - took))
-        self.telling.send((self.waits, self.again, self.wrong))
+        self.telling.send((self.waits, self.again, self.judged, self.wrong))
+
+    def dropped(self):
+        """How many datagrams the system dropped before the server at the asked address, and before this asker."""
+        return self.server.dropped(ASKED), dropped(*self.socket.getsockname())
 
     def by_datagram(self, question, number):
-        xid = (number & 0xFFFF).to_bytes(2, "big")
+        """The reply. One that is asked for again was lost, unless the system dropped a datagram meanwhile: the server judged as many as came to it."""
+        xid, before = (number & 0xFFFF).to_bytes(2, "big"), self.dropped()
         reply, times = ask(self.socket, question[:10] + xid + question[12:])
-        self.again += times == 2
+        self.judged += times
+        if times == 2:
+            self.again += 1
+            after = self.dropped()
+            self.judged -= after[0] - before[0]
+            if after == before:
+                self.wrong.append(f"question {number} of the second asker, {question.hex()}, got no answer at first, and the system dropped none")
         return reply and reply[:10] + b"\0\1" + reply[12:]
 
     def by_stream(self, question):
+        self.judged += 1
         with self.server.stream(ASKER, ASKED, self.patience) as it:
             it.sendall(question)
             return take(it)

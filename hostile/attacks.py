@@ -9,7 +9,7 @@ import threading
 import time
 
 from messages import LONGEST, Breaker, attributes, bombs, code_of, registration, services, types
-from server import ASKED, CONNECTIONS, ask, take
+from server import ASKED, ATTACKED, CONNECTIONS, ask, take
 
 WINDOW, WEIGHT, OVERHEAD = 64, 49152, 768  # what is sent before a question has to be answered: so no buffer of the system overflows
 LIVE = 32  # streams of a sender that are open at once
@@ -73,13 +73,13 @@ def guarded(attack, tells, server, seed, source, count, seconds):
 
 
 def datagrams(told, server, seed, source, count, end):
-    """Broken datagrams. After each few a question has to be answered, so that none is sent that nobody takes."""
+    """Broken datagrams. After each few a question has to be answered, so that none is sent that nobody takes; and at once, unless the system dropped one."""
     breaker, asker, sender = Breaker(seed), server.datagrams(source), server.datagrams(source)
     sender.setblocking(False)
     told.sent.update({kind: 0 for kind, _ in breaker.makers})
     left, number = count, 0
     while left > 0 and time.monotonic() < end and len(told.lost) < 3:
-        weight, until = 0, max(0, left - WINDOW)
+        weight, until, before = 0, max(0, left - WINDOW), server.dropped(ATTACKED)
         while left > until and weight < WEIGHT:
             kind, message = breaker.message()
             sender.send(message)
@@ -91,6 +91,8 @@ def datagrams(told, server, seed, source, count, end):
         told.sent["questions between them"] += times
         if reply is None:
             told.lost.append(f"a question after {count - left:,} datagrams was not answered")
+        elif times == 2 and server.dropped(ATTACKED) == before:
+            told.lost.append(f"a question after {count - left:,} datagrams got no answer at first, and the system dropped none")
         else:
             told.reply(reply, 1400)
         take_all(told, sender)
@@ -150,16 +152,18 @@ def ends(told, stream, ending):
 
 
 def explode(server, bounds, say):
-    """Sends each bomb on a stream, and measures how long its answers take; bounds are the seconds that they may take."""
+    """Sends each bomb on a stream, and measures how long its answers take; bounds are the seconds of a processor that they may take, the server's threads together."""
     told = Told()
     time.sleep(5)  # until what was registered for seconds leaves room
     for name, before, messages, code in bombs():
         if len(told.lost) > 2:
             break
-        bound, waits, codes = bounds[name], [], []
+        bound, waits, codes, spent = bounds[name], [], [], 0.0
         try:
-            with server.stream("127.0.2.1", seconds=bound + 5) as stream:
-                for it in before + messages:
+            with server.stream("127.0.2.1", seconds=20 * bound + 20) as stream:
+                for number, it in enumerate(before + messages):
+                    if number == len(before):
+                        spent = server.processor()
                     began = time.monotonic()
                     stream.sendall(it)
                     codes.append(told.reply(take(stream)))
@@ -167,14 +171,15 @@ def explode(server, bounds, say):
         except OSError as e:
             told.lost.append(f"the bomb {name!r} met {e!r}")
             continue
+        spent = server.processor() - spent
         del waits[: len(before)]
         told.sent["bombs"] += len(messages)
         each = f", the longest {max(waits):.3f} s" if len(messages) > 1 else ""
-        say(f"  {sum(waits):8.3f} s  code {code}  {max(map(len, messages)):6,} bytes  {name}{each}")
+        say(f"  {sum(waits):8.3f} s, {spent:7.3f} of a processor  code {code}  {max(map(len, messages)):6,} bytes  {name}{each}")
         if codes != [0] * len(before) + [code] * len(messages):
             told.lost.append(f"the bomb {name!r} and what it needs brought codes {codes}")
-        if sum(waits) > bound:
-            told.lost.append(f"the bomb {name!r} took {sum(waits):.1f} s, and may take {bound}")
+        if spent > bound:
+            told.lost.append(f"the bomb {name!r} took {spent:.1f} s of a processor, and may take {bound}")
     return told
 
 

@@ -242,14 +242,20 @@ def bombs():
     tags = [registration(f"service:tags://h{it}", "service:tags", attrs=many_tags("abcdefghij"[it])) for it in range(10)]
     values = [registration("service:values://h", "service:values", attrs="(a=" + full(f"{it}," for it in range(100000)).rstrip(",") + ")")]
     patterns = full(f"*{it:04x}z*," for it in range(6000)).rstrip(",")
+    ordinary = [registration(f"service:ordinary://h{it}", "service:ordinary", attrs=f"(a=the printer of room {it:04} upstairs)") for it in range(500)]
+    stars = full(f"*{it:02x}*{it >> 8:02x}*z," for it in range(6000)).rstrip(",")
     items = "(|" + "(b=1)" * 11800 + ")"
     return [
+        ("a filter of 8,500 parts of a value, 500 ordinary entries", ordinary, [services("service:ordinary", predicate="(|" + "(a=*z*)" * 8500 + ")")], 0),
+        ("withdrawals of these", [], [withdrawal(f"service:ordinary://h{it}") for it in range(500)], 0),
         ("a filter of 60,000 brackets", [], [services("service:printer", predicate="(" * 60000)], 2),
         ("a filter of 32 levels", long_values, [services("service:long", predicate=levels(32))], 0),
         ("a filter of 33 levels", [], [services("service:long", predicate=levels(33))], 2),
         ("a pattern of 1,051 bytes, five values of 60,000", [], [services("service:long", predicate="(a=*" + "a" * 1044 + "b*)")], 0),
         ("a pattern of 30,000 stars, five values of 60,000", [], [services("service:long", predicate="(a=" + "*a" * 30000 + "b)")], 0),
+        ("a filter of 8,500 parts of a value, five values of 60,000", [], [services("service:long", predicate="(|" + "(a=*b*)" * 8500 + ")")], 0),
         ("6,000 tag patterns, ten entries of 10,000 tags", tags, [attributes("service:tags", tags=patterns)], 0),
+        ("6,000 tag patterns of three stars, the same entries", [], [attributes("service:tags", tags=stars)], 0),
         ("a withdrawal of 6,000 tag patterns", [], [withdrawal("service:tags://h0", tags=patterns)], 0),
         ("a filter of 11,800 items", [], [services("service:long", predicate=items)], 0),
         ("the same of a tag with 10,000 values", values, [services("service:values", predicate=items.replace("b", "a").replace("1", "x"))], 0),

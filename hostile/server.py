@@ -32,6 +32,8 @@ LINE = re.compile(
     rb"(?m)^# (?:allow code=(0)|deny code=([1-9]\d?)) by=[a-z:0-9-]+ action=(?:register|withdraw|see) asker=127(?:\.\d+){3} type=\S+ scope=.+$"
 )
 
+OWN = f" asker={ASKER} ".encode()
+
 
 def free_port(addresses):
     """A port that is free at all addresses for datagrams and for streams."""
@@ -52,34 +54,51 @@ def free_port(addresses):
 
 
 def read_log(server, told):
-    """Reads what a server prints until it ends: counts the lines of what it judged by code, and tells each other line at once."""
+    """Reads what a server prints until it ends: counts the lines of what it judged by code, and those about the second asker, and tells each other line at once."""
     server.leave()
     output = server.process.stdout.fileno()
-    counts, bad, rest = collections.Counter(), [], b""
+    counts, own, bad, rest = collections.Counter(), 0, [], b""
     while chunk := os.read(output, 1 << 20):
         lines, end, rest = (rest + chunk).rpartition(b"\n")
         found = LINE.findall(lines)
         counts.update(int(allowed or denied) for allowed, denied in found)
+        own += lines.count(OWN)
         if len(found) != lines.count(b"\n") + len(end):
             for line in lines.split(b"\n"):
                 if re.fullmatch(rb"ready|[#!] [a-z]+( \d+)?", line):
                     told.send(line.decode())
                 elif not LINE.fullmatch(line):
                     bad.append(line[:200])
-    told.send((counts, bad + [rest[:200]] * bool(rest)))
+    told.send((counts, own, bad + [rest[:200]] * bool(rest)))
+
+
+def nanoseconds(path):
+    try:
+        with open(path) as it:
+            return int(it.read().split()[0])
+    except OSError:  # the thread has ended
+        return 0
+
+
+def dropped(address, port):
+    """How many datagrams the system dropped before the sockets that are bound there, since nobody took them."""
+    there = f"{socket.inet_aton(address)[::-1].hex().upper()}:{port:04X}"
+    with open("/proc/net/udp") as it:
+        return sum(int(line.split()[-1]) for line in it if there in line.split()[1:2])
 
 
 class Server:
     """A slpda with this site. Whoever enters it gets it once it is ready; it is ended by its own process number."""
 
-    def __init__(self, program, folder, rules=RULES, scopes="DEFAULT,quiet", addresses=(ATTACKED, ASKED), capacity=1024):
-        self.port, self.lines, self.calm = free_port(addresses), [], 0
+    def __init__(self, program, folder, rules=RULES, scopes="DEFAULT,quiet", addresses=(ATTACKED, ASKED), capacity=1024, preload=None):
+        self.port, self.lines, self.calm, self.folder = free_port(addresses), [], 0, folder
         with open(f"{folder}/rules.toml", "w") as it:
             it.write("version = 1\n" + "".join(RULE.format(*rule) for rule in rules))
         with open(f"{folder}/slpda.toml", "w") as it:
             listen = ", ".join(f'"{address}:{self.port}"' for address in addresses)
             it.write(CONFIGURATION.format(scopes=scopes, listen=listen, capacity=capacity, connections=CONNECTIONS))
-        self.process = subprocess.Popen([program, "slpda.toml"], cwd=folder, stdin=subprocess.PIPE, stdout=subprocess.PIPE, text=True)
+        more = {"env": {**os.environ, **preload}} if preload else {}
+        self.process = subprocess.Popen([program, "slpda.toml"], cwd=folder, stdin=subprocess.PIPE, stdout=subprocess.PIPE, text=True, **more)
         fcntl.fcntl(self.process.stdout, fcntl.F_SETPIPE_SZ, 1 << 20)
         self.told, telling = multiprocessing.Pipe(False)
         self.reader = multiprocessing.Process(target=read_log, args=(self, telling), daemon=True)
@@ -127,21 +146,37 @@ class Server:
         self.say(word)
         return self.prints({"sweep": "# sweep", "reload": f"# rules {len(RULES)}"}[word], seconds)
 
+    def refuses_a_pipe(self, seconds):
+        """Whether a rule file that is a pipe is refused in time, to which nobody writes, and the file in its place is read then."""
+        rules, kept = f"{self.folder}/rules.toml", f"{self.folder}/kept.toml"
+        os.rename(rules, kept)
+        os.mkfifo(rules)
+        self.say("reload")
+        is_refused = self.prints("! file", seconds)
+        os.replace(kept, rules)
+        if is_refused:
+            self.lines.remove("! file")
+        return is_refused and self.obeys("reload", seconds)
+
     def stop(self, seconds):
-        """The status of the server, or None where it does not stop in time; how many lines it printed of each code; and lines that are none."""
+        """The status of the server, or None where it does not stop in time; how many lines it printed of each code, and about the second asker; and lines that are none."""
         try:
             self.say("stop")
             status = self.process.wait(seconds)
         except (OSError, subprocess.TimeoutExpired):
             status = self.process.poll()
             self.process.kill()
-        return status, *(self.lines.pop() if self.prints(None, 20) else ({}, [b"(the log was not read)"]))
+        return status, *(self.lines.pop() if self.prints(None, 20) else ({}, 0, [b"(the log was not read)"]))
 
     def memory(self):
         """VmRSS and VmSize, in kilobytes."""
         with open(f"/proc/{self.process.pid}/status") as it:
             said = dict(line.split(":", 1) for line in it)
         return int(said["VmRSS"].split()[0]), int(said["VmSize"].split()[0])
+
+    def processor(self):
+        """The seconds of a processor that its threads have taken."""
+        return sum(nanoseconds(f"/proc/{self.process.pid}/task/{it}/schedstat") for it in os.listdir(f"/proc/{self.process.pid}/task")) / 1e9
 
     def descriptors(self):
         return len(os.listdir(f"/proc/{self.process.pid}/fd"))
@@ -153,10 +188,9 @@ class Server:
             time.sleep(0.1)
         return self.descriptors() == self.calm
 
-    def dropped(self):
-        """How many datagrams the system dropped before the server at the attacked address."""
-        with open("/proc/net/udp") as it:
-            return sum(int(line.split()[-1]) for line in it if f"0100007F:{self.port:04X}" in line.split()[1:2])
+    def dropped(self, address):
+        """How many datagrams the system dropped before the server at an address."""
+        return dropped(address, self.port)
 
     def datagrams(self, source, to=ATTACKED):
         it = socket.socket(type=socket.SOCK_DGRAM)
