@@ -349,6 +349,32 @@ def resets(server, told):
     return []
 
 
+def filters(server, told, say):
+    """A filter of 60,000 bytes on each stream at once: how long datagrams to the same address wait, who may wait for some of them, and not for all."""
+    question, waits = services("nowhere", predicate="(|" + "(b=1)" * 11800 + ")"), []
+    held = opened(server, told, CONNECTIONS, "streams with a filter of 60,000 bytes")
+    alone = measured(held[0], question)
+    sender = threading.Thread(target=lambda: [it.sendall(question) for it in held])
+    reader = threading.Thread(target=lambda: [told.reply(take(it)) for it in held])
+    sender.start()
+    reader.start()
+    with server.datagrams("127.0.3.9") as asker:
+        while reader.is_alive():
+            began = time.monotonic()
+            if ask(asker, NOWHERE)[0] is None:
+                told.lost.append("beside filters on all streams a datagram was not answered")
+                break
+            waits.append(time.monotonic() - began)
+            time.sleep(0.002)
+    sender.join()
+    reader.join()
+    longest, bound = max(waits, default=0.0), PIECE_WAITS * alone + 0.05
+    say(f"  {len(held)} filters of {len(question):,} bytes and {alone * 1000:.1f} ms at once: the longest of {len(waits):,} datagrams beside them waited {longest * 1000:.1f} ms")
+    if longest > bound:
+        told.lost.append(f"beside {len(held)} filters at once a datagram waited {longest:.3f} s, and may wait {bound:.3f}")
+    return held
+
+
 def widen(server, told):
     """Registers what makes a reply about attributes as long as one can be, and returns the question that brings it."""
     question = attributes("w")
@@ -390,6 +416,7 @@ def connections(server, bound, questions, say):
         "silent streams": lambda: stalled(server, told, 6),
         "half-closed streams": lambda: half_closed(server, told),
         "resets": lambda: resets(server, told),
+        "filters on all streams": lambda: filters(server, told, say),
         "streams that never read": lambda: say("  " + flood(server, told, questions, 5, bound)) or [],
     }
     for name, attack in attacks.items():
