@@ -1,6 +1,7 @@
 """One life of a slpda, in which one of its system calls may fail: what became of each step of it."""
 
 import collections
+import contextlib
 import mmap
 import os
 import re
@@ -241,8 +242,9 @@ class Life:
             it.bind((source, 0))
             it.connect((to, PORT))
             for xid in range(100, 100 + TOGETHER):
-                it.send(QUESTION[:10] + xid.to_bytes(2, "big") + QUESTION[12:])
-                self.sent[source] += 1
+                with contextlib.suppress(ConnectionRefusedError):
+                    it.send(QUESTION[:10] + xid.to_bytes(2, "big") + QUESTION[12:])
+                    self.sent[source] += 1
             while sum(told.values()) < TOGETHER and time.monotonic() < end:
                 it.settimeout(max(0.01, end - time.monotonic()))
                 try:
