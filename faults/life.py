@@ -21,7 +21,7 @@ from server import take  # noqa: E402
 
 PORT = 4270
 PATIENCE = 2.0  # seconds for an answer on a stream, and for a line; half of them for a datagram, which is asked again
-TRIES, PAUSE = 3, 0.7  # and the seconds between two tries of a stream
+TRIES, PAUSE = 3, 0.7  # and the seconds before one that was refused is made again
 IDLE = 0.7  # seconds in which nothing is asked, so that each thread has to wait
 SPINS = 0.5  # of a processor, over the whole life
 TOGETHER, LONG, LONGS = 20, "(a=" + "x" * 20000 + ")", 40
@@ -193,6 +193,7 @@ class Life:
                     self.sent[source] += 1
                     said.append(judged(it.recv(65536), right))
                     self.got[source] += 1
+                    time.sleep(PAUSE if said[-1] == "memory" else 0)
                 except TimeoutError:
                     said.append("none")
                 except ConnectionRefusedError:
