@@ -50,13 +50,13 @@ day:
 prefix ?= /usr/local
 DESTDIR ?=
 root := $(DESTDIR)$(prefix)
-tools := slpctl slpstat slp
+tools := slpctl slpstat slplog slp
 pages := $(wildcard docs/man/*.[1578])
 page_of = $(root)/share/man/man$(subst .,,$(suffix $(1)))/$(notdir $(1))
 # the page that make/codes writes
 codes := $(call page_of,slp-codes.7)
 completions := $(root)/share/bash-completion/completions
-completed := slptool slpda slpcheck slpctl slpstat slp
+completed := slptool slpda slpcheck slpctl slpstat slplog slp
 units := $(root)/lib/systemd/system
 named := $(notdir $(wildcard examples/systemd/*))
 examples := $(root)/share/doc/slpda/examples

@@ -1,5 +1,5 @@
 # shellcheck shell=bash
-# Completion in bash for slptool, slpda, slpcheck, slpctl, slpstat and slp. It needs no other file: `. contrib/slptool.bash`.
+# Completion in bash for slptool, slpda, slpcheck, slpctl, slpstat, slplog and slp. It needs no other file: `. contrib/slptool.bash`.
 
 # _slp_words: the words of the line before the cursor in words, the number of the last one in at. A colon parts no words.
 _slp_words() {
@@ -81,6 +81,16 @@ _slpstat() {
   esac
 }
 
+_slplog() {
+  local words at
+  _slp_words
+  case ${words[at - 1]} in
+    -o | -m) _slp_files '*' ;;
+    -i) _slp_offer 5 15 60 ;;
+    *) _slp_offer -o -q -m -i --help ;;
+  esac
+}
+
 _slp() {
   local words at
   _slp_words
@@ -104,4 +114,5 @@ complete -F _slptool slptool
 complete -F _slpda slpda slpcheck
 complete -F _slpctl slpctl
 complete -F _slpstat slpstat
+complete -F _slplog slplog
 complete -F _slp slp
