@@ -68,7 +68,7 @@ _slpctl() {
     -s) _slp_scopes ;;
     -n) _slp_offer slpda.service ;;
     -t) _slp_offer 3 10 30 ;;
-    *) _slp_offer reload sweep stop status check -p -l -n -c -a -s -t -f --help ;;
+    *) _slp_offer reload sweep stop restart status check -p -l -n -c -a -s -t -f --help ;;
   esac
 }
 
