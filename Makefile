@@ -6,6 +6,7 @@
 # make run         replays the script of make try, or script=FILE, with the proved program: half an hour the first time
 # make day         replays a day of a small site, which examples/day.md explains: as make run
 # make install     puts the programs of bin/, tools and pages below prefix=/usr/local: seconds, once make build is done
+# make dist        makes an archive of what make install installs, and its checksum, in dist/: seconds, once make build is done
 # make uninstall   takes away what make install put, and leaves /etc/slpda alone: seconds
 # make test        the gate, which proves and tries all from nothing: an hour or so, on 4 processors
 # make wrong       tries the wrong bodies beside the gate, or CRATE=slp_text those of one crate: 90 minutes or more, on 4 processors; needs python3
@@ -15,7 +16,7 @@
 # make hostile     sends the server ten million broken messages, or count=N, and asks whether anyone else noticed: minutes; needs make build, python3
 # make faults      has each system call of the server fail in turn, or those of call=NAME: an hour or so, once make build is done; needs python3, cc
 # What is proved is kept in crates/*/out: a second call proves what changed since, and what stands on it. All that builds needs python3.
-.PHONY: help try build demo run day install uninstall test wrong scripts bench refusals hostile faults
+.PHONY: help try build demo run day install dist uninstall test wrong scripts bench refusals hostile faults
 .DEFAULT_GOAL := help
 
 script := examples/printer.script
@@ -79,6 +80,9 @@ install:
 	for file in $(site); do test -e $(etc)/$$file || install -m 644 examples/site/$$file $(etc) || exit 1; done; \
 	echo "$(etc) has an example now: change it for the site."
 	@echo "Then: slpctl check; systemctl daemon-reload; systemctl enable --now slpda.socket slpda.service"
+
+dist:
+	@make/dist
 
 uninstall:
 	rm -f $(addprefix $(root)/bin/,$(programs) $(tools)) $(foreach page,$(pages),$(call page_of,$(page))) $(codes)
