@@ -13,7 +13,7 @@
 # make scripts     tries the tools of contrib/, make install and make/build over files and stand-ins alone, and compares pages with the code: seconds; needs python3
 # make bench       counts what a message costs, and measures the server: minutes, once make build is done; needs valgrind, python3, cc
 # make refusals    refuses each request for memory of the programs in turn: minutes, once make build is done; needs python3
-# make hostile     sends the server ten million broken messages, or count=N, and asks whether anyone else noticed: minutes; needs make build, python3
+# make hostile     sends the server ten million broken messages, or count=N, and asks whether anyone else noticed: minutes; needs make build, python3, and cc for plant=KIND
 # make faults      has each system call of the server fail in turn, or those of call=NAME: an hour or so, once make build is done; needs python3, cc
 # What is proved is kept in crates/*/out: a second call proves what changed since, and what stands on it. All that builds needs python3.
 .PHONY: help try build demo run day install dist uninstall test wrong scripts bench refusals hostile faults
