@@ -3,6 +3,7 @@
 
 mod console;
 mod fault;
+mod logging;
 mod opening;
 mod program;
 mod starting;

@@ -6,14 +6,17 @@ ghost use Rattle.agent_program.specs.Jobs.{AreJobs, IsLoop};
 
 use crate::console::{Console, Operator, opened};
 use crate::fault::loop_fault;
+use crate::logging::serve_logged;
 use crate::opening::{Beginning, begun};
 use crate::sweeping::Sweeping;
-use crate::threads::{Job, serve};
+use crate::threads::Job;
 use agent_watch::SharedInput;
 use published_view::{Gate, LoopView, MOST_LOOPS, Naming, Opened, open};
 use site_config::Config;
 use site_opening::StartFault;
-use slp_loops::{AgentLoop, Desk, LoopFault, Moments, Shared, SharedOutput, WallClock};
+use slp_loops::{
+    AgentLoop, Desk, LineWriter, LoopFault, Moments, Queue, QueuedOutput, Shared, WallClock,
+};
 use std::alloc::{AllocError, Global};
 use std::io::{Read, Write};
 use std::marker::Brand;
@@ -38,7 +41,7 @@ type AgentDesk<'r, 's, J, R, G, W> = Desk<
     R,
     WallClock<'r, R>,
     G,
-    SharedOutput<'r, 's, R, W>,
+    QueuedOutput<'r, 's, R, W>,
 >;
 
 type AgentJob<'r, 's, J, R, G, W> = Job<AgentDesk<'r, 's, J, R, G, W>, Sweeping<'r, 's, J, R, G>>;
@@ -53,12 +56,13 @@ type Loops<'r, 's, J, R, G, W> = (
     Option<AgentJob<'r, 's, J, R, G, W>>,
 );
 
-// The desk for messages that come to one of the addresses of a configuration.
+// The desk for messages that come to one of the addresses of a configuration, whose lines have a place in the queue.
 fn desk_at<'r, 's, J, R, G, W>(
     config: &Config,
     place: usize,
     view: LoopView<J>,
     shared: &Shared<'r, 's, J, R, G, W>,
+    queued: usize,
 ) -> AgentDesk<'r, 's, J, R, G, W>
 where
     J: Naming,
@@ -70,7 +74,7 @@ where
     ensures alone { result.has_other ≡ false }
 {
     let (own, _) = config.listen.as_slice()[place];
-    Desk::new(view, shared, own, WallClock::new(shared.rt))
+    Desk::new(view, shared, own, WallClock::new(shared.rt), queued)
 }
 
 // What serves at one of the addresses of a configuration, and what serves there beside it, where there is a view for that: their desks have the address at which it listens.
@@ -90,12 +94,13 @@ where
     ensures one { IfOk result (λ a. (option_map (λ place. place.0) (slice_get config.now.listen place) ≡ Some a.0.server.own) × (a.0.server.has_other ≡ is_some a.1)) }
     ensures other { IfOk result (λ a. (is_some a.1 ≡ is_some other) × IfSome a.1 (λ l. (option_map (λ place. place.0) (slice_get config.now.listen place) ≡ Some l.server.own) × (l.server.has_other ≡ false))) }
 {
-    let mut desk = desk_at(config, place, view, shared);
+    let mut desk = desk_at(config, place, view, shared, place);
     desk.has_other = other.is_some();
     let mut agent = AgentLoop::new(shared.rt, shared.alloc, config, place, desk)?;
     match other {
         Some(view) => {
-            let desk = desk_at(config, place, view, shared);
+            let queued = place.saturating_add(config.listen.as_slice().len());
+            let desk = desk_at(config, place, view, shared, queued);
             let beside = agent.beside(shared.rt, shared.alloc, desk)?;
             Ok((agent, Some(beside)))
         }
@@ -195,6 +200,7 @@ where
     W: Write + Send,
     requires { length config.now.listen ≤ vec_len views }
 {
+    let loops = views.len();
     let others = views.split_off(config.listen.as_slice().len())?;
     let jobs = jobs_at(config, views, others, shared)?;
     let console = Console {
@@ -202,10 +208,7 @@ where
         alloc: shared.alloc,
         writer: shared.writer,
         gate: shared.gate,
-        output: SharedOutput {
-            rt: shared.rt,
-            output: shared.output,
-        },
+        output: shared.log(loops),
         rules: config.rules.as_ref(),
         spare: opened(shared.rt, config.rules.as_ref()),
         clock: WallClock::new(shared.rt),
@@ -214,7 +217,13 @@ where
         rt: shared.rt,
         input,
     };
-    serve(shared.rt, shared.alloc, jobs, Operator { console, input })
+    let log = LineWriter::new(shared.rt, shared.alloc, shared.queue, shared.output)?;
+    serve_logged(
+        shared.rt,
+        (shared.queue, log),
+        (shared.alloc, jobs),
+        Operator { console, input },
+    )
 }
 
 // Serves from a directory that is opened by a name.
@@ -247,11 +256,17 @@ where
         return Err(StartFault::NoMemory);
     };
     let writer = Mutex::new(writer);
+    let Ok(queue) = Queue::new(alloc, loops.saturating_add(1)) else {
+        drop(views);
+        drop(config);
+        return Err(StartFault::NoMemory);
+    };
     let shared = Shared {
         rt,
         alloc,
         writer: &writer,
         gate: ends.gate,
+        queue: &queue,
         output: ends.output,
     };
     let told = serve_at(&config, views, &shared, ends.input);

@@ -410,7 +410,7 @@ where
             Err(fault) => Err(fault),
         };
         self.keep_fault(told);
-        self.props.valve.open();
+        self.props.by_words.valve.open();
         self.console = None;
         if let Ok(now) = self.rt.monotonic() {
             self.ended = now;

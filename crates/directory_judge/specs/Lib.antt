@@ -3,6 +3,7 @@ pub mod History
 pub mod Judgements
 pub mod Meaning
 pub mod NamedEntries
+pub mod ReadChanges
 pub mod Sites
 pub mod Walks
 pub mod Withdrawals

@@ -5,6 +5,7 @@ use access_rules::Rules;
 use registry_core::Entry;
 use service_url::Url;
 use slp_scopes::ScopeList;
+use slp_tags::TagList;
 use slp_text::NoMemory;
 use std::sync::Arc;
 
@@ -27,6 +28,14 @@ impl Drop for Withdrawn {
     fn drop(self) {
         let Withdrawn { url: _, scopes: _ } = self;
     }
+}
+
+/// What is read of a withdrawal: its tags, and what it is of. The scopes of that are 16 at most.
+#[derive(Drop)]
+pub struct Withdrawing {
+    pub tags: TagList,
+    pub withdrawn: Arc<Withdrawn>,
+    ghost few_scopes: { length (arc_value withdrawn).scopes ≤ 16 },
 }
 
 /// A change of a directory, at its moment in seconds.

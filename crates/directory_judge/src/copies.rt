@@ -7,6 +7,7 @@ ghost use Rattle.directory_judge.specs.Judgements.{judgement, judgement_in, IsCh
 use crate::change::Change;
 use crate::grounds::Grounds;
 use crate::judgement::{Decision, registering};
+use crate::reading::read_change;
 use crate::reason::Because;
 use crate::site::Site;
 use access_rules::Rules;
@@ -85,6 +86,7 @@ pub fn judge_on<R: Registry>(
         moment: now,
         asker,
     };
-    let decided = grounds.judge(alloc, &change_view(message))?;
+    let read = read_change(alloc, site, &change_view(message))?;
+    let decided = grounds.judge(alloc, read)?;
     decided.judged(alloc)
 }

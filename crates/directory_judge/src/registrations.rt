@@ -2,21 +2,22 @@ ghost use Rattle.std.specs.Prelude.{◌≡◌, ◌<◌, ◌≤◌, ◌+◌, IfOk
 ghost use Rattle.std.specs.FinMap as fin;
 ghost use Rattle.std.specs.Option.{option_copied, option_map, option_or};
 ghost use Rattle.slp_text.specs.Keys.{key_of};
-ghost use Rattle.slp_messages.specs.Views.{header_in, message_in, registration_in};
+ghost use Rattle.slp_messages.specs.Views.{header_in, registration_in};
 ghost use Rattle.registry_core.specs.Entries.{pair_of};
-ghost use Rattle.directory_judge.specs.Judgements.{because_of, because_of_entry, denial_of_old, denial_of_room, denial_of_template, judgement_in, judgement_of_particulars, judgement_of_registration, judgement, IsJudgement};
+ghost use Rattle.directory_judge.specs.Judgements.{because_of, because_of_entry, denial_of_old, denial_of_room, denial_of_template, judgement_in, judgement_of_particulars, judgement_of_registration, judgement, particulars, particulars_in, AreParticularsOf, IsJudgement};
 ghost use Rattle.directory_judge.specs.Judgements as spec;
 ghost use Rattle.directory_judge.specs.NamedEntries.{particulars_named, IsJudgedNamed};
+ghost use Rattle.directory_judge.specs.ReadChanges.{message_read, IsReadAt};
 
 use crate::change::Placed;
 use crate::grounds::Grounds;
 use crate::judgement::Decision;
-use crate::particulars::{Particulars, Reading, name};
+use crate::particulars::{Particulars, Reading};
+use crate::reading::ReadChange;
 use crate::reason::{Decider, Finding};
 use access_rules::Action;
 use registry_core::{Entry, Registry};
-use service_url::ServiceType;
-use slp_messages::{ChangeView, KeptHeader, RegistrationView};
+use slp_messages::{KeptHeader, RegistrationView};
 use slp_text::{Key, NoMemory};
 use std::alloc::Global;
 use std::sync::Arc;
@@ -148,17 +149,19 @@ impl<'a, R: Registry> Grounds<'a, R> {
         }
     }
 
-    // Judges a registration, step by step.
+    // Judges a registration, of which this was read.
     fn judge_registration(
         &self,
         alloc: Global,
         header: &KeptHeader<'_>,
         registration: &RegistrationView<'_>,
+        reading: Reading,
     ) -> Result<Decision, NoMemory>
+        requires value { particulars self.now.site (header_in header.now) (registration_in registration.now) ≡ particulars_in reading }
+        requires url { AreParticularsOf registration.now.entry.url.now reading }
         ensures { IfOk result (λ j. IsJudgement self.now.live (judgement_in j) (judgement_of_registration self.now (header_in header.now) (registration_in registration.now))) }
     {
-        let kind = ServiceType::read(alloc, registration.kind)?;
-        match name(alloc, self.site, header, registration, kind)? {
+        match reading {
             Reading::Denied(because) => Ok(Decision::Denied(because)),
             Reading::Read(particulars) => self.judge_particulars(
                 alloc,
@@ -171,17 +174,18 @@ impl<'a, R: Registry> Grounds<'a, R> {
 }
 
 impl<R: Registry> Grounds<'_, R> {
-    /// Judges a message that asks for a change (RFC 2608, sections 8.3 and 9.3): the first step whose
+    /// Judges a message that asks for a change, of which this was read (RFC 2608, sections 8.3 and 9.3): the first step whose
     /// fault is there, else the change is accepted. Nothing is changed.
-    pub fn judge(&self, alloc: Global, change: &ChangeView<'_>) -> Result<Decision, NoMemory>
-        ensures { IfOk result (λ j. IsJudgement self.now.live (judgement_in j) (judgement self.now (message_in change.now))) }
+    pub fn judge(&self, alloc: Global, change: ReadChange<'_>) -> Result<Decision, NoMemory>
+        requires { IsReadAt self.now.site change }
+        ensures { IfOk result (λ j. IsJudgement self.now.live (judgement_in j) (judgement self.now (message_read change.entry))) }
     {
         match change {
-            ChangeView::Registration(header, registration) => {
-                self.judge_registration(alloc, header, registration)
+            ReadChange::Registration(header, registration, reading) => {
+                self.judge_registration(alloc, &header, &registration, reading)
             }
-            ChangeView::Withdrawal(header, withdrawal) => {
-                self.judge_withdrawal(alloc, header, withdrawal)
+            ReadChange::Withdrawal(header, withdrawal, reading) => {
+                self.judge_withdrawal(alloc, &header, &withdrawal, reading)
             }
         }
     }

@@ -10,9 +10,10 @@ ghost use Rattle.service_url.specs.Urls.{url_of};
 ghost use Rattle.registry_core.specs.Entries.{is_of_url};
 ghost use Rattle.directory_judge.specs.Judgements.{concerned_entries, entries_in, first_of, is_kept, judgement_in, judgement_of_texts, judgement_of_url, judgement_of_withdrawal, IsJudgement};
 ghost use Rattle.directory_judge.specs.Walks.{earlier_ruling, entry_in, walk_with, IsRuledWalk, IsVisit};
+ghost use Rattle.directory_judge.specs.ReadChanges.{withdrawing_in, withdrawing_of};
 ghost use Rattle.directory_judge.specs.Withdrawals.{withdrawal_of_texts};
 
-use crate::change::{Change, Withdrawn};
+use crate::change::{Change, Withdrawing, Withdrawn};
 use crate::grounds::Grounds;
 use crate::judgement::Decision;
 use crate::particulars::read_supported;
@@ -46,6 +47,23 @@ fn read_withdrawn(
             let withdrawn = Arc::new(alloc, Withdrawn { url, scopes })?;
             Ok(Some(withdrawn))
         }
+        None => Ok(None),
+    }
+}
+
+/// What a withdrawal says at a site, where its texts are read (RFC 2608, section 10.6).
+pub(crate) fn read_withdrawal(
+    alloc: Global,
+    site: &Site,
+    withdrawal: &WithdrawalView<'_>,
+) -> Result<Option<Withdrawing>, NoMemory>
+    ensures { IfOk result (λ w. option_map withdrawing_in w ≡ withdrawing_of site.now (withdrawal_in withdrawal.now)) }
+{
+    let Some(tags) = TagList::read(alloc, withdrawal.tags)? else {
+        return Ok(None);
+    };
+    match read_withdrawn(alloc, site, withdrawal)? {
+        Some(withdrawn) => Ok(Some(Withdrawing { tags, withdrawn })),
         None => Ok(None),
     }
 }
@@ -169,33 +187,34 @@ impl<'a, R: Registry> Grounds<'a, R> {
         alloc: Global,
         header: &KeptHeader<'_>,
         withdrawal: &WithdrawalView<'_>,
-        tags: &TagList,
+        reading: Withdrawing,
     ) -> Result<Decision, NoMemory>
-        ensures { IfOk result (λ j. IsJudgement self.now.live (judgement_in j) (judgement_of_texts self.now (key_of header.now.language.now) (result_ok (url_of withdrawal.now.entry.url.now)) (Some tags.now) (result_ok (scopes_of withdrawal.now.scopes.now)))) }
+        requires { withdrawal_of_texts self.now.site (result_ok (url_of withdrawal.now.entry.url.now)) (result_ok (scopes_of withdrawal.now.scopes.now)) ≡ Some (arc_value reading.withdrawn) }
+        ensures { IfOk result (λ j. IsJudgement self.now.live (judgement_in j) (judgement_of_texts self.now (key_of header.now.language.now) (result_ok (url_of withdrawal.now.entry.url.now)) (Some reading.tags) (result_ok (scopes_of withdrawal.now.scopes.now)))) }
     {
-        let Some(withdrawn) = read_withdrawn(alloc, self.site, withdrawal)? else {
-            return Decision::denied(alloc, Finding::deny(Decider::Parse, None));
-        };
+        let Withdrawing { tags, withdrawn } = reading;
         if withdrawn.scopes.is_empty() {
             return Decision::denied(alloc, Finding::deny(Decider::Scope, None));
         }
         if tags.is_empty() {
             return self.judge_stored(alloc, withdrawn);
         }
-        self.judge_removal(alloc, header.language, &withdrawn, tags)
+        self.judge_removal(alloc, header.language, &withdrawn, &tags)
     }
 
-    /// Judges a withdrawal, step by step (RFC 2608, section 10.6).
+    /// Judges a withdrawal of which this was read, step by step (RFC 2608, section 10.6).
     pub fn judge_withdrawal(
         &self,
         alloc: Global,
         header: &KeptHeader<'_>,
         withdrawal: &WithdrawalView<'_>,
+        reading: Option<Withdrawing>,
     ) -> Result<Decision, NoMemory>
+        requires { option_map withdrawing_in reading ≡ withdrawing_of self.now.site (withdrawal_in withdrawal.now) }
         ensures { IfOk result (λ j. IsJudgement self.now.live (judgement_in j) (judgement_of_withdrawal self.now (header_in header.now) (withdrawal_in withdrawal.now))) }
     {
-        match TagList::read(alloc, withdrawal.tags)? {
-            Some(tags) => self.judge_asked(alloc, header, withdrawal, &tags),
+        match reading {
+            Some(reading) => self.judge_asked(alloc, header, withdrawal, reading),
             None => Decision::denied(alloc, Finding::deny(Decider::Parse, None)),
         }
     }

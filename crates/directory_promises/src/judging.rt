@@ -6,7 +6,7 @@ ghost use Rattle.slp_messages.specs.Views.{message_in};
 ghost use Rattle.directory_judge.specs.Judgements.{IsJudgement, judgement, judgement_in, ruling_in, ruling_on};
 
 use access_rules::Action;
-use directory_judge::{Decision, Finding, Grounds};
+use directory_judge::{Decision, Finding, Grounds, read_change};
 use registry_core::{Entry, Registry};
 use slp_messages::ChangeView;
 use slp_text::NoMemory;
@@ -20,7 +20,8 @@ pub fn judge<R: Registry>(
 ) -> Result<Decision, NoMemory>
     ensures { IfOk result (λ j. IsJudgement grounds.now.live (judgement_in j) (judgement grounds.now (message_in change.now))) }
 {
-    let told = grounds.judge(alloc, change);
+    let read = read_change(alloc, grounds.site, change)?;
+    let told = grounds.judge(alloc, read);
     told
 }
 

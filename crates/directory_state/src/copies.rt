@@ -14,7 +14,7 @@ use crate::directory::Directory;
 use crate::source::Source;
 use addresses::Addr;
 use attr_list::Attrs;
-use directory_judge::{Judged, change_view};
+use directory_judge::{Judged, change_view, read_change};
 use directory_questions::{AttrQuery, QueryFault, ServiceQuery, TypeQuery};
 use registry_core::{Entry, Registry};
 use service_url::ServiceType;
@@ -35,7 +35,8 @@ impl<R: Registry> Directory<R> {
         ensures { (o : Opening) (h : History) → Fold o h self.now → IsLegal o h
             → IfOk result (λ j. (v : Judgement) × IsVerdict (standpoint o h moment asker) message.now v × IsJudgedAs h j v) }
     {
-        let decided = self.judge_change(alloc, moment, asker, &change_view(message))?;
+        let read = read_change(alloc, self.site(), &change_view(message))?;
+        let decided = self.judge_change(alloc, moment, asker, read)?;
         decided.judged(alloc)
     }
 

@@ -2,10 +2,10 @@ ghost use Rattle.std.specs.Prelude.{◌≡◌, ◌∷◌, [], max, map, ℕ, Lis
 ghost use Rattle.std.specs.List.{list_any};
 ghost use Rattle.std.specs.Arc.{arc_value};
 ghost use Rattle.std.specs.FinMap as fin;
-ghost use Rattle.slp_messages.specs.Views.{message_in};
 ghost use Rattle.directory_judge.specs.History.{History, Event};
 ghost use Rattle.directory_judge.specs.Judgements.{Judgement, judgement_in, supports};
 ghost use Rattle.directory_judge.specs.Contents.{content, Reloads, Sweeps};
+ghost use Rattle.directory_judge.specs.ReadChanges.{message_read, IsReadAt};
 ghost use Rattle.directory_questions.specs.Calls.{Opening, standpoint};
 ghost use Rattle.directory_questions.specs.Items.{is_target, AreTypesOf};
 ghost use Rattle.directory_questions.specs.declared.query.Target.{Target as Spec};
@@ -26,11 +26,10 @@ use crate::gathered::Gathered;
 use crate::gathering::shares_of_url;
 use access_rules::Rules;
 use addresses::Addr;
-use directory_judge::{Change, Decision, Grounds, Site};
+use directory_judge::{Change, Decision, Grounds, ReadChange, Site};
 use directory_questions::{QueryFault, Target, TypeQuery};
 use registry_core::{Entry, Registry};
 use service_url::ServiceType;
-use slp_messages::ChangeView;
 use slp_scopes::ScopeList;
 use slp_text::NoMemory;
 use std::alloc::Global;
@@ -123,16 +122,17 @@ impl<R: Registry> Directory<R> {
         &self.site
     }
 
-    /// Judges a message that may change something, whose texts are lent. Nothing is changed, and what a founded entry has is not copied.
+    /// Judges a message that may change something, of which this was read at the site. Nothing is changed, and what a founded entry has is not copied.
     pub fn judge_change(
         &self,
         alloc: Global,
         moment: u32,
         asker: Addr,
-        change: &ChangeView<'_>,
+        change: ReadChange<'_>,
     ) -> Result<Decision, NoMemory>
+        requires { IsReadAt self.now.site change }
         ensures { (o : Opening) (h : History) → Fold o h self.now → IsLegal o h
-            → IfOk result (λ j. (v : Judgement) × IsVerdict (standpoint o h moment asker) (message_in change.now) v × IsJudgedAs h (judgement_in j) v) }
+            → IfOk result (λ j. (v : Judgement) × IsVerdict (standpoint o h moment asker) (message_read change.entry) v × IsJudgedAs h (judgement_in j) v) }
     {
         let grounds = Grounds {
             registry: &self.registry,

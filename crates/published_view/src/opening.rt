@@ -163,11 +163,12 @@ pub fn open<J: Naming, R: Wait + Drop>(
     if loops == 0 || loops > MOST_LOOPS {
         return Err(ViewFault::NoPlace);
     }
+    let shared = Arc::new(alloc, site.copy(alloc)?)?;
     let (book, front) = opened.named::<J>();
     let begun = begun::<J, R>(alloc, &rt, &front, site, &rules, loops);
     drop(rules);
     let (own, writer) = begun?;
-    match loops_of(alloc, writer.factory(), loops) {
+    match loops_of(alloc, writer.factory(), loops, &shared) {
         Ok(all) => Ok((
             DirectoryWriter {
                 writer: Some(writer),

@@ -1,10 +1,12 @@
 //! What answers in one thread, and what it learns of the writer.
-ghost use Rattle.std.specs.Prelude.{◌≡◌, ◌⊎◌, ◌≤◌, [], None, Some, false, length, All, vec_len, IfOk, IfErr, OnOk, OnErr, IsErrOf};
+ghost use Rattle.std.specs.Prelude.{◌≡◌, ◌⊎◌, ◌≤◌, [], None, Some, true, false, length, All, vec_len, IfOk, IfErr, OnOk, OnErr, IsErrOf};
 ghost use Rattle.directory_questions.specs.Answers.{is_change_of};
 ghost use Rattle.directory_questions.specs.Calls.{call_in};
 ghost use Rattle.directory_questions.specs.Requests.{function_in, is_change_function};
 ghost use Rattle.history_log.specs.Pasts.{IsPast};
 ghost use Rattle.slp_answer.specs.Answers.{Replies};
+ghost use Rattle.slp_answer.specs.AskedChanges.{IsAskedAt};
+ghost use Rattle.std.specs.Arc.{arc_value};
 ghost use Rattle.slp_replies.specs.declared.answer.Sent.TheVariants.{Silence};
 ghost use Rattle.published_view.specs.Rules.{call_heard, IsQuestion};
 ghost use Rattle.published_view.specs.Traces.{last_at, IsAsked};
@@ -13,10 +15,12 @@ use crate::fault::ViewFault;
 use crate::gate::Gate;
 use crate::rule::{RuledFactory, RuledReader, answered, learnt, unheard, would_take_long};
 use addresses::Addr;
+use directory_judge::Site;
 use history_log::{Front, Naming};
-use slp_answer::{Answer, Call, Heard, Sent, asked};
+use slp_answer::{Answer, AskedChange, Call, Heard, Sent, asked, read_heard};
 use std::alloc::Global;
 use std::marker::{Brand, Model};
+use std::sync::Arc;
 
 /// How far a writer had come. Contracts see it as the history that was published then.
 #[derive(Drop)]
@@ -41,6 +45,8 @@ pub struct LoopView<J: Naming> {
     // It is there between any two calls.
     reader: Option<RuledReader<J>>,
     place: usize,
+    // As the writer's. Changes are read by it.
+    site: Arc<Site>,
 }
 
 impl<J: Naming> Drop for LoopView<J> {
@@ -48,12 +54,14 @@ impl<J: Naming> Drop for LoopView<J> {
         let LoopView {
             reader: _,
             place: _,
+            site: _,
         } = self;
     }
 }
 
 impl<J: Naming> Model for LoopView<J> {
     ghost use Rattle.std.specs.Prelude.{◌≡◌, [], true, is_some};
+    ghost use Rattle.std.specs.Arc.{arc_value};
     ghost use Rattle.std.specs.Option.{option_map_or};
     ghost use Rattle.left_right.specs.Sides.{view as view_of};
     ghost use Rattle.published_view.specs.Traces.{Trace, trace_code};
@@ -64,7 +72,7 @@ impl<J: Naming> Model for LoopView<J> {
 
     ghost view = { λ l. option_map_or (λ r. view_of r.place) l.reader [] };
 
-    ghost invariant = { λ l. is_some l.reader ≡ true };
+    ghost invariant = { λ l. (is_some l.reader ≡ true) × (J.opening.site ≡ arc_value l.site) };
 }
 
 impl<J: Naming> LoopView<J> {
@@ -176,6 +184,14 @@ impl<J: Naming> LoopView<J> {
         }
     }
 
+    /// Reads a message that asks for a change, with all that its texts say: so the writer is asked for what is left of it alone.
+    pub fn read<'a>(&self, alloc: Global, heard: &Heard<'a>) -> Result<AskedChange<'a>, ViewFault>
+        requires { is_change_function (function_in heard.now.request) ≡ true }
+        ensures { IfOk result (IsAskedAt J.opening.site heard.now.call.now.bytes.now) }
+    {
+        Ok(read_heard(alloc, &self.site, heard)?)
+    }
+
     /// Whether to answer these bytes may take long, by what is published now. It sees nothing. Where memory is wanting it answers no.
     pub fn would_take_long(&mut self, alloc: Global, own: Addr, bytes: &[u8]) -> bool
         ensures { self.new ≡ self.old }
@@ -221,19 +237,23 @@ pub(crate) fn loops_of<J: Naming>(
     alloc: Global,
     from: &RuledFactory<J>,
     loops: usize,
+    site: &Arc<Site>,
 ) -> Result<Vec<LoopView<J>>, ViewFault>
+    requires { J.opening.site ≡ arc_value site.now }
     ensures count { IfOk result (λ v. vec_len v ≡ loops) }
     ensures loops { IfOk result (λ v. All (λ l. l ≡ []) v.items) }
     ensures faults { IfErr result (λ e. (e ≡ ViewFault.NoMemory) ⊎ (e ≡ ViewFault.NoPlace)) }
 {
     let mut all = Vec::new(alloc);
     for place in 0..loops {
+        let shared = Arc::try_clone(site)?;
         let Ok(reader) = from.reader() else {
             return Err(ViewFault::NoPlace);
         };
         let one = LoopView {
             reader: Some(reader),
             place,
+            site: shared,
         };
         if all.push(one).is_err() {
             return Err(ViewFault::NoMemory);

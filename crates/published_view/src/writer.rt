@@ -9,6 +9,7 @@ ghost use Rattle.directory_state.specs.Events.{call_anywhere};
 ghost use Rattle.directory_state.specs.Folds.{StandsFor};
 ghost use Rattle.history_log.specs.Events.{history_in};
 ghost use Rattle.directory_runs.specs.Changes.{IsChanged, reload_at, sweep_at};
+ghost use Rattle.slp_answer.specs.AskedChanges.{IsAskedAt};
 ghost use Rattle.published_view.specs.Changes.{event_or_sweep, written_at};
 ghost use Rattle.published_view.specs.Rules.{NextOf};
 ghost use Rattle.published_view.specs.Traces.{IsWritten};
@@ -22,7 +23,9 @@ use access_rules::Rules;
 use addresses::Addr;
 use directory_judge::Change;
 use history_log::{Book, Happening, Naming};
-use slp_answer::{Answer, Call, Heard, Sent, acknowledge_heard, told_whole};
+use slp_answer::{
+    Answer, AskedChange, Call, Heard, Sent, acknowledge_heard, read_heard, told_whole,
+};
 use slp_text::NoMemory;
 use std::alloc::Global;
 use std::marker::{Brand, Model};
@@ -84,15 +87,17 @@ fn put_back<J: Naming, R: Wait>(home: &mut Option<RuledWriter<J>>, writer: Ruled
 }
 
 impl<J: Naming, R: Wait + Drop> DirectoryWriter<J, R> {
-    /// Answers a message that asks for a change, at the history that is published, and publishes what is accepted. A refusal
+    /// Answers a message that asks for a change, of which this was read at the site, at the history that is published, and publishes what is accepted. A refusal
     /// publishes nothing, and leaves the answer empty.
     pub fn hear(
         &mut self,
         alloc: Global,
         heard: &Heard<'_>,
+        asked: AskedChange<'_>,
         answer: &mut Answer,
     ) -> Result<Sent, ViewFault>
-        requires { is_change_function (function_in heard.now.request) ≡ true }
+        requires change { is_change_function (function_in heard.now.request) ≡ true }
+        requires asked { IsAskedAt J.opening.site heard.now.call.now.bytes.now asked }
         ensures made { IfOk result (λ what. IsChanged J.opening self.old.history heard.now.call.now.moment heard.now.call.now.asker heard.now.call.now.bytes.now what answer.new.bytes.items answer.new.audit.items self.new.history) }
         ensures legal { OnOk result (IsLegal J.opening self.new.history) }
         ensures wrote { OnOk result ((self.new ≡ self.old) ⊎ (self.new ≡ written_at self.old self.new.history (Some (call_anywhere heard.now.call.now.moment heard.now.call.now.asker heard.now.call.now.bytes.now)))) }
@@ -107,9 +112,10 @@ impl<J: Naming, R: Wait + Drop> DirectoryWriter<J, R> {
     {
         answer.clear();
         if self.shut {
+            drop(asked);
             return Err(ViewFault::Closed);
         }
-        let told = self.make::<Brand, Brand>(alloc, heard, answer);
+        let told = self.make::<Brand, Brand>(alloc, heard, asked, answer);
         Ok(told_whole(told, answer)?)
     }
 
@@ -139,7 +145,12 @@ impl<J: Naming, R: Wait + Drop> DirectoryWriter<J, R> {
         let Some(heard) = Heard::of(&call) else {
             unreachable!();
         };
-        self.hear(alloc, &heard, answer)
+        answer.clear();
+        if self.shut {
+            return Err(ViewFault::Closed);
+        }
+        let asked = read_heard(alloc, self.own.directory.site(), &heard)?;
+        self.hear(alloc, &heard, asked, answer)
     }
 
     // Answers a message, and publishes its change, where one is accepted. The event is the one that it asks for.
@@ -147,9 +158,11 @@ impl<J: Naming, R: Wait + Drop> DirectoryWriter<J, R> {
         &mut self,
         alloc: Global,
         heard: &Heard<'_>,
+        asked: AskedChange<'_>,
         answer: &mut Answer,
     ) -> Result<Sent, NoMemory>
         requires change { is_change_function (function_in heard.now.request) ≡ true }
+        requires asked { IsAskedAt J.opening.site heard.now.call.now.bytes.now asked }
         requires no_reply { answer.old.bytes.items ≡ [] }
         requires no_line { answer.old.audit.items ≡ [] }
         requires open { self.old.is_shut ≡ false }
@@ -162,7 +175,7 @@ impl<J: Naming, R: Wait + Drop> DirectoryWriter<J, R> {
         ensures unwritten { OnErr result (self.new.trace ≡ self.old.trace) }
         ensures still_open { OnOk result (self.new.is_shut ≡ false) }
     {
-        let (sent, change) = acknowledge_heard(alloc, &self.own.directory, heard, answer)?;
+        let (sent, change) = acknowledge_heard(alloc, &self.own.directory, heard, asked, answer)?;
         let Some(change) = change else {
             return Ok(sent);
         };

@@ -5,7 +5,7 @@ use addresses::Addr;
 use expiry_sweep::{Schedule, Sweeper};
 use published_view::{DirectoryWriter, LoopView, Naming, OpenGate};
 use slp_answer::Answer;
-use slp_loops::{Desk, Moments, Serve, Shared, SharedOutput};
+use slp_loops::{Desk, Moments, Queue, QueuedOutput, Serve, Shared};
 use std::alloc::Global;
 use std::io::{self, Write};
 use std::sync::{Mutex, Wait};
@@ -32,6 +32,8 @@ impl Moments for Still {
 #[derive(Drop)]
 struct Held<'r, J: Naming, R: Wait> {
     writer: Mutex<DirectoryWriter<J, &'r R>>,
+    // It has no place: each line is written at once.
+    queue: Queue,
     output: Mutex<Vec<u8>>,
 }
 
@@ -41,7 +43,7 @@ struct Counter<'r, 's, J: Naming, R: Wait> {
     rt: &'r R,
     alloc: Global,
     held: &'s Held<'r, J, R>,
-    desk: Desk<'r, 's, J, R, Still, OpenGate, SharedOutput<'r, 's, R, Vec<u8>>>,
+    desk: Desk<'r, 's, J, R, Still, OpenGate, QueuedOutput<'r, 's, R, Vec<u8>>>,
     sweeper: Sweeper,
     asker: Addr,
     answer: Answer,
@@ -59,13 +61,14 @@ impl<'r, 's, J: Naming, R: Wait> Counter<'r, 's, J, R> {
             alloc,
             writer: &held.writer,
             gate: &OpenGate,
+            queue: &held.queue,
             output: &held.output,
         };
         Counter {
             rt,
             alloc,
             held,
-            desk: Desk::new(view, &shared, OWN, Still(0)),
+            desk: Desk::new(view, &shared, OWN, Still(0), 0),
             sweeper: Sweeper::new(Schedule::new(u32::MAX, 0)),
             asker: Addr(0x0a00_0001),
             answer: Answer::new(alloc),
@@ -130,8 +133,12 @@ pub(crate) fn run_desk<J: Naming, R: Wait>(
     rows: &str,
     out: &mut Vec<u8>,
 ) -> io::Result<()> {
+    let Ok(queue) = Queue::new(alloc, 0) else {
+        return writeln!(out, "! memory");
+    };
     let held = Held {
         writer: Mutex::new(writer),
+        queue,
         output: Mutex::new(Vec::new(alloc)),
     };
     let Some(view) = views.pop() else {

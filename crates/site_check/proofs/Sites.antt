@@ -16,7 +16,7 @@ use Rattle.site_opening.specs.declared.files.FileFault.{FileFault}
 use Rattle.site_opening.specs.declared.files.FileFault.TheVariants.{NoMemory}
 use Rattle.site_check.specs.ConfigFaults.{config_lines}
 use Rattle.site_check.specs.NotToml.{AppendsStopped}
-use Rattle.site_check.specs.SiteLines.{AppendsSite, AreNamed, AreRead, ReadTemplate, ReadToml, SiteReads, StopsWithin, each_template_lines, file_lines, named_lines, named_rule_lines, named_rules, rule_text_lines, rules_read, site_lines, template_text_lines, templates_read, unread_line}
+use Rattle.site_check.specs.SiteLines.{AppendsSite, AreNamed, AreRead, ReadTemplate, ReadToml, SiteReads, StopsWithin, each_template_lines, file_lines, named_file_lines, named_lines, named_rule_lines, named_rules, rule_text_lines, rules_read, site_lines, template_text_lines, templates_read, unread_line}
 
 -- the rules of a text that was read are those of the file
 pub rules_of_text : {E : Type 0} (r : Result (Option SiteRules) E) (path : List ℕ) (scopes : List (List ℕ)) (text : List ℕ) (old new : Option (List ℕ))
@@ -64,7 +64,7 @@ look_on rules paths templates old mid new f h told = (
 pub named_told : {E : Type 0} (r : Result (Unit {0}) E) (path : List ℕ) (config : Config) (rules : Option SiteRules) (old mid new : Option (List ℕ))
     → (f : ReadToml) × StopsWithin f × (rules ≡ named_rules config.rules f) × Appends old mid (named_rule_lines path config.scopes config.rules f)
     → OnOk r ((read : List ReadTemplate) × (map (λ t. t.path) read ≡ config.templates) × Appends mid new (each_template_lines rules fin.empty read))
-    → OnOk r ((s : SiteReads) × AreNamed s config × Appends old new (named_lines path s config))
+    → OnOk r ((s : SiteReads) × AreNamed s config × Appends old new (named_file_lines path s config))
 named_told (Ok x) path config rules old mid new h k = (
   record { config = h.0; rules = h.0; templates = k.0 },
   record { rules = h.1; templates = k.1 },

@@ -2,6 +2,7 @@ pub mod Checks
 pub mod ConfigFaults
 pub mod Hiding
 pub mod Lines
+pub mod ListenWarnings
 pub mod NotToml
 pub mod RuleFaults
 pub mod RuleKeys

@@ -2,6 +2,7 @@
 use Rattle.std.specs.Prelude.{ℕ, Bool, ◌+◌, ◌==◌, List, [], ◌∷◌, ◌++◌, codes, count_by, take, Option, Some, None}
 use Rattle.std.specs.Fmt.{decimal}
 use Rattle.std.specs.Option.{option_copied}
+use Rattle.shown_text.specs.Shown.{shown}
 use Rattle.slp_text.specs.Ascii.{line_feed}
 use Rattle.site_check.specs.declared.problem.Numbered.{Numbered}
 use Rattle.site_check.specs.declared.problem.Numbered.TheVariants.{Rule, Hide}
@@ -36,10 +37,10 @@ numbered_text (Rule n) = codes "rule " ++ decimal n
 numbered_text (Hide n) = codes "hide table " ++ decimal n
 
 abbrev pub place_text : Place → List ℕ
-place_text (File file) = file
-place_text (Line file n) = file ++ codes ":" ++ decimal n
-place_text (At file numbered None) = file ++ codes ": " ++ numbered_text numbered
-place_text (At file numbered (Some name)) = file ++ codes ": " ++ numbered_text numbered ++ codes " (" ++ name ++ codes ")"
+place_text (File file) = shown file
+place_text (Line file n) = shown file ++ codes ":" ++ decimal n
+place_text (At file numbered None) = shown file ++ codes ": " ++ numbered_text numbered
+place_text (At file numbered (Some name)) = shown file ++ codes ": " ++ numbered_text numbered ++ codes " (" ++ shown name ++ codes ")"
 
 abbrev pub is_line_feed : ℕ → Bool
 is_line_feed b = b == line_feed
@@ -83,8 +84,8 @@ problem_in lent_problem.SameType = SameType
 
 abbrev pub problem_text : Problem → List ℕ
 problem_text TooLong = codes "longer than 1048576 bytes"
-problem_text (NotToml message) = codes "not TOML: " ++ message
-problem_text (UnknownKey key) = codes "unknown key " ++ key
+problem_text (NotToml message) = codes "not TOML: " ++ shown message
+problem_text (UnknownKey key) = codes "unknown key " ++ shown key
 problem_text (EarlyKey key) = key ++ codes " needs version 2"
 problem_text EarlyHides = codes "hide tables need version 3"
 problem_text (Missing key) = key ++ codes " is missing"
@@ -109,6 +110,12 @@ pub data Warning : Type 0 where
   Hidden : ℕ → List ℕ → Warning
   NoScope : List ℕ → Warning
   NoType : List ℕ → Warning
+  -- a type that does not begin with service:
+  NoService : List ℕ → Warning
+  NoSight : Warning
+  -- an element of listen, by its number, that is every address; or one that is not of one machine
+  AnyAddress : ℕ → Warning
+  NoMachine : ℕ → Warning
 
 abbrev pub warning_in : WarningLent → Warning
 warning_in lent_warning.NoRuleFile = NoRuleFile
@@ -116,13 +123,21 @@ warning_in lent_warning.NoRules = NoRules
 warning_in (lent_warning.Hidden number name) = Hidden number name.now
 warning_in (lent_warning.NoScope scope) = NoScope scope.now
 warning_in (lent_warning.NoType kind) = NoType kind.now
+warning_in (lent_warning.NoService kind) = NoService kind.now
+warning_in lent_warning.NoSight = NoSight
+warning_in (lent_warning.AnyAddress number) = AnyAddress number
+warning_in (lent_warning.NoMachine number) = NoMachine number
 
 abbrev pub warning_text : Warning → List ℕ
 warning_text NoRuleFile = codes "no rule file is named, so all is denied"
 warning_text NoRules = codes "there are no rules, so all is denied"
-warning_text (Hidden number name) = codes "it never decides, since rule " ++ decimal number ++ codes " (" ++ name ++ codes ") fits whatever it fits"
-warning_text (NoScope scope) = codes "the site has no scope " ++ scope
-warning_text (NoType kind) = codes "no rule lets anyone register " ++ kind
+warning_text (Hidden number name) = codes "it never decides, since rule " ++ decimal number ++ codes " (" ++ shown name ++ codes ") fits whatever it fits"
+warning_text (NoScope scope) = codes "the site has no scope " ++ shown scope
+warning_text (NoType kind) = codes "no rule lets anyone register " ++ shown kind
+warning_text (NoService kind) = codes "it is about URLs that begin with " ++ shown kind ++ codes ": and about no type that begins with service:"
+warning_text NoSight = codes "no rule lets anyone see anything"
+warning_text (AnyAddress number) = codes "element " ++ decimal number ++ codes " of listen is 0.0.0.0, which is told to clients as the address of the directory"
+warning_text (NoMachine number) = codes "element " ++ decimal number ++ codes " of listen is no address of one machine"
 
 -- what is written of what is surely not meant
 abbrev pub warning_line : Place → Warning → List ℕ

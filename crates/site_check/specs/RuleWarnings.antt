@@ -1,15 +1,15 @@
 -- What is surely not meant with the rules and the hide tables of a site.
-use Rattle.std.specs.Prelude.{ℕ, ◌+◌, Bool, true, ◌&&◌, ◌||◌, List, [], ◌∷◌, ◌++◌, find, length, take, Option, Some, None, if◌then◌else◌}
+use Rattle.std.specs.Prelude.{ℕ, ◌+◌, Bool, true, ◌&&◌, ◌||◌, ◌==◌, List, [], ◌∷◌, ◌++◌, find, is_some, length, take, Option, Some, None, if◌then◌else◌}
 use Rattle.std.specs.List.{enumerate_from, flat_map, list_any}
 use Rattle.std.specs.Option.{option_map_or}
 use Rattle.slp_text.specs.Words.{bytes_eq}
-use Rattle.service_url.specs.Types.{covers}
+use Rattle.service_url.specs.Types.{covers, service_name_of}
 use Rattle.access_rules.specs.Deciding.{SiteRules, action_eq, hides_in, rules_in}
 use Rattle.access_rules.specs.declared.hide.Hide.{Hide}
-use Rattle.access_rules.specs.declared.rule.Action.TheVariants.{Register}
+use Rattle.access_rules.specs.declared.rule.Action.TheVariants.{Register, See}
 use Rattle.access_rules.specs.declared.rule.Rule.{Rule}
 use Rattle.site_check.specs.Hiding.{hides}
-use Rattle.site_check.specs.Lines.{Place, At, File, Hidden, NoRules, NoScope, NoType, warning_line}
+use Rattle.site_check.specs.Lines.{Place, At, File, Hidden, NoRules, NoScope, NoService, NoSight, NoType, warning_line}
 use Rattle.site_check.specs.declared.problem.Numbered.TheVariants as numbered
 
 -- the first of some earlier rules that hides one, by its number and its name
@@ -48,12 +48,24 @@ kind_line place rules (Some kind) = if may_stand rules (Some kind) then [] else 
 abbrev pub rule_kind_line : Place → List Rule → Rule → List ℕ
 rule_kind_line place rules rule = if action_eq rule.action Register then [] else kind_line place rules rule.kind
 
+-- a rule about a type that does not begin with service:
+abbrev pub is_of_service : List ℕ → Bool
+is_of_service kind = is_some (service_name_of kind)
+
+abbrev pub form_line : Place → Option (List ℕ) → List ℕ
+form_line place None = []
+form_line place (Some kind) = if is_of_service kind then [] else warning_line place (NoService kind)
+
+-- what is said of the type of a rule
+abbrev pub kind_lines : Place → List Rule → Rule → List ℕ
+kind_lines place rules rule = rule_kind_line place rules rule ++ form_line place rule.kind
+
 -- a rule with its index among these
 abbrev pub rule_lines : List ℕ → List Rule → List (List ℕ) → ℕ × Rule → List ℕ
 rule_lines file rules scopes indexed =
     let rule = indexed.1 in
     let place = At file (numbered.Rule (indexed.0 + 1)) (Some rule.name) in
-    hidden_lines place rule (take indexed.0 rules) ++ scope_lines place scopes rule.scopes ++ rule_kind_line place rules rule
+    hidden_lines place rule (take indexed.0 rules) ++ scope_lines place scopes rule.scopes ++ kind_lines place rules rule
 
 -- a hide table with its index, which comes after these rules
 abbrev pub hide_lines : List ℕ → List Rule → List (List ℕ) → ℕ × Hide → List ℕ
@@ -67,9 +79,23 @@ abbrev pub absence_line : List ℕ → List Rule → List ℕ
 absence_line file [] = warning_line (File file) NoRules
 absence_line file (rule ∷ rules) = []
 
+-- that there are rules, and none lets anyone see anything
+abbrev pub lets_see : Rule → Bool
+lets_see rule = rule.allow && action_eq rule.action See
+
+abbrev pub lets_any_see : List Rule → Bool
+lets_any_see rules = list_any lets_see rules
+
+abbrev pub has_sight : List Rule → Bool
+has_sight rules = length rules == 0 || lets_any_see rules
+
+abbrev pub sight_line : List ℕ → List Rule → List ℕ
+sight_line file rules = if has_sight rules then [] else warning_line (File file) NoSight
+
 -- rule after rule, then hide table after hide table
 abbrev pub warnings_of_rules : List ℕ → SiteRules → List (List ℕ) → List ℕ
 warnings_of_rules file site scopes =
     absence_line file (rules_in site)
+    ++ sight_line file (rules_in site)
     ++ flat_map (rule_lines file (rules_in site) scopes) (enumerate_from 0 (rules_in site))
     ++ flat_map (hide_lines file (rules_in site) scopes) (enumerate_from 0 (hides_in site))

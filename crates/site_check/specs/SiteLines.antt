@@ -13,6 +13,7 @@ use Rattle.site_config.specs.declared.config.Config.{Config}
 use Rattle.site_config.specs.declared.fault.ConfigFault.{ConfigFault}
 use Rattle.site_opening.specs.declared.files.FileFault.{FileFault}
 use Rattle.site_opening.specs.declared.files.FileFault.TheVariants as file_fault
+use Rattle.shown_text.specs.Shown.{shown}
 use Rattle.slp_text.specs.Ascii.{line_feed}
 use Rattle.slp_text.specs.Reading.{read_then}
 use Rattle.srv_template.specs.Conformity.{SiteTemplates}
@@ -22,6 +23,7 @@ use Rattle.srv_template.specs.declared.fault.ParseFault.{ParseFault}
 use Rattle.srv_template.specs.declared.fault.ParseFault.TheVariants as parse_fault
 use Rattle.site_check.specs.ConfigFaults.{config_lines}
 use Rattle.site_check.specs.Lines.{File, NoRuleFile, SameType, problem_line, warning_line}
+use Rattle.site_check.specs.ListenWarnings.{listen_lines}
 use Rattle.site_check.specs.NotToml.{Stop}
 use Rattle.site_check.specs.RuleFaults.{rule_file_lines}
 use Rattle.site_check.specs.RuleWarnings.{kind_line, warnings_of_rules}
@@ -36,7 +38,7 @@ fault_text file_fault.NotText = codes "it is not UTF-8"
 fault_text file_fault.NoMemory = codes "out of memory"
 
 abbrev pub unread_line : List ℕ → FileFault → List ℕ
-unread_line file e = file ++ codes ": " ++ fault_text e ++ line_feed ∷ []
+unread_line file e = shown file ++ codes ": " ++ fault_text e ++ line_feed ∷ []
 
 -- what is written of a file: why it has no text, else what is said of the text
 abbrev pub file_lines : List ℕ → (List ℕ → List ℕ) → Result (List ℕ) FileFault → List ℕ
@@ -129,8 +131,12 @@ named_rule_lines path scopes None r = warning_line (File path) NoRuleFile
 named_rule_lines path scopes (Some file) r = file_lines file (λ text. rule_text_lines file scopes text r.stop) r.read
 
 -- of the files that the configuration in a file names: the rules, then each template
+abbrev pub named_file_lines : List ℕ → SiteReads → Config → List ℕ
+named_file_lines path s config = named_rule_lines path config.scopes config.rules s.rules ++ each_template_lines (named_rules config.rules s.rules) fin.empty s.templates
+
+-- of its addresses, and then of these files
 abbrev pub named_lines : List ℕ → SiteReads → Config → List ℕ
-named_lines path s config = named_rule_lines path config.scopes config.rules s.rules ++ each_template_lines (named_rules config.rules s.rules) fin.empty s.templates
+named_lines path s config = listen_lines path config.listen ++ named_file_lines path s config
 
 -- of the text of a configuration: what is wrong with it, else what is written of the files that it names
 abbrev pub told_config : List ℕ → List ℕ → SiteReads → Result Config ConfigFault → List ℕ
@@ -163,5 +169,8 @@ status_text status =
     if status == 0 then codes "ok"
     else (if status == 3 then codes "there was no memory for the check" else codes "slpda would not start (status " ++ decimal status ++ codes ")")
 
+abbrev pub status_ending : ℕ → List ℕ
+status_ending status = codes ": " ++ status_text status ++ line_feed ∷ []
+
 abbrev pub status_line : List ℕ → ℕ → List ℕ
-status_line path status = path ++ codes ": " ++ status_text status ++ line_feed ∷ []
+status_line path status = shown path ++ status_ending status

@@ -5,6 +5,7 @@ mod config_faults;
 mod fault;
 mod hiding;
 pub mod laws;
+mod listening;
 mod problem;
 mod program;
 mod rule_faults;

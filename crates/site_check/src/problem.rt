@@ -1,8 +1,9 @@
 //! What is said of a file: where something is wrong, and what.
 ghost use Rattle.std.specs.Prelude.{◌≡◌, ◌≤◌, count_by, length, OnOk};
 ghost use Rattle.std.specs.Io.KnownBytes.{Appends};
-ghost use Rattle.site_check.specs.Lines.{is_line_feed, line_of_place, place_in, problem_in, problem_line, warning_in, warning_line};
+ghost use Rattle.site_check.specs.Lines.{is_line_feed, line_of_place, place_in, place_text, problem_in, problem_line, problem_text, warning_in, warning_line, warning_text};
 
+use shown_text::print_text;
 use std::fmt;
 use std::io::{self, Write};
 
@@ -38,18 +39,25 @@ pub(crate) enum Place<'a> {
     Numbered(&'a str, Numbered, Option<&'a str>),
 }
 
-impl fmt::Display for Place<'_> {
-    ghost use Rattle.std.specs.Prelude.{Some};
-    ghost use Rattle.site_check.specs.Lines.{place_in, place_text};
-
-    ghost output = { λ p. Some (place_text (place_in p)) };
-
-    fn fmt<W: fmt::Write>(&self, f: &mut fmt::Formatter<W>) -> fmt::Result {
-        match *self {
-            Place::File(file) => write!(f, "{file}"),
-            Place::Line(file, line) => write!(f, "{file}:{line}"),
-            Place::Numbered(file, numbered, None) => write!(f, "{file}: {numbered}"),
-            Place::Numbered(file, numbered, Some(name)) => write!(f, "{file}: {numbered} ({name})"),
+// Writes where something is wrong. Texts of the site are shown: so each line stays one.
+fn print_place<W: Write>(place: Place<'_>, writer: &mut W) -> io::Result<()>
+    ensures { OnOk result (Appends (W.contents writer.old) (W.contents writer.new) (place_text (place_in place.entry))) }
+{
+    match place {
+        Place::File(file) => print_text(file, writer),
+        Place::Line(file, line) => {
+            print_text(file, writer)?;
+            write!(writer, ":{line}")
+        }
+        Place::Numbered(file, numbered, None) => {
+            print_text(file, writer)?;
+            write!(writer, ": {numbered}")
+        }
+        Place::Numbered(file, numbered, Some(name)) => {
+            print_text(file, writer)?;
+            write!(writer, ": {numbered} (")?;
+            print_text(name, writer)?;
+            write!(writer, ")")
         }
     }
 }
@@ -80,28 +88,30 @@ pub(crate) enum Problem<'a> {
     SameType,
 }
 
-impl fmt::Display for Problem<'_> {
-    ghost use Rattle.std.specs.Prelude.{Some};
-    ghost use Rattle.site_check.specs.Lines.{problem_in, problem_text};
-
-    ghost output = { λ p. Some (problem_text (problem_in p)) };
-
-    fn fmt<W: fmt::Write>(&self, f: &mut fmt::Formatter<W>) -> fmt::Result {
-        match *self {
-            Problem::TooLong => write!(f, "longer than 1048576 bytes"),
-            Problem::NotToml(message) => write!(f, "not TOML: {message}"),
-            Problem::UnknownKey(key) => write!(f, "unknown key {key}"),
-            Problem::EarlyKey(key) => write!(f, "{key} needs version 2"),
-            Problem::EarlyHides => write!(f, "hide tables need version 3"),
-            Problem::Missing(key) => write!(f, "{key} is missing"),
-            Problem::Value(key, refusal) => write!(f, "{key} is {refusal}"),
-            Problem::TooManyRules => write!(f, "more than 1024 rules"),
-            Problem::TooManyTogether => write!(f, "more than 1024 rules and hide tables"),
-            Problem::NotTable => write!(f, "not a table"),
-            Problem::SameName(other) => write!(f, "{other} has this name, too"),
-            Problem::Template(refusal) => write!(f, "{refusal}"),
-            Problem::SameType => write!(f, "an earlier template is of its type, too"),
+// Writes what is wrong.
+fn print_problem<W: Write>(problem: Problem<'_>, writer: &mut W) -> io::Result<()>
+    ensures { OnOk result (Appends (W.contents writer.old) (W.contents writer.new) (problem_text (problem_in problem.entry))) }
+{
+    match problem {
+        Problem::TooLong => write!(writer, "longer than 1048576 bytes"),
+        Problem::NotToml(message) => {
+            write!(writer, "not TOML: ")?;
+            print_text(message, writer)
         }
+        Problem::UnknownKey(key) => {
+            write!(writer, "unknown key ")?;
+            print_text(key, writer)
+        }
+        Problem::EarlyKey(key) => write!(writer, "{key} needs version 2"),
+        Problem::EarlyHides => write!(writer, "hide tables need version 3"),
+        Problem::Missing(key) => write!(writer, "{key} is missing"),
+        Problem::Value(key, refusal) => write!(writer, "{key} is {refusal}"),
+        Problem::TooManyRules => write!(writer, "more than 1024 rules"),
+        Problem::TooManyTogether => write!(writer, "more than 1024 rules and hide tables"),
+        Problem::NotTable => write!(writer, "not a table"),
+        Problem::SameName(other) => write!(writer, "{other} has this name, too"),
+        Problem::Template(refusal) => write!(writer, "{refusal}"),
+        Problem::SameType => write!(writer, "an earlier template is of its type, too"),
     }
 }
 
@@ -114,26 +124,50 @@ pub(crate) enum Warning<'a> {
     Hidden(usize, &'a str),
     NoScope(&'a str),
     NoType(&'a str),
+    /// A type that does not begin with `service:`.
+    NoService(&'a str),
+    NoSight,
+    /// An element of `listen`, by its number, that is every address.
+    AnyAddress(usize),
+    /// One that is not of one machine.
+    NoMachine(usize),
 }
 
-impl fmt::Display for Warning<'_> {
-    ghost use Rattle.std.specs.Prelude.{Some};
-    ghost use Rattle.site_check.specs.Lines.{warning_in, warning_text};
-
-    ghost output = { λ w. Some (warning_text (warning_in w)) };
-
-    fn fmt<W: fmt::Write>(&self, f: &mut fmt::Formatter<W>) -> fmt::Result {
-        match *self {
-            Warning::NoRuleFile => write!(f, "no rule file is named, so all is denied"),
-            Warning::NoRules => write!(f, "there are no rules, so all is denied"),
-            Warning::Hidden(number, name) => {
-                write!(
-                    f,
-                    "it never decides, since rule {number} ({name}) fits whatever it fits"
-                )
-            }
-            Warning::NoScope(scope) => write!(f, "the site has no scope {scope}"),
-            Warning::NoType(kind) => write!(f, "no rule lets anyone register {kind}"),
+// Writes what is surely not meant.
+fn print_warning<W: Write>(warning: Warning<'_>, writer: &mut W) -> io::Result<()>
+    ensures { OnOk result (Appends (W.contents writer.old) (W.contents writer.new) (warning_text (warning_in warning.entry))) }
+{
+    match warning {
+        Warning::NoRuleFile => write!(writer, "no rule file is named, so all is denied"),
+        Warning::NoRules => write!(writer, "there are no rules, so all is denied"),
+        Warning::Hidden(number, name) => {
+            write!(writer, "it never decides, since rule {number} (")?;
+            print_text(name, writer)?;
+            write!(writer, ") fits whatever it fits")
+        }
+        Warning::NoScope(scope) => {
+            write!(writer, "the site has no scope ")?;
+            print_text(scope, writer)
+        }
+        Warning::NoType(kind) => {
+            write!(writer, "no rule lets anyone register ")?;
+            print_text(kind, writer)
+        }
+        Warning::NoService(kind) => {
+            write!(writer, "it is about URLs that begin with ")?;
+            print_text(kind, writer)?;
+            write!(writer, ": and about no type that begins with service:")
+        }
+        Warning::NoSight => write!(writer, "no rule lets anyone see anything"),
+        Warning::AnyAddress(number) => write!(
+            writer,
+            "element {number} of listen is 0.0.0.0, which is told to clients as the address of the directory"
+        ),
+        Warning::NoMachine(number) => {
+            write!(
+                writer,
+                "element {number} of listen is no address of one machine"
+            )
         }
     }
 }
@@ -146,7 +180,10 @@ pub(crate) fn report<W: Write>(
 ) -> io::Result<()>
     ensures { OnOk result (Appends (W.contents writer.old) (W.contents writer.new) (problem_line (place_in place.entry) (problem_in problem.entry))) }
 {
-    writeln!(writer, "{place}: {problem}")
+    print_place(place, writer)?;
+    write!(writer, ": ")?;
+    print_problem(problem, writer)?;
+    writeln!(writer)
 }
 
 /// Writes what is surely not meant at a place.
@@ -157,7 +194,10 @@ pub(crate) fn warn<W: Write>(
 ) -> io::Result<()>
     ensures { OnOk result (Appends (W.contents writer.old) (W.contents writer.new) (warning_line (place_in place.entry) (warning_in warning.entry))) }
 {
-    writeln!(writer, "{place}: warning: {warning}")
+    print_place(place, writer)?;
+    write!(writer, ": warning: ")?;
+    print_warning(warning, writer)?;
+    writeln!(writer)
 }
 
 // How many line feeds there are.

@@ -5,11 +5,12 @@ ghost use Rattle.std.specs.declared.io.ErrorKind.TheVariants.{InvalidData};
 ghost use Rattle.site_opening.specs.Openings.{SiteTexts, start_of};
 ghost use Rattle.site_opening.specs.Words.{path_in};
 ghost use Rattle.site_check.specs.Checks.{AppendsCheck, IsChecked, usage_text};
-ghost use Rattle.site_check.specs.SiteLines.{status_line};
+ghost use Rattle.site_check.specs.SiteLines.{status_ending, status_line};
 ghost use Rattle.site_opening.specs.Statuses.{opening_status};
 
 use crate::fault::CheckFault;
 use crate::site::look_at_site;
+use shown_text::print_text;
 use site_opening::{SiteFiles, StartFault, config_path, open_site};
 use std::alloc::Global;
 use std::io::{self, ErrorKind, Write};
@@ -45,17 +46,25 @@ fn status_at<R: Files>(rt: &R, alloc: Global, path: &str) -> u8
 }
 
 // Writes what a server would do, by its status.
-fn print_status<W: Write>(path: &str, status: u8, writer: &mut W) -> io::Result<()>
-    ensures { OnOk result (Appends (W.contents writer.old) (W.contents writer.new) (status_line path.now status)) }
+fn print_ending<W: Write>(status: u8, writer: &mut W) -> io::Result<()>
+    ensures { OnOk result (Appends (W.contents writer.old) (W.contents writer.new) (status_ending status)) }
 {
     if status == 0 {
-        return writeln!(writer, "{path}: ok");
+        return writeln!(writer, ": ok");
     }
     // It says nothing of a server, which may find memory.
     if status == NO_MEMORY {
-        return writeln!(writer, "{path}: there was no memory for the check");
+        return writeln!(writer, ": there was no memory for the check");
     }
-    writeln!(writer, "{path}: slpda would not start (status {status})")
+    writeln!(writer, ": slpda would not start (status {status})")
+}
+
+// The same, with the path of the configuration.
+fn print_status<W: Write>(path: &str, status: u8, writer: &mut W) -> io::Result<()>
+    ensures { OnOk result (Appends (W.contents writer.old) (W.contents writer.new) (status_line path.now status)) }
+{
+    print_text(path, writer)?;
+    print_ending(status, writer)
 }
 
 // Writes what is found in a site, and answers its status.

@@ -9,10 +9,11 @@ ghost use Rattle.service_url.specs.Types.{type_of};
 ghost use Rattle.srv_template.specs.Templates.{added_to};
 ghost use Rattle.site_check.specs.ConfigFaults.{config_lines};
 ghost use Rattle.site_check.specs.NotToml.{AppendsStopped};
-ghost use Rattle.site_check.specs.SiteLines.{AppendsSite, AreNamed, AreRead, ReadTemplate, ReadToml, SiteReads, StopsWithin, addition_line, each_template_lines, fault_text, file_lines, named_lines, named_rule_lines, named_rules, rule_text_lines, rules_read, site_lines, template_kind, template_text_lines, template_warning, templates_with, unread_line};
+ghost use Rattle.site_check.specs.SiteLines.{AppendsSite, AreNamed, AreRead, ReadTemplate, ReadToml, SiteReads, StopsWithin, addition_line, each_template_lines, fault_text, file_lines, named_file_lines, named_lines, named_rule_lines, named_rules, rule_text_lines, rules_read, site_lines, template_kind, template_text_lines, template_warning, templates_with, unread_line};
 
 use crate::config_faults::explain_config;
 use crate::fault::CheckFault;
+use crate::listening::warn_of_listen;
 use crate::problem::{FileText, Place, Problem, Warning, report, warn};
 use crate::rule_faults::explain_rules;
 use crate::template_faults::explain_template;
@@ -20,6 +21,7 @@ use crate::warnings::{warn_of_kind, warn_of_rules};
 use access_rules::Rules;
 use rule_files::{RuleFault, rules_of_text};
 use service_url::{ServiceType, UrlFault};
+use shown_text::print_text;
 use site_config::{Config, ConfigFault};
 use site_opening::{FileFault, read};
 use slp_scopes::ScopeList;
@@ -48,8 +50,9 @@ fn report_unread<W: Write>(file: &str, fault: FileFault, writer: &mut W) -> Resu
     if matches!(fault, FileFault::NoMemory) {
         return Err(CheckFault::NoMemory);
     }
+    print_text(file, writer)?;
     let words = fault_words(fault);
-    writeln!(writer, "{file}: {words}")?;
+    writeln!(writer, ": {words}")?;
     Ok(())
 }
 
@@ -241,6 +244,27 @@ fn look_at_templates<R: Files, W: Write>(
 }
 
 // Looks at the files that the configuration in a file names.
+fn look_at_files<R: Files, W: Write>(
+    rt: &R,
+    alloc: Global,
+    path: &str,
+    config: &Config,
+    writer: &mut W,
+) -> Result<(), CheckFault>
+    ensures { OnOk result ((s : SiteReads) × AreNamed s config.now
+        × Appends (W.contents writer.old) (W.contents writer.new) (named_file_lines path.now s config.now)) }
+{
+    let rules = look_at_rules(rt, alloc, path, config, writer)?;
+    look_at_templates(
+        rt,
+        alloc,
+        config.templates.as_slice(),
+        rules.as_ref(),
+        writer,
+    )
+}
+
+// Looks at what a configuration says: its addresses, and the files that it names.
 fn look_at_named<R: Files, W: Write>(
     rt: &R,
     alloc: Global,
@@ -251,14 +275,8 @@ fn look_at_named<R: Files, W: Write>(
     ensures { OnOk result ((s : SiteReads) × AreNamed s config.now
         × Appends (W.contents writer.old) (W.contents writer.new) (named_lines path.now s config.now)) }
 {
-    let rules = look_at_rules(rt, alloc, path, config, writer)?;
-    look_at_templates(
-        rt,
-        alloc,
-        config.templates.as_slice(),
-        rules.as_ref(),
-        writer,
-    )
+    warn_of_listen(path, config.listen.as_slice(), writer)?;
+    look_at_files(rt, alloc, path, config, writer)
 }
 
 // Writes what is wrong with a text that is refused as a configuration. Want of memory says nothing of the text.

@@ -5,7 +5,7 @@ ghost use Rattle.std.specs.List.{enumerate_from};
 ghost use Rattle.std.specs.Option.{option_copied};
 ghost use Rattle.site_check.specs.Lines.{place_in};
 ghost use Rattle.site_check.specs.RuleWarnings as spec;
-ghost use Rattle.site_check.specs.RuleWarnings.{absence_line, hidden_lines, hide_lines, kind_line, rule_kind_line, rule_lines, scope_line, scope_lines, warnings_of_rules};
+ghost use Rattle.site_check.specs.RuleWarnings.{absence_line, form_line, hidden_lines, hide_lines, kind_line, kind_lines, rule_kind_line, rule_lines, scope_line, scope_lines, sight_line, warnings_of_rules};
 
 use crate::fault::CheckFault;
 use crate::hiding::{hides, is_same};
@@ -136,6 +136,45 @@ fn warn_of_rule_kind<W: Write>(
     warn_of_kind(place, rule.kind.as_ref(), rules, writer)
 }
 
+// Whether a type begins with `service:`.
+fn is_of_service(kind: &ServiceType) -> bool
+    ensures { result ≡ spec.is_of_service kind.now }
+{
+    match kind.service_name() {
+        Some(_) => true,
+        None => false,
+    }
+}
+
+// Writes that a rule is about a type that does not, where that is so.
+fn warn_of_form<W: Write>(
+    place: Place<'_>,
+    kind: Option<&ServiceType>,
+    writer: &mut W,
+) -> io::Result<()>
+    ensures { OnOk result (Appends (W.contents writer.old) (W.contents writer.new) (form_line (place_in place.entry) (option_copied kind.entry))) }
+{
+    match kind {
+        Some(kind) if !is_of_service(kind) => {
+            warn(place, Warning::NoService(kind.text()), writer)
+        }
+        _ => Ok(()),
+    }
+}
+
+// Writes what is surely not meant with the type of a rule.
+fn warn_of_kinds<W: Write>(
+    place: Place<'_>,
+    rule: &Rule,
+    rules: &[Rule],
+    writer: &mut W,
+) -> io::Result<()>
+    ensures { OnOk result (Appends (W.contents writer.old) (W.contents writer.new) (kind_lines (place_in place.entry) rules.now rule.now)) }
+{
+    warn_of_rule_kind(place, rule, rules, writer)?;
+    warn_of_form(place, rule.kind.as_ref(), writer)
+}
+
 /// The rules of a site and its scopes.
 #[derive(Clone, Copy)]
 struct Site<'a> {
@@ -157,7 +196,7 @@ fn warn_of_rule<W: Write>(
     let place = Place::Numbered(file, Numbered::Rule(index + 1), Some(rule.name.as_str()));
     warn_of_hiding(place, rule, &site.rules[..index], writer)?;
     warn_of_scopes(place, rule.scopes.as_ref(), site.scopes, writer)?;
-    warn_of_rule_kind(place, rule, site.rules, writer)
+    warn_of_kinds(place, rule, site.rules, writer)
 }
 
 // Writes what is surely not meant with rules.
@@ -212,6 +251,37 @@ fn warn_of_absence<W: Write>(file: &str, rules: &[Rule], writer: &mut W) -> io::
     }
 }
 
+// Whether a rule lets someone see something.
+fn lets_see(rule: &Rule) -> bool
+    ensures { result ≡ spec.lets_see rule.now }
+{
+    rule.allow && is_same(rule.action, Action::See)
+}
+
+// Whether some rule lets someone see something.
+fn lets_any_see(rules: &[Rule]) -> bool
+    ensures { result ≡ spec.lets_any_see rules.now }
+{
+    rules.iter().any(|rule| lets_see(rule))
+}
+
+// The same, or there are none.
+fn has_sight(rules: &[Rule]) -> bool
+    ensures { result ≡ spec.has_sight rules.now }
+{
+    rules.len() == 0 || lets_any_see(rules)
+}
+
+// Writes that there are rules, and none lets anyone see anything, where that is so.
+fn warn_of_sight<W: Write>(file: &str, rules: &[Rule], writer: &mut W) -> io::Result<()>
+    ensures { OnOk result (Appends (W.contents writer.old) (W.contents writer.new) (sight_line file.now rules.now)) }
+{
+    if has_sight(rules) {
+        return Ok(());
+    }
+    warn(Place::File(file), Warning::NoSight, writer)
+}
+
 /// Writes what is surely not meant with rules and hide tables, in a site of these scopes.
 pub(crate) fn warn_of_rules<W: Write>(
     file: &str,
@@ -226,6 +296,7 @@ pub(crate) fn warn_of_rules<W: Write>(
         scopes,
     };
     warn_of_absence(file, site.rules, writer)?;
+    warn_of_sight(file, site.rules, writer)?;
     warn_of_each_rule(file, site, writer)?;
     warn_of_each_hide(file, rules.hide_tables(), site, writer)?;
     Ok(())

@@ -1,3 +1,4 @@
 pub mod Answers
+pub mod AskedChanges
 pub mod Gathering
 pub mod ServiceReplies

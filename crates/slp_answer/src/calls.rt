@@ -7,7 +7,7 @@ ghost use Rattle.directory_questions.specs.Verdicts.{IsLegal};
 ghost use Rattle.directory_state.specs.Folds.{Fold};
 ghost use Rattle.slp_answer.specs.Answers.{Acknowledges, Replies, Steps};
 
-use crate::acknowledgements::acknowledge_heard;
+use crate::acknowledgements::acknowledge_unread;
 use crate::questions::answer_heard;
 use addresses::Addr;
 use directory_judge::Change;
@@ -42,7 +42,7 @@ pub fn step<R: Registry>(
         let told = answer_heard(alloc, directory, &heard, answer);
         return told_whole(told, answer);
     }
-    let told = acknowledge_heard(alloc, directory, &heard, answer);
+    let told = acknowledge_unread(alloc, directory, &heard, answer);
     let (sent, change) = told_whole(told, answer)?;
     if let Some(change) = change {
         directory.apply(change);
@@ -106,6 +106,6 @@ pub fn acknowledge<R: Registry>(
     let Some(heard) = Heard::of(&call) else {
         unreachable!();
     };
-    let told = acknowledge_heard(alloc, directory, &heard, answer);
+    let told = acknowledge_unread(alloc, directory, &heard, answer);
     told_whole(told, answer)
 }

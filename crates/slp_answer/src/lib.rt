@@ -9,7 +9,7 @@ mod questions;
 mod service_replies;
 mod text_replies;
 
-pub use acknowledgements::acknowledge_heard;
+pub use acknowledgements::{AskedChange, acknowledge_heard, read_heard};
 pub use calls::{acknowledge, reply, step};
 pub use directory_questions::{Call, Heard, asked, is_change};
 pub use gathering::{Begun, begin_asked, end_asked, takes_long};

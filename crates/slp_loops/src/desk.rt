@@ -5,14 +5,16 @@ ghost use Rattle.directory_questions.specs.Requests.{function_in, is_change_func
 ghost use Rattle.directory_questions.specs.Verdicts.{IsLegal};
 ghost use Rattle.history_log.specs.Pasts.{IsPast};
 ghost use Rattle.directory_runs.specs.Changes.{IsChanged};
+ghost use Rattle.slp_answer.specs.AskedChanges.{IsAskedAt};
 ghost use Rattle.published_view.specs.Traces.{last_at, IsAsked};
 ghost use Rattle.slp_loops.specs.Desks.{AsksForChange, heard_lent, line_told, IsOutcomeOf, IsServedChange};
 ghost use Rattle.slp_loops.specs.Logging.{Lined};
 
 use crate::log::{Lines, Log, SharedOutput};
+use crate::queue::{Queue, QueuedOutput};
 use addresses::Addr;
 use published_view::{DirectoryWriter, Gate, LoopView, Naming, Note, ViewFault};
-use slp_answer::{Answer, Call, Heard, Sent, refused_line_of};
+use slp_answer::{Answer, AskedChange, Call, Heard, Sent, refused_line_of};
 use slp_messages::function::{ATTRIBUTE_REQUEST, REGISTRATION, WITHDRAWAL};
 use slp_sockets::{Moments, Serve};
 use slp_text::NoMemory;
@@ -23,14 +25,29 @@ use std::sync::{Mutex, Wait};
 /// A message of no more bytes that is not about attributes is not timed.
 const SHORT: usize = 128;
 
-/// What the threads of a server share: the writer, what is called inside each entry, and the output to which lines are written.
+/// What the threads of a server share: the writer, what is called inside each entry, the queue in which lines wait, and the output to which they are written.
 #[derive(Drop)]
 pub struct Shared<'r, 's, J: Naming, R: Wait, G: Gate, W: Write> {
     pub rt: &'r R,
     pub alloc: Global,
     pub writer: &'s Mutex<DirectoryWriter<J, &'r R>>,
     pub gate: &'s G,
+    pub queue: &'s Queue,
     pub output: &'s Mutex<W>,
+}
+
+impl<'r, 's, J: Naming, R: Wait, G: Gate, W: Write> Shared<'r, 's, J, R, G, W> {
+    /// The log of one place of the queue.
+    pub fn log(&self, place: usize) -> QueuedOutput<'r, 's, R, W> {
+        QueuedOutput {
+            queue: self.queue,
+            place,
+            output: SharedOutput {
+                rt: self.rt,
+                output: self.output,
+            },
+        }
+    }
 }
 
 /// Serves messages: questions from what is published, without waiting for it, and changes under the writer's lock. The line of
@@ -88,14 +105,16 @@ fn change_and_note<J: Naming, Q: Wait + Drop>(
     writer: &mut DirectoryWriter<J, Q>,
     alloc: Global,
     heard: &Heard<'_>,
+    asked: AskedChange<'_>,
     answer: &mut Answer,
 ) -> Result<(Sent, Result<Note<J>, ViewFault>), ViewFault>
-    requires { is_change_function (function_in heard.now.request) ≡ true }
+    requires change { is_change_function (function_in heard.now.request) ≡ true }
+    requires asked { IsAskedAt J.opening.site heard.now.call.now.bytes.now asked }
     ensures made { IfOk result (λ p. IsChanged J.opening writer.old.history heard.now.call.now.moment heard.now.call.now.asker heard.now.call.now.bytes.now p.0 answer.new.bytes.items answer.new.audit.items writer.new.history) }
     ensures legal { OnOk result (IsLegal J.opening writer.new.history) }
     ensures noted { IfOk result (λ p. IfOk p.1 (λ n. n ≡ writer.new.history)) }
 {
-    let sent = writer.hear(alloc, heard, answer)?;
+    let sent = writer.hear(alloc, heard, asked, answer)?;
     Ok((sent, writer.note()))
 }
 
@@ -106,15 +125,16 @@ impl<'r, 's, J: Naming, R: Wait, M: Moments + Drop, G: Gate, W: Write> Desk<
     R,
     M,
     G,
-    SharedOutput<'r, 's, R, W>,
+    QueuedOutput<'r, 's, R, W>,
 > {
-    /// A desk for messages that come to an address of the directory. Takes no memory.
+    /// A desk for messages that come to an address of the directory, whose lines have a place in the queue. Takes no memory.
     pub fn new(
         view: LoopView<J>,
         shared: &Shared<'r, 's, J, R, G, W>,
         own: Addr,
         moments: M,
-    ) -> Desk<'r, 's, J, R, M, G, SharedOutput<'r, 's, R, W>>
+        place: usize,
+    ) -> Desk<'r, 's, J, R, M, G, QueuedOutput<'r, 's, R, W>>
         ensures own { result.own ≡ own }
         ensures moments { result.moments ≡ moments }
         ensures view { result.view ≡ view }
@@ -122,17 +142,13 @@ impl<'r, 's, J: Naming, R: Wait, M: Moments + Drop, G: Gate, W: Write> Desk<
         ensures alone { result.has_other ≡ false }
         ensures settled { result.lines.waiting ≡ [] }
     {
-        let log = SharedOutput {
-            rt: shared.rt,
-            output: shared.output,
-        };
         Desk {
             rt: shared.rt,
             alloc: shared.alloc,
             view,
             writer: shared.writer,
             gate: shared.gate,
-            lines: Lines::new(shared.alloc, log),
+            lines: Lines::new(shared.alloc, shared.log(place)),
             own,
             moments,
             told: true,
@@ -150,7 +166,7 @@ impl<'r, 's, J: Naming, R: Wait, M: Moments + Drop, G: Gate, L: Log + Drop> Desk
     G,
     L,
 > {
-    // Has the writer make a change, gives its lock back, and then sees what it published.
+    // Reads a change, has the writer make it, gives its lock back, and then sees what it published.
     fn change(&mut self, heard: &Heard<'_>, answer: &mut Answer) -> Result<Sent, ViewFault>
         requires { is_change_function (function_in heard.now.request) ≡ true }
         ensures later { IsPast (last_at self.old.view) (last_at self.new.view) }
@@ -159,9 +175,10 @@ impl<'r, 's, J: Naming, R: Wait, M: Moments + Drop, G: Gate, L: Log + Drop> Desk
         ensures refused { OnErr result (self.new.told ≡ self.old.told) }
         ensures kept { self.new ≡ record self.old { view = self.new.view; told = self.new.told } }
     {
+        let asked = self.view.read(self.alloc, heard)?;
         let mut writer = self.writer.lock(self.rt);
         self.gate.changing();
-        let changed = change_and_note(&mut *writer, self.alloc, heard, answer);
+        let changed = change_and_note(&mut *writer, self.alloc, heard, asked, answer);
         self.gate.changed();
         drop(writer);
         let (sent, note) = changed?;

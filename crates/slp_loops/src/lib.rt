@@ -3,9 +3,11 @@
 
 mod desk;
 mod log;
+mod queue;
 
 pub use desk::{Desk, Shared};
 pub use log::{Lines, Log, SharedOutput};
+pub use queue::{LineWriter, Queue, QueuedOutput};
 pub use slp_sockets::{
     AgentLoop, Connection, Datagrams, LoopFault, Moments, Next, Port, Rest, Serve, Settled,
     SteadyClock, WallClock, settle,

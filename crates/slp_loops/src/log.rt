@@ -31,8 +31,8 @@ pub struct SharedOutput<'r, 's, R: Wait, W: Write> {
     pub output: &'s Mutex<W>,
 }
 
-// Writes bytes, and has them out.
-fn write_out<W: Write>(output: &mut W, lines: &[u8]) -> io::Result<()>
+/// Writes bytes, and has them out.
+pub(crate) fn write_out<W: Write>(output: &mut W, lines: &[u8]) -> io::Result<()>
     ensures { OnOk result (Appends (W.contents output.old) (W.contents output.new) lines.now) }
 {
     output.write_all(lines)?;
@@ -94,7 +94,7 @@ impl<L: Log + Drop> Lines<L> {
         line.len() <= room && self.waiting.extend_from_slice(line).is_ok()
     }
 
-    /// Has a line wait behind those that do. Where they are too many then, or there is no memory for it, all are written out.
+    /// Has a line wait behind those that do. Where they are too many then, or there is no memory for it, all are handed over.
     pub fn push(&mut self, line: &[u8])
         ensures { Lined L.writes self.old line.now self.new }
     {
@@ -112,7 +112,7 @@ impl<L: Log + Drop> Lines<L> {
         self.log.write(line);
     }
 
-    /// Writes out what waits.
+    /// Hands over what waits.
     pub fn settle(&mut self)
         ensures { IsOut L.writes self.old self.new }
     {

@@ -62,10 +62,17 @@ lack_of (Err Io) = Ok tt
 lack_of (Err NoMemory) = Err NoMemory
 
 -- what a turn tells of what was served: that memory was wanting also where it could not wait
-abbrev pub turn_told : Bool → Result ⊤ LoopFault → Result ⊤ LoopFault
+abbrev pub turn_told : Bool → Result Bool LoopFault → Result Bool LoopFault
 turn_told true told = told
-turn_told false (Ok x) = Err NoMemory
+turn_told false (Ok true) = Err NoMemory
+turn_told false (Ok false) = Ok false
 turn_told false (Err e) = Err e
+
+-- all was served that was ready, by what a turn tells: the loop was not to end, and no socket of its own was lost
+abbrev pub IsWhole : Result Bool LoopFault → Type 0
+IsWhole (Ok all) = all ≡ true
+IsWhole (Err NoMemory) = ⊤
+IsWhole (Err Io) = ⊥
 
 -- What is there of a stream by what its steps came to: it stays where it is blocked, and is closed where it ended or failed. One that may go on stays where it can
 -- be waited for.

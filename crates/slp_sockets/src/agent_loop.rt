@@ -1,9 +1,9 @@
-ghost use Rattle.std.specs.Prelude.{◌≡◌, ◌≢◌, ◌≤◌, ◌<◌, ◌↔◌, ◌++◌, ℕ, List, [], length, slice_get, Some, Err, IfOk, IfErr, IsTrue, IsFalse};
+ghost use Rattle.std.specs.Prelude.{◌≡◌, ◌≤◌, ◌<◌, ◌↔◌, ◌++◌, ℕ, List, [], length, slice_get, Some, Err, IfOk, IfErr, IsTrue, IsFalse};
 ghost use Rattle.slp_sockets.specs.Handing.{taken_in};
 ghost use Rattle.slp_sockets.specs.Holding.{NoneSits, longest_stay};
 ghost use Rattle.slp_sockets.specs.Readiness.{tokens_of};
 ghost use Rattle.slp_sockets.specs.Sockets.{Waits};
-ghost use Rattle.slp_sockets.specs.Turning.{AreServedAt, IsBegun, IsServedAt, IsStreamServed, IsTurn, SettlesFirst, SettlesLast, tended, turn_told};
+ghost use Rattle.slp_sockets.specs.Turning.{AreServedAt, IsBegun, IsServedAt, IsStreamServed, IsTurn, IsWhole, SettlesFirst, SettlesLast, tended, turn_told};
 ghost use Rattle.slp_sockets.specs.declared.fault.LoopFault.TheVariants.{Io as Failing};
 
 use crate::clock::{Moments, SteadyClock};
@@ -68,22 +68,26 @@ fn serve_event<S: Serve>(
     }
 }
 
-// Serves each socket that is ready. Want of memory is answered once all are served: an event that is
-// left out is not reported again.
+// Serves each socket that is ready, and answers whether it did: before each it looks whether the loop is to end. Want of memory is answered once all are
+// served: an event that is left out is not reported again.
 fn serve_events<S: Serve>(
-    registry: &Registry,
-    events: &Events,
+    ready: (&Registry, &Events),
     datagrams: &mut Datagrams<UdpSocket>,
     streams: &mut Streams,
     server: &mut S,
-) -> Result<(), LoopFault>
+    stop: &AtomicBool,
+) -> Result<bool, LoopFault>
     ensures limit { streams.new.limit ≡ streams.old.limit }
-    ensures served { (front : List ℕ) × (rest : List ℕ) × (tokens_of events.now ≡ front ++ rest) × (result ≢ Err Failing → rest ≡ [])
+    ensures served { (front : List ℕ) × (rest : List ℕ) × (tokens_of ready.entry.1.now ≡ front ++ rest) × (IsWhole result → rest ≡ [])
         × AreServedAt S.manner (record { seats = streams.old.seats; server = server.old }) front (record { seats = streams.new.seats; server = server.new }) }
 {
+    let (registry, events) = ready;
     datagrams.look(server);
-    let mut outcome = Ok(());
+    let mut outcome = Ok(true);
     for event in events.iter() {
+        if stop.load(Ordering::SeqCst) {
+            return Ok(false);
+        }
         match serve_event(registry, event.token(), datagrams, streams, server) {
             Ok(()) => {}
             Err(LoopFault::Io) => return Err(LoopFault::Io),
@@ -133,17 +137,17 @@ fn wait_for(poll: &mut Poll, events: &mut Events, millis: u64) -> Result<bool, L
 }
 
 // What a turn tells: that memory was wanting also where it could not wait.
-fn told_after(has_waited: bool, told: Result<(), LoopFault>) -> Result<(), LoopFault>
+fn told_after(has_waited: bool, told: Result<bool, LoopFault>) -> Result<bool, LoopFault>
     ensures { result ≡ turn_told has_waited told }
 {
     match told {
-        Ok(()) if !has_waited => Err(LoopFault::NoMemory),
+        Ok(true) if !has_waited => Err(LoopFault::NoMemory),
         _ => told,
     }
 }
 
 // Whether a turn tells that its sockets are of no use any more. Want of memory may pass.
-fn is_lost(told: Result<(), LoopFault>) -> bool
+fn is_lost(told: Result<bool, LoopFault>) -> bool
     ensures { IsTrue result ↔ (told ≡ Err Failing) }
 {
     told == Err(LoopFault::Io)
@@ -307,21 +311,21 @@ impl<S: Serve + Drop> AgentLoop<S> {
 
     /// Waits until a socket is ready, for 500 ms at most, or 1 where a message that was put aside waits for others, and serves what was put aside and what is ready. Then each stream is closed that has sat there for 300 seconds
     /// of a steady clock. `Io` is answered only where the wait failed, or a socket of the loop's own is of no use any more. `NoMemory` is answered once all is served that
-    /// was ready: a connection that found none is closed.
-    pub fn turn<M: Moments>(&mut self, steady: &mut M) -> Result<(), LoopFault>
+    /// was ready: a connection that found none is closed. Once the flag is set no more is served, and it answers no.
+    pub fn turn<M: Moments>(&mut self, steady: &mut M, stop: &AtomicBool) -> Result<bool, LoopFault>
         ensures limit { self.new.limit ≡ self.old.limit }
         ensures none { NoneSits longest_stay self.new.moment self.new.seats }
         ensures served { SettlesFirst S.manner (tended self.old) (tended self.new) }
-        ensures whole { result ≢ Err Failing → IsTurn S.manner (tended self.old) self.new.ready (tended self.new) }
+        ensures whole { IsWhole result → IsTurn S.manner (tended self.old) self.new.ready (tended self.new) }
     {
-        let told = match self.begin(steady) {
+        let told = match self.begin(steady, stop) {
             Ok(waited) => {
                 let told = serve_events(
-                    self.poll.registry(),
-                    &self.events,
+                    (self.poll.registry(), &self.events),
                     &mut self.datagrams,
                     &mut self.streams,
                     &mut self.server,
+                    stop,
                 );
                 told_after(waited, told)
             }
@@ -332,7 +336,7 @@ impl<S: Serve + Drop> AgentLoop<S> {
     }
 
     // Has the lines of the last turn out, waits, and serves what could not be served then. Answers whether it could wait.
-    fn begin<M: Moments>(&mut self, steady: &mut M) -> Result<bool, LoopFault>
+    fn begin<M: Moments>(&mut self, steady: &mut M, stop: &AtomicBool) -> Result<bool, LoopFault>
         ensures limit { self.new.limit ≡ self.old.limit }
         ensures fault { IfErr result (λ e. e ≡ Failing) }
         ensures served { SettlesFirst S.manner (tended self.old) (tended self.new) }
@@ -362,14 +366,15 @@ impl<S: Serve + Drop> AgentLoop<S> {
             &mut self.streams,
         );
         self.datagrams.take_up(&mut self.server);
-        self.streams.resume(self.poll.registry(), &mut self.server);
+        self.streams
+            .resume(self.poll.registry(), &mut self.server, stop);
         self.datagrams
             .serve_again(self.poll.registry(), &mut self.server)?;
         Ok(waited)
     }
 
     /// Takes turns until the flag is set, or a turn answers `Io`, which is its only fault. What was told of the last
-    /// messages is out then.
+    /// messages is handed over then.
     pub fn run<R: Wait + Clock>(&mut self, rt: &R, stop: &AtomicBool) -> Result<(), LoopFault>
         ensures limit { self.new.limit ≡ self.old.limit }
         ensures fault { IfErr result (λ e. e ≡ Failing) }
@@ -381,7 +386,7 @@ impl<S: Serve + Drop> AgentLoop<S> {
                 self.server.settle();
                 return Ok(());
             }
-            let told = self.turn(&mut steady);
+            let told = self.turn(&mut steady, stop);
             if is_lost(told) {
                 self.server.settle();
                 return Err(LoopFault::Io);

@@ -329,7 +329,7 @@ impl Connection {
         }
     }
 
-    /// Writes once, at most, once what was told of the messages is out. An `Err` fails the connection: from then on each call answers
+    /// Writes once, at most, once what was told of the messages is handed over. An `Err` fails the connection: from then on each call answers
     /// `Closed`. Takes no memory.
     pub fn on_writable<W: Write>(
         &mut self,

@@ -217,7 +217,7 @@ fn send_all<P: Port>(exchanges: &[Exchange], port: &mut P, settled: Settled)
     }
 }
 
-// Receives as many as there are exchanges, at most, and answers them, but for those that are put aside. The lines of all are out before the first answer is.
+// Receives as many as there are exchanges, at most, and answers them, but for those that are put aside. The lines of all are handed over before the first answer leaves.
 fn serve_round<P: Port, S: Serve>(
     exchanges: &mut [Exchange],
     aside: &mut VecDeque<Exchange>,
@@ -246,7 +246,7 @@ fn next_aside<S: Serve>(aside: &mut VecDeque<Exchange>, server: &S) -> Option<Ex
     aside.pop_front()
 }
 
-// Serves those that are put aside, in their order, up to the first that would wait still, or that took long. The lines of each are out before its answer is.
+// Serves those that are put aside, in their order, up to the first that would wait still, or that took long. The lines of each are handed over before its answer leaves.
 fn take_up_all<P: Port, S: Serve>(aside: &mut VecDeque<Exchange>, port: &mut P, server: &mut S)
     ensures { (hs : List Happening) × Runs P.may port.old hs port.new × IsTakenUp S.manner server.old (datagrams aside.old.items) hs server.new (datagrams aside.new.items) }
 {

@@ -48,7 +48,7 @@ fn is_put_aside<S: Serve>(connection: &Connection, server: &mut S) -> bool
         && (server.waits(connection.unserved()) || server.is_long(connection.unserved()))
 }
 
-// Reads and writes until the stream is blocked, and serves one message at most. One that would wait, or that another loop is to serve, is left where it is, and nothing is read behind it. `More` where it is not blocked yet, or another message waits. What was told of the message is out
+// Reads and writes until the stream is blocked, and serves one message at most. One that would wait, or that another loop is to serve, is left where it is, and nothing is read behind it. `More` where it is not blocked yet, or another message waits. What was told of the message is handed over
 // before its reply is written.
 fn take_steps<T: Read + Write, S: Serve>(
     connection: &mut Connection,

@@ -19,7 +19,7 @@ pub trait Port {
         ensures within { IfOk result (λ r. r.0 ≤ length buffer.new) }
         ensures received { may self.old (received result buffer.new) self.new };
 
-    /// Hands a datagram over, once what was told of it is out. One that the system does not take now is dropped: datagrams may be
+    /// Hands a datagram over, once what was told of it is handed over. One that the system does not take now is dropped: datagrams may be
     /// lost, and their senders ask again.
     fn send(&mut self, settled: &Settled, bytes: &[u8], peer: SocketAddr)
         ensures { may self.old (Left (record { peer = peer; bytes = bytes.now })) self.new };

@@ -41,12 +41,12 @@ pub trait Serve {
         requires most { limit ≤ 65535 }
         ensures { manner.steps self.old asker message.now limit result answer.new self.new };
 
-    /// What was told of the messages so far is to be out when it returns: their answers leave next, or its loop waits.
+    /// What was told of the messages so far is to be handed over when it returns: their answers leave next, or its loop waits.
     fn settle(&mut self)
         ensures { manner.settles self.old self.new };
 }
 
-/// That what was told of the messages so far is out. `settle` alone gives it.
+/// That what was told of the messages so far is handed over. `settle` alone gives it.
 #[derive(Drop)]
 pub struct Settled(());
 

@@ -25,6 +25,7 @@ use std::alloc::{AllocError, Global};
 use std::io::{self, ErrorKind};
 use std::marker::Model;
 use std::net::SocketAddr;
+use std::sync::atomic::{AtomicBool, Ordering};
 
 /// The token of the listener. A connection's is its key.
 pub const LISTENER: Token = Token(0xffff_ffff_ffff_ffff);
@@ -338,8 +339,8 @@ impl Streams {
         self.has_aside
     }
 
-    /// Lets those streams go on of which a message was put aside.
-    pub fn resume<S: Serve>(&mut self, registry: &Registry, server: &mut S)
+    /// Lets those streams go on of which a message was put aside, until the flag is set.
+    pub fn resume<S: Serve>(&mut self, registry: &Registry, server: &mut S, stop: &AtomicBool)
         ensures limit { self.new.limit ≡ self.old.limit }
         ensures served { Resumes S.manner (record { seats = self.old.seats; server = server.old }) (record { seats = self.new.seats; server = server.new }) }
     {
@@ -347,7 +348,7 @@ impl Streams {
             return;
         }
         for key in 0..self.peers.capacity() {
-            if is_aside(&self.peers, key) {
+            if may_resume(&self.peers, key, stop) {
                 let _ = self.advance(registry, key, server);
             }
         }
@@ -360,6 +361,11 @@ fn is_aside(peers: &Slab<Peer<TcpStream>>, key: usize) -> bool {
         Some(peer) => peer.is_aside(),
         None => false,
     }
+}
+
+// Whether that stream goes on: unless the loop is to end.
+fn may_resume(peers: &Slab<Peer<TcpStream>>, key: usize, stop: &AtomicBool) -> bool {
+    is_aside(peers, key) && !stop.load(Ordering::SeqCst)
 }
 
 // Whether a stream is closed, by what its steps came to.

@@ -7,7 +7,8 @@ use Rattle.std.specs.Prelude.{flat_map, OnOk}
 use Rattle.std.specs.List.{slice_split, onto_first}
 use Rattle.slp_text.specs.Ascii.{line_feed}
 use Rattle.slp_text.specs.Lists.{is_comma}
-use Rattle.tool_program.specs.Printing.{list_lines, listed_byte, shown_byte, text_line}
+use Rattle.shown_text.specs.Shown.{shown_byte}
+use Rattle.tool_program.specs.Printing.{list_lines, listed_byte, text_line}
 
 -- a byte more in front of a part is shown there
 lined_first : (b : ℕ) (part : List ℕ) (parts : List (List ℕ)) → shown_byte b ++ flat_map text_line (part ∷ parts) ≡ flat_map text_line (onto_first b (part ∷ parts))

@@ -1,5 +1,5 @@
 -- What the tool prints and answers.
-use Rattle.std.specs.Prelude.{ℕ, ◌/◌, ◌%◌, nat_lt, ◌==◌, ◌||◌, List, [], ◌∷◌, ◌++◌, flat_map, codes, if◌then◌else◌}
+use Rattle.std.specs.Prelude.{ℕ, List, [], ◌∷◌, ◌++◌, flat_map, codes, if◌then◌else◌}
 use Rattle.std.specs.List.{slice_split}
 use Rattle.std.specs.Fmt.{decimal}
 use Rattle.agent_clients.specs.declared.fault.ClientFault.{ClientFault}
@@ -7,21 +7,17 @@ use Rattle.agent_clients.specs.declared.fault.ClientFault.TheVariants.{Io, GaveU
 use Rattle.agent_clients.specs.declared.items.Items.{Items}
 use Rattle.agent_clients.specs.declared.items.Items.TheVariants.{Urls, Attributes, Types, Acknowledged, Advert}
 use Rattle.slp_messages.specs.declared.message.UrlEntry.{UrlEntry}
-use Rattle.slp_text.specs.Ascii.{backslash, line_feed, space}
-use Rattle.slp_text.specs.Escapes.{capital_digit}
+use Rattle.shown_text.specs.Shown.{shown, shown_byte}
+use Rattle.slp_text.specs.Ascii.{line_feed, space}
 use Rattle.slp_text.specs.Lists.{is_comma}
-
--- a control character is shown as its escape, so that each line stays one
-abbrev pub shown_byte : ℕ → List ℕ
-shown_byte b = if nat_lt b 32 || b == 127 then backslash ∷ capital_digit (b / 16) ∷ capital_digit (b % 16) ∷ [] else b ∷ []
 
 -- a URL and the seconds that are left of its lifetime
 abbrev pub url_line : UrlEntry → List ℕ
-url_line e = flat_map shown_byte e.url ++ (space ∷ []) ++ decimal e.lifetime ++ (line_feed ∷ [])
+url_line e = shown e.url ++ (space ∷ []) ++ decimal e.lifetime ++ (line_feed ∷ [])
 
 -- a text on a line of its own
 abbrev pub text_line : List ℕ → List ℕ
-text_line text = flat_map shown_byte text ++ line_feed ∷ []
+text_line text = shown text ++ line_feed ∷ []
 
 -- each part of a list on a line of its own; of an empty list nothing
 abbrev pub list_lines : List ℕ → List ℕ

@@ -5,32 +5,9 @@ ghost use Rattle.std.specs.Io.KnownBytes.{Appends};
 ghost use Rattle.tool_program.specs.Printing as spec;
 
 use agent_clients::{ClientFault, Items};
+use shown_text::{print_byte, print_text};
 use slp_messages::UrlEntry;
-use slp_text::capital_digit;
 use std::io::{self, Write};
-
-// Prints a byte of a text. A control character, which no directory of good will sends, is printed as its
-// escape, so that each line stays one.
-fn print_byte<W: Write>(byte: u8, writer: &mut W) -> io::Result<()>
-    ensures { OnOk result (Appends (W.contents writer.old) (W.contents writer.new) (spec.shown_byte byte)) }
-{
-    if byte < b' ' || byte == 0x7f {
-        let (first, second) = (capital_digit(byte / 16), capital_digit(byte % 16));
-        writer.write_all(&[b'\\', first as u8, second as u8])
-    } else {
-        writer.write_all(&[byte])
-    }
-}
-
-// Prints a text on one line.
-fn print_text<W: Write>(text: &str, writer: &mut W) -> io::Result<()>
-    ensures { OnOk result (Appends (W.contents writer.old) (W.contents writer.new) (flat_map spec.shown_byte text.now)) }
-{
-    for byte in text.as_bytes() {
-        print_byte(*byte, writer)?;
-    }
-    Ok(())
-}
 
 // Prints a URL and the seconds that are left of its lifetime.
 fn print_url<W: Write>(entry: &UrlEntry, writer: &mut W) -> io::Result<()>

@@ -46,10 +46,10 @@ where
         }
     }
 
-    // Closes the valve once all lines are out, sends a datagram whose line the agent then can't write out, and waits until it waits
-    // there. No reply may leave before. Without a message it closes the valve alone.
+    // Closes the valve, sends a datagram for which the agent can't ask for the time then, and waits until it waits there. No reply leaves before.
+    // Without a message it closes the valve alone.
     pub(super) fn hold(&mut self, text: &str, out: &mut Vec<u8>) -> io::Result<()> {
-        self.props.valve.close(self.rt);
+        self.props.by_words.valve.close();
         if text.is_empty() {
             return Ok(());
         }
@@ -63,7 +63,7 @@ where
 
     // Prints where the agent does not wait at the valve, and where a reply came all the same.
     fn print_held(&self, socket: &UdpSocket, out: &mut Vec<u8>) -> io::Result<()> {
-        if !self.props.valve.is_reached(self.rt) {
+        if !self.props.by_words.valve.is_reached(self.rt) {
             out.write_all(b"(not held)\n")?;
         }
         match receive(self.alloc, socket) {
@@ -74,7 +74,7 @@ where
 
     // Opens the valve, and prints the reply to the datagram that was held.
     pub(super) fn release(&mut self, out: &mut Vec<u8>) -> io::Result<()> {
-        self.props.valve.open();
+        self.props.by_words.valve.open();
         let Some(socket) = self.held.take() else {
             return Ok(());
         };

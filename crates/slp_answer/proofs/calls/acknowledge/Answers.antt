@@ -8,6 +8,6 @@ use Rattle.slp_answer.proofs.calls.acknowledge.Goals as goal
 pub unreachable-requires : goal.unreachable-requires
 unreachable-requires g c = true≢false (sym c.requires ∙ unheard_still c.args.bytes.now (subst (λ (b : List ℕ). IsUnheard b) c.anywhere-call.ensures.bytes c.in_default.ensures))
 
-pub acknowledge_heard-told-requires-clause-change : goal.acknowledge_heard-told-requires-clause-change
-acknowledge_heard-told-requires-clause-change g c =
+pub acknowledge_unread-told-requires-clause-change : goal.acknowledge_unread-told-requires-clause-change
+acknowledge_unread-told-requires-clause-change g c =
     asked_by c.in-Some.heard true (ap (λ (x : List ℕ). is_change_of x) (ap (λ x. x.bytes.now) c.in-Some.ensures ∙ c.anywhere-call.ensures.bytes) ∙ c.requires)

@@ -18,12 +18,12 @@ returns-in_default-clause-told g c = λ o h fold legal.
 pub returns-in-Some-change-clause-told : goal.returns-in-Some-change-clause-told
 returns-in-Some-change-clause-told g c = λ o h fold legal.
     let sent = c.in_ok-sent.sent in
-    let a = c.acknowledge_heard-told.new.answer in
+    let a = c.acknowledge_unread-told.new.answer in
     let b = c.told_whole-2.new.answer in
     let heard = c.in-Some.heard.call.now in
     let told : Acknowledges o h heard.moment heard.asker heard.bytes.now sent c.in_ok-sent.change b.bytes.items b.audit.items =
-    whole-told c.acknowledge_heard-told.result c.told_whole-2.result (sent, c.in_ok-sent.change) (λ (p : Sent × Option Change) (x : Answer). Acknowledges o h heard.moment heard.asker heard.bytes.now p.0 p.1 x.bytes.items x.audit.items) a b
-    (c.acknowledge_heard-told.ensures o h fold legal) c.told_whole-2.ensures.told c.in_ok-sent.was c.told_whole-2.ensures.kept in
+    whole-told c.acknowledge_unread-told.result c.told_whole-2.result (sent, c.in_ok-sent.change) (λ (p : Sent × Option Change) (x : Answer). Acknowledges o h heard.moment heard.asker heard.bytes.now p.0 p.1 x.bytes.items x.audit.items) a b
+    (c.acknowledge_unread-told.ensures o h fold legal) c.told_whole-2.ensures.told c.in_ok-sent.was c.told_whole-2.ensures.kept in
     changed-steps o h (call_in c.args.call.now) b.bytes.items b.audit.items sent c.apply.new.self c.in-Some-change.change
     (subst (λ (k : Call). Acknowledges o h k.moment k.asker k.bytes.now sent (Some c.in-Some-change.change) b.bytes.items b.audit.items) c.in-Some.ensures
     (subst (λ (x : Option Change). Acknowledges o h heard.moment heard.asker heard.bytes.now sent x b.bytes.items b.audit.items) c.in-Some-change.is told))

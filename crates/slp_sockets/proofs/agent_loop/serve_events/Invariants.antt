@@ -8,6 +8,6 @@ use Rattle.slp_sockets.proofs.agent_loop.serve_events.Given as goal
 abbrev pub invariant-loop-event : goal.invariant-loop-event
 invariant-loop-event g l = record {
   limit : l.streams.limit ≡ l.fn.streams.limit;
-  all : map (λ e. e.now) l.yielded ++ iter_rest l.event-iterator ≡ items l.events;
+  all : map (λ e. e.now) l.yielded ++ iter_rest l.event-iterator ≡ items l.fn.ready.1.now;
   served : AreServedAt g.S.Serve.manner (record { seats = l.fn.streams.seats; server = l.fn.server }) (map token_of (map (λ e. e.now) l.yielded)) (record { seats = l.streams.seats; server = l.server });
 }

@@ -1,6 +1,8 @@
 use Rattle.std.proofs.Common.{true, ◌∷◌, Option, Some, sym, ap, ◌∙◌, subst}
 use Rattle.directory_judge.specs.Contents.{content}
 use Rattle.directory_judge.specs.History.{Event, History}
+use Rattle.directory_judge.specs.Sites.{Site}
+use Rattle.slp_answer.specs.AskedChanges.{IsAskedAt}
 use Rattle.directory_questions.specs.Calls.{Call}
 use Rattle.directory_questions.specs.Verdicts.{IsLegal}
 use Rattle.directory_questions.proofs.Requests.{heard_asks}
@@ -8,7 +10,7 @@ use Rattle.directory_state.specs.Events.{call_anywhere}
 use Rattle.directory_state.specs.Folds.{StandsFor}
 use Rattle.published_view.specs.Traces.{IsWritten}
 use Rattle.published_view.proofs.Asking.{changed_so, handed_out, unchanged, written_out}
-use Rattle.published_view.proofs.Writers.{legal_at, published, told_at}
+use Rattle.published_view.proofs.Writers.{folded_at, legal_at, published, told_at}
 use Rattle.published_view.proofs.writer.DirectoryWriter.make.Goals as goal
 
 pub returns-in_default-clause-made : goal.returns-in_default-clause-made
@@ -53,3 +55,8 @@ returns-clause-legal g c =
     let told = told_at c.self.inside.own h c.self.invariant.1 same c.in_ok-sent.ensures in
     let legal = handed_out told (legal_at c.self.inside.own h c.self.invariant.1 same) c.in-Some.change c.in-Some.is in
     subst (λ (x : History). IsLegal g.J.Naming.opening x) (sym (ap published c.in_ok-put_out.ensures.made)) (subst (λ (e : Event). IsLegal g.J.Naming.opening (e ∷ h)) (sym c.requires.event) legal.0)
+
+pub acknowledge_heard-requires-clause-asked : goal.acknowledge_heard-requires-clause-asked
+acknowledge_heard-requires-clause-asked g c =
+    let fold = folded_at c.self.inside.own c.args.self.now.history c.self.invariant.1 (ap published c.self.view_is) in
+    subst (λ (s : Site). IsAskedAt s c.args.heard.now.call.now.bytes.now c.args.asked) (sym fold.placed) c.requires.asked

@@ -1,4 +1,4 @@
-use Rattle.std.proofs.Common.{◌≡◌, true, Result, Ok, Err, sym, ◌∙◌, subst}
+use Rattle.std.proofs.Common.{◌≡◌, true, [], Result, Ok, Err, refl, sym, ◌∙◌, subst}
 use Rattle.std.specs.Prelude.{IfOk, OnOk}
 use Rattle.std.specs.Result.{is_ok}
 use Rattle.std.proofs.lemmas.Bool.{true≢false}
@@ -26,3 +26,9 @@ returns-clause-served g c = record {
     | in-Err w ↦ λ is. absurd (true≢false (sym is ∙ w.self2-is))
   ];
 }
+
+pub returns-clause-later : goal.returns-clause-later
+returns-clause-later g c = elim c.match-note.branch [
+  | in-Ok w ↦ subst (λ s. IsPast (last_at c.args.self.now.view) (last_at s.view)) (sym w.self-is) w.learn.ensures.later
+  | in-Err w ↦ subst (λ s. IsPast (last_at c.args.self.now.view) (last_at s.view)) (sym w.self-is) ([], refl)
+]

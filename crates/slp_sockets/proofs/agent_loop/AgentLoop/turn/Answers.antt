@@ -1,18 +1,18 @@
-use Rattle.std.proofs.Common.{◌≡◌, Bool, true, false, Result, Err, [], refl, sym, ap, ◌∙◌, subst}
-use Rattle.std.specs.Prelude.{⊤}
+use Rattle.std.proofs.Common.{Bool, true, false, Result, Ok, Err, [], refl, sym, ap, ◌∙◌, subst}
 use Rattle.std.proofs.lemmas.List.{append-nil}
-use Rattle.slp_sockets.specs.Turning.{Tended, AreServedAt, SettlesFirst, tended, turn_told}
+use Rattle.slp_sockets.specs.Turning.{Tended, AreServedAt, SettlesFirst, IsWhole, tended, turn_told}
 use Rattle.slp_sockets.specs.declared.fault.LoopFault.{LoopFault}
-use Rattle.slp_sockets.specs.declared.fault.LoopFault.TheVariants.{Io}
 use Rattle.slp_sockets.proofs.Reaching.{first_on, reach_on, reach_peers, reach_tokens}
 use Rattle.slp_sockets.proofs.Sitting.{only_gone}
 use Rattle.slp_sockets.proofs.agent_loop.AgentLoop.turn.Goals as goal
 use Rattle.slp_sockets.proofs.agent_loop.AgentLoop.turn.Goals.{in-Ok, in-Err}
 
--- a socket that is lost is told of, whether it could wait or not
-lost_told : (waited : Bool) (told : Result ⊤ LoopFault) → told ≡ Err Io → turn_told waited told ≡ Err Io
-lost_told true told is = is
-lost_told false told is = ap (turn_told false) is
+-- where a turn tells that all was served, it was, whether it could wait or not
+whole_served : (waited : Bool) (told : Result Bool LoopFault) → IsWhole (turn_told waited told) → IsWhole told
+whole_served true told is = is
+whole_served false (Ok true) is = refl
+whole_served false (Ok false) is = is
+whole_served false (Err e) is = is
 
 pub returns-clause-served : goal.returns-clause-served
 returns-clause-served g c =
@@ -29,17 +29,17 @@ returns-clause-served g c =
     (reach_peers g.S.Serve.manner served closed (only_gone c.match-begin.self-inside.streams.seats c.close_still.new.self.seats c.close_still.ensures.only, refl)))
 
 pub returns-clause-whole : goal.returns-clause-whole
-returns-clause-whole g c = λ not. (
+returns-clause-whole g c = λ whole. (
   record { seats = c.match-begin.self-inside.streams.seats; server = c.match-begin.self-inside.server },
   elim c.match-begin.branch [
     | in-Ok w ↦
         let all = w.serve_events-told.ensures.served in
-        rw (w.self-inside-is, all.2, all.3 (λ is. not (w.told-is ∙ w.told_after-told.ensures ∙ lost_told w.in-Ok.waited w.serve_events-told.result is)), append-nil) (
+        rw (w.self-inside-is, all.2, all.3 (whole_served w.in-Ok.waited w.serve_events-told.result (subst IsWhole (w.told-is ∙ w.told_after-told.ensures) whole)), append-nil) (
           tended c.begin.new.self,
           w.in-Ok.ensures.begun,
           subst (λ s. AreServedAt g.S.Serve.manner s all.0 (record { seats = w.serve_events-told.new.streams.seats; server = w.serve_events-told.new.server })) (ap tended c.self.view_is) all.4,
         )
-    | in-Err w ↦ absurd (not (rw (← w.in-Err.ensures.fault) w.told-is))
+    | in-Err w ↦ absurd (subst (λ (e : LoopFault). IsWhole (Err e)) w.in-Err.ensures.fault (subst IsWhole w.told-is whole))
   ],
   (only_gone c.match-begin.self-inside.streams.seats c.close_still.new.self.seats c.close_still.ensures.only, refl),
 )

@@ -1,9 +1,9 @@
 use Rattle.std.proofs.Common.{append_assoc}
 use Rattle.std.proofs.lemmas.Bool.{ne_eqb}
-use Rattle.site_check.proofs.program.print_status.Goals as goal
+use Rattle.site_check.proofs.program.print_ending.Goals as goal
 
 pub returns-then-status-eq-NO_MEMORY : goal.returns-then-status-eq-NO_MEMORY
-returns-then-status-eq-NO_MEMORY g c = rw c.if-status-eq-NO_MEMORY.true (simp append_assoc c.writeln-then-status-eq-NO_MEMORY.ensures.bytes)
+returns-then-status-eq-NO_MEMORY g c = rw c.if-status-eq-NO_MEMORY.true c.writeln-then-status-eq-NO_MEMORY.ensures.bytes
 
 pub returns : goal.returns
 returns g c =

@@ -1,0 +1,25 @@
+use Rattle.std.proofs.Common.{append_assoc, subst}
+use Rattle.std.specs.Prelude.{OnOk}
+use Rattle.std.specs.Io.KnownBytes.{Appends}
+use Rattle.std.proofs.KnownBytes.{Appends-trans}
+use Rattle.site_check.proofs.Written.{written_after}
+use Rattle.site_check.proofs.problem.print_warning.Goals as goal
+
+pub returns-in_ok-print_text-in-Hidden : goal.returns-in_ok-print_text-in-Hidden
+returns-in_ok-print_text-in-Hidden g c =
+    rw c.in-Hidden.is (subst (λ bs. OnOk c.write-in-Hidden-2.result (Appends (g.W.Write.contents c.args.writer.now) (g.W.Write.contents c.write-in-Hidden-2.new.self) bs)) (simp append_assoc)
+    (written_after c.write-in-Hidden-2.result _ _ _ _ _ (Appends-trans _ _ _ _ _ c.in_ok-write-in-Hidden.ensures.bytes c.in_ok-print_text-in-Hidden.ensures) c.write-in-Hidden-2.ensures.bytes))
+
+pub returns-in_ok-write-in-NoScope : goal.returns-in_ok-write-in-NoScope
+returns-in_ok-write-in-NoScope g c = rw c.in-NoScope.is (written_after c.print_text-in-NoScope.result _ _ _ _ _ c.in_ok-write-in-NoScope.ensures.bytes c.print_text-in-NoScope.ensures)
+
+pub returns-in_ok-write-in-NoType : goal.returns-in_ok-write-in-NoType
+returns-in_ok-write-in-NoType g c = rw c.in-NoType.is (written_after c.print_text-in-NoType.result _ _ _ _ _ c.in_ok-write-in-NoType.ensures.bytes c.print_text-in-NoType.ensures)
+
+pub returns-in_ok-print_text-in-NoService : goal.returns-in_ok-print_text-in-NoService
+returns-in_ok-print_text-in-NoService g c =
+    rw c.in-NoService.is (subst (λ bs. OnOk c.write-in-NoService-2.result (Appends (g.W.Write.contents c.args.writer.now) (g.W.Write.contents c.write-in-NoService-2.new.self) bs)) (simp append_assoc)
+    (written_after c.write-in-NoService-2.result _ _ _ _ _ (Appends-trans _ _ _ _ _ c.in_ok-write-in-NoService.ensures.bytes c.in_ok-print_text-in-NoService.ensures) c.write-in-NoService-2.ensures.bytes))
+
+pub returns-in-NoSight : goal.returns-in-NoSight
+returns-in-NoSight g c = rw c.in-NoSight.is c.write-in-NoSight.ensures.bytes
