@@ -107,8 +107,8 @@ fn main(rt: HostRuntime) -> io::Result<()> {
     for text in text.split(END) {
         let start = cut_at_start(text);
         let props = Props::new(matches!(start, Some((_, "_loops", _))));
-        let handed = props.handed(&rt);
-        let (mut input, mut lines, ends) = open_terminal(&rt, alloc, &props.valve)?;
+        let (handed, held) = (props.handed(&rt), props.held(&rt));
+        let (mut input, mut lines, ends) = open_terminal(&rt, alloc)?;
         let mut scene = Scene::new(&rt, alloc, &props, patience, ends)?;
         let status = match start {
             Some((before, rest, rows)) => {
@@ -119,7 +119,7 @@ fn main(rt: HostRuntime) -> io::Result<()> {
                         if props.is_by_loops {
                             run_by_loops(&handed, alloc, &props, &mut input, &mut lines)
                         } else {
-                            run_by_words(&rt, alloc, &mut input, &mut lines)
+                            run_by_words(&held, alloc, &mut input, &mut lines)
                         }
                     },
                     || scene.meet(rest, rows, &mut out),

@@ -11,16 +11,15 @@ use std::time::{Clock, Duration};
 const TAKEN: usize = 10;
 
 /// How often a closed valve is looked at, and how long between, in milliseconds.
-const LOOKS: u32 = 1_000;
+const LOOKS: u32 = 6_000;
 
 const NAP: u64 = 5;
 
-/// Holds who writes lines out, and tells that one waits, and whether lines are written that are not out.
+/// Holds who asks for the time, and tells that one waits.
 #[derive(Drop)]
 pub struct Valve {
     is_closed: AtomicBool,
     is_waited_at: AtomicBool,
-    is_unsettled: AtomicBool,
 }
 
 impl Valve {
@@ -28,18 +27,10 @@ impl Valve {
         Valve {
             is_closed: AtomicBool::new(false),
             is_waited_at: AtomicBool::new(false),
-            is_unsettled: AtomicBool::new(false),
         }
     }
 
-    /// Closes it once all lines are out, or after five seconds.
-    pub(crate) fn close<R: Clock>(&self, rt: &R) {
-        for _ in 0..LOOKS {
-            if !self.is_unsettled.load(Ordering::SeqCst) {
-                break;
-            }
-            thread::sleep(rt, Duration::from_millis(NAP));
-        }
+    pub(crate) fn close(&self) {
         self.is_closed.store(true, Ordering::SeqCst);
     }
 
@@ -47,8 +38,8 @@ impl Valve {
         self.is_closed.store(false, Ordering::SeqCst);
     }
 
-    // Waits until the valve is open, for five seconds at most.
-    fn pass<R: Clock>(&self, rt: &R) {
+    /// Waits until the valve is open, for thirty seconds at most.
+    pub(crate) fn pass<R: Clock>(&self, rt: &R) {
         for _ in 0..LOOKS {
             if !self.is_closed.load(Ordering::SeqCst) {
                 break;
@@ -59,7 +50,7 @@ impl Valve {
         self.is_waited_at.store(false, Ordering::SeqCst);
     }
 
-    /// Waits until someone waits at the valve, for five seconds at most, and answers whether one does.
+    /// Waits until someone waits at the valve, for thirty seconds at most, and answers whether one does.
     pub(crate) fn is_reached<R: Clock>(&self, rt: &R) -> bool {
         for _ in 0..LOOKS {
             if self.is_waited_at.load(Ordering::SeqCst) {
@@ -71,57 +62,40 @@ impl Valve {
     }
 }
 
-/// What an agent writes to. Only what it has flushed comes out, through the valve; and a write takes some bytes alone.
+/// What an agent writes to. Only what it has flushed comes out; and a write takes some bytes alone.
 #[derive(Drop)]
-pub struct Terminal<'g, R> {
-    rt: &'g R,
-    valve: &'g Valve,
+pub struct Terminal {
     stream: TcpStream,
     waiting: Vec<u8>,
 }
 
-impl<'g, R: Clock> Terminal<'g, R> {
-    fn new(rt: &'g R, alloc: Global, valve: &'g Valve, stream: TcpStream) -> Terminal<'g, R> {
-        Terminal {
-            rt,
-            valve,
-            stream,
-            waiting: Vec::new(alloc),
-        }
-    }
-}
-
-impl<'g, R: Clock> Write for Terminal<'g, R> {
+impl Write for Terminal {
     fn write(&mut self, buf: &[u8]) -> io::Result<usize> {
         let count = buf.len().min(TAKEN);
-        self.valve.is_unsettled.store(true, Ordering::SeqCst);
         self.waiting.extend_from_slice(&buf[..count])?;
         Ok(count)
     }
 
     fn flush(&mut self) -> io::Result<()> {
-        self.valve.pass(self.rt);
         let told = self.stream.write_all(self.waiting.as_slice());
         self.waiting.clear();
-        self.valve.is_unsettled.store(false, Ordering::SeqCst);
         told
     }
 }
 
 /// The two ends of a terminal: what an agent reads and writes, and what rows have of it.
-pub fn open_terminal<'g, R>(
-    rt: &'g R,
+pub fn open_terminal<R>(
+    rt: &R,
     alloc: Global,
-    valve: &'g Valve,
-) -> io::Result<(TcpStream, Terminal<'g, R>, (TcpStream, TcpStream))>
+) -> io::Result<(TcpStream, Terminal, (TcpStream, TcpStream))>
 where
-    R: Net<Listener = TcpListener, Stream = TcpStream> + Clock,
+    R: Net<Listener = TcpListener, Stream = TcpStream>,
 {
     let (console, input) = pair(rt)?;
     let (log, output) = pair(rt)?;
-    Ok((
-        input,
-        Terminal::new(rt, alloc, valve, output),
-        (console, log),
-    ))
+    let terminal = Terminal {
+        stream: output,
+        waiting: Vec::new(alloc),
+    };
+    Ok((input, terminal, (console, log)))
 }
