@@ -1,5 +1,5 @@
 # shellcheck shell=bash
-# Completion in bash for slptool, slpda, slpcheck, slpctl, slpstat, slplog and slp. It needs no other file: `. contrib/slptool.bash`.
+# Completion in bash for slptool, slpda, slpcheck, slpctl, slpstat, slplog, slp, slpls, slpcast and slplint. It needs no other file: `. contrib/slptool.bash`.
 
 # _slp_words: the words of the line before the cursor in words, the number of the last one in at. A colon parts no words.
 _slp_words() {
@@ -104,10 +104,40 @@ _slp() {
     *)
       case " ${words[*]:1:at-1} " in
         *' find'* | *' register '* | *' deregister '*) ;;
-        *) _slp_offer findsrvs findattrs findsrvtypes findda register deregister -u -s -t -l -v --help ;;
+        *) _slp_offer findsrvs findattrs findsrvtypes findscopes findda register deregister -u -s -t -l -r -T -v --help ;;
       esac
       ;;
   esac
+}
+
+_slpls() {
+  local words at
+  _slp_words
+  case ${words[at - 1]} in
+    -s) _slp_scopes ;;
+    -t) _slp_types ;;
+    -l) _slp_offer en ;;
+    *) case ${words[at]} in -*) _slp_offer -a -s -t -l --help ;; *) _slp_addresses ;; esac ;;
+  esac
+}
+
+_slpcast() {
+  local words at
+  _slp_words
+  case ${words[at - 1]} in
+    -g) _slp_offer 239.255.255.253:427 ;;
+    -t) _slp_offer 1 8 255 ;;
+    -e) _slp_offer 10800 ;;
+    -w) _slp_offer 5 30 60 ;;
+    -i) ;;
+    *) case ${words[at]} in -*) _slp_offer -i -g -t -e -w --help ;; *) _slp_addresses ;; esac ;;
+  esac
+}
+
+_slplint() {
+  local words at
+  _slp_words
+  [ "$at" != 1 ] || _slp_offer attributes predicate escape -l -t --help
 }
 
 complete -F _slptool slptool
@@ -116,3 +146,6 @@ complete -F _slpctl slpctl
 complete -F _slpstat slpstat
 complete -F _slplog slplog
 complete -F _slp slp
+complete -F _slpls slpls
+complete -F _slpcast slpcast
+complete -F _slplint slplint
