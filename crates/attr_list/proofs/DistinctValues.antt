@@ -46,7 +46,7 @@ order_ties (identity.Text a) (identity.Text b) = sym (texts_ties a b)
 order_ties _ _ = refl
 
 -- identities tie where their values are the same
-identity_ties : (i j : Identity) (v w : Value) → IsIdentity i v → IsIdentity j w → is_eq (identity_cmp i j) ≡ is_same v w
+pub identity_ties : (i j : Identity) (v w : Value) → IsIdentity i v → IsIdentity j w → is_eq (identity_cmp i j) ≡ is_same v w
 identity_ties i j v w p q = order_ties i j ∙ ap₂ is_equal p q ∙ sym (same-common v w)
 
 pub either : (a b : Bool) → cond b true a ≡ (a || (b || false))

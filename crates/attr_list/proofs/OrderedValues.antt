@@ -1,17 +1,20 @@
 -- How the order of values comes about, and what is found by it.
-use Rattle.std.proofs.Common.{◌≡◌, ◌<◌, ◌+◌, ℕ, zero, suc, Bool, true, false, List, [], ◌∷◌, map, length, get_or, refl, sym, ap, ap₂, subst, subst₂, ◌∙◌, arith, Bor, pos}
-use Rattle.std.specs.Prelude.{vec_items, if◌then◌else◌}
-use Rattle.std.specs.Cmp.{IsStrictWeakOrder}
-use Rattle.std.specs.Fn.{Called, ComparesAs}
+use Rattle.std.proofs.Common.{◌≡◌, cond, true≢false, ◌<◌, ◌+◌, ℕ, zero, suc, Bool, true, false, List, [], ◌∷◌, map, length, get_or, refl, sym, ap, ap₂, subst, subst₂, ◌∙◌, arith, Bor, pos}
+use Rattle.std.specs.Prelude.{vec_items, filter, not, if◌then◌else◌}
+use Rattle.std.specs.List.{AllAdjacentBelow, AllByRecursion, IsAllAdjacentAnswer, IsDistinct}
+use Rattle.std.specs.Cmp.{on_total, IsStrictWeakOrder, IsTotalOrder}
+use Rattle.std.specs.Fn.{Called, ComparesAs, ComputesOnPairs}
 use Rattle.std.specs.List.Sorted.{IsPermutation, IsSorted, IsSortedBy}
-use Rattle.std.specs.Ordering.{int_cmp, is_lt, ordering_then}
+use Rattle.std.specs.Ordering.{eq_by_cmp, int_cmp, is_eq, is_lt, ordering_then}
 use Rattle.std.specs.declared.cmp.Ordering.{Ordering}
 use Rattle.std.specs.declared.cmp.Ordering.TheVariants.{Less, Equal, Greater}
 use denote.Param.Members.{Mut}
 use Rattle.std.proofs.lemmas.List.{get_or-map, length-map}
+use Rattle.std.proofs.lemmas.Cmp.{eq_by_cmp_equiv}
 use Rattle.std.proofs.lemmas.Fn.{always_returns_same}
 use Rattle.std.proofs.lemmas.List.Elements.{All-from_recursion, recursion_from_All}
-use Rattle.std.proofs.lemmas.List.Sorted.{ranks_by, All-permutation, IsPermutation-map}
+use Rattle.std.proofs.lemmas.List.Sorted.{ranks_by, All-permutation, IsPermutation-map, IsPermutation-sym}
+use Rattle.std.proofs.lemmas.Map.Keys.{sorted_from_all_adjacent, IsDistinct-from_sorted, IsDistinct-IsPermutation}
 use Rattle.attr_values.proofs.Ranks.{rank_order}
 use Rattle.attr_values.specs.Ranks.{rank_cmp, rank_of, value_cmp, Rank}
 use Rattle.attr_values.specs.declared.value.Value.{Value}
@@ -21,7 +24,8 @@ use Rattle.attr_list.specs.Orders.{value_at, IsOrder}
 use Rattle.attr_list.specs.declared.distinct.Identity.{Identity}
 use Rattle.attr_list.specs.declared.distinct.Identity.TheVariants as identity
 use Rattle.attr_list.specs.declared.order.Ranked.{Ranked}
-use Rattle.attr_list.proofs.DistinctValues.{identity_cmp}
+use Rattle.attr_list.specs.Lists.{distinct_values, is_same}
+use Rattle.attr_list.proofs.DistinctValues.{identity_cmp, identity_ties}
 
 -- ---- the rank of an identity
 
@@ -130,3 +134,58 @@ module _ (vs : List Value) where
         each = subst (IsPermutation vs) (sym named) (subst (λ xs. IsPermutation xs (map at after)) each (IsPermutation-map at before after moved));
         sorted = subst (IsSorted value_cmp) (sym named) (sorted-unmap rank_of (λ a b. is_lt (rank_cmp a b)) (map at after) rising);
       }
+
+-- ---- values of which each stands before the next in that order
+
+abbrev ranked_cmp : Ranked → Ranked → Ordering
+ranked_cmp a b = rank_cmp (ranked_at a) (ranked_at b)
+
+ranked_order : IsTotalOrder ranked_cmp
+ranked_order = on_total ranked_at rank_order
+
+less : (o : Ordering) → true ≡ is_lt o → o ≡ Less
+less Less h = refl
+less Equal h = absurd (true≢false h)
+less Greater h = absurd (true≢false h)
+
+where-told : {X : Type 0} (E : X → X → Bool → Type 0) (xs : List X) (r : Bool) → IsAllAdjacentAnswer E xs r → r ≡ true → AllAdjacentBelow (λ x y. E x y true) xs (length xs)
+where-told E xs true h e = h
+where-told E xs false h e = absurd (true≢false (sym e))
+
+-- what a look at each two that follow each other ensures, where it tells that they rise
+pub rising-by : {F : Type 0} {g : Mut F (Bor Ranked × (Bor Ranked × Unit {0})) Bool} {f : F} (rs : List Ranked) (r : Bool)
+    → ((e : Ranked → Ranked → Bool) → ComputesOnPairs g e f → IsAllAdjacentAnswer (λ a b r. r ≡ e a b) rs r)
+    → ((a : Bor Ranked × (Bor Ranked × Unit {0})) (r : Bool) (f' : F) → Called g f a r f' → (r ≡ is_lt (identity_cmp a.0.now.identity a.1.0.now.identity)) × (f' ≡ f))
+    → r ≡ true → AllAdjacentBelow (λ a b. true ≡ is_lt (identity_cmp a.identity b.identity)) rs (length rs)
+rising-by {g = g} {f = f} rs r told h =
+    where-told (λ a b r. r ≡ is_lt (identity_cmp a.identity b.identity)) rs r
+    (told (λ a b. is_lt (identity_cmp a.identity b.identity)) (always_returns_same g (λ a r. r ≡ is_lt (identity_cmp a.0.now.identity a.1.0.now.identity)) f h))
+
+-- no two of what rises tie
+rising-apart : (rs : List Ranked) → AllAdjacentBelow (λ a b. true ≡ is_lt (identity_cmp a.identity b.identity)) rs (length rs) → IsDistinct (eq_by_cmp ranked_cmp) rs
+unfolding IsDistinct
+rising-apart [] h = tt
+rising-apart (r ∷ rs) h =
+    IsDistinct-from_sorted ranked_cmp (r ∷ rs) (sorted_from_all_adjacent ranked_order (r ∷ rs) r
+    (λ k b. sym (rank-cmp-is (get_or (r ∷ rs) k r).identity (get_or (r ∷ rs) (k + 1) r).identity) ∙ less _ (h k r b)))
+
+module _ (vs : List Value) where
+  unlike : (r : Ranked) (rs : List Ranked) → named_by vs r → AreRanked vs rs → AllByRecursion (λ s. eq_by_cmp ranked_cmp r s ≡ false) rs
+      → filter (λ w. not (is_same (at vs r) w)) (map (at vs) rs) ≡ map (at vs) rs
+  unlike r [] n h d = refl
+  unlike r (s ∷ rs) n h d =
+      let other : is_same (at vs r) (at vs s) ≡ false = sym (identity_ties r.identity s.identity (at vs r) (at vs s) n h.0) ∙ ap is_eq (rank-cmp-is r.identity s.identity) ∙ d.0 in
+      ap (λ b. cond (not b) (at vs s ∷ filter (λ w. not (is_same (at vs r) w)) (map (at vs) rs)) (filter (λ w. not (is_same (at vs r) w)) (map (at vs) rs))) other
+      ∙ ap (λ ws. at vs s ∷ ws) (unlike r rs n h.1 d.1)
+
+  all-kept : (rs : List Ranked) → AreRanked vs rs → IsDistinct (eq_by_cmp ranked_cmp) rs → distinct_values (map (at vs) rs) ≡ map (at vs) rs
+  unfolding IsDistinct
+  all-kept [] h d = refl
+  all-kept (r ∷ rs) h d = ap (λ ws. at vs r ∷ ws) (ap (filter (λ w. not (is_same (at vs r) w))) (all-kept rs h.1 d.1) ∙ unlike r rs h.0 h.1 d.0)
+
+  -- values whose identities rise, once they are sorted, are kept, all of them
+  pub apart-kept : (before after : List Ranked) → AreRanked vs before → map (at vs) before ≡ vs → IsPermutation before after
+      → AllAdjacentBelow (λ a b. true ≡ is_lt (identity_cmp a.identity b.identity)) after (length after) → distinct_values vs ≡ vs
+  apart-kept before after ranked each moved rising =
+      let apart = IsDistinct-IsPermutation (eq_by_cmp ranked_cmp) (eq_by_cmp_equiv ranked_order).symm after before (IsPermutation-sym before after moved) (rising-apart after rising) in
+      ap distinct_values (sym each) ∙ all-kept before ranked apart ∙ each

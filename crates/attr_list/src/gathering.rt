@@ -9,7 +9,6 @@ ghost use Rattle.attr_list.specs.Pieces.{element_in, IsElement};
 ghost use Rattle.attr_list.specs.Stored.{pairs_in};
 
 use crate::attrs::{Attribute, Attrs};
-use crate::distinct::distinct;
 use crate::elements::Element;
 use crate::held::Held;
 use crate::values::Values;
@@ -51,8 +50,7 @@ fn held_of(alloc: Global, values: Vec<Value>) -> Result<Held, NoMemory>
     if values.is_empty() {
         return Ok(Held::Keyword);
     }
-    let kept = distinct(alloc, values)?;
-    Ok(Held::Values(Values::of(alloc, kept)?))
+    Ok(Held::Values(Values::distinct(alloc, values)?))
 }
 
 // What each tag holds, in key order.

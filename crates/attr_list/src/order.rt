@@ -1,6 +1,7 @@
 //! The order of the values of a tag.
-ghost use Rattle.std.specs.Prelude.{◌≡◌, ◌≤◌, length, map, IfOk};
+ghost use Rattle.std.specs.Prelude.{◌≡◌, ◌≤◌, true, length, map, IfOk};
 ghost use Rattle.attr_list.specs.Gathering.{AreRanked};
+ghost use Rattle.attr_list.specs.Lists.{distinct_values};
 ghost use Rattle.attr_list.specs.Orders.{value_at, IsOrder};
 
 use crate::distinct::{Identity, identity_of};
@@ -41,12 +42,15 @@ fn places(alloc: Global, ranked: &[Ranked]) -> Result<Vec<u16>, NoMemory>
     Ok(places)
 }
 
-/// The places of values in their order. It takes time for the number of values and its logarithm.
-pub fn order_of(alloc: Global, values: &[Value]) -> Result<Vec<u16>, NoMemory>
+/// The places of values in their order, and whether it was seen that no two of them are the same. It takes time for the number of values and its logarithm.
+pub fn order_of(alloc: Global, values: &[Value]) -> Result<(Vec<u16>, bool), NoMemory>
     requires { length values.now ≤ 65536 }
-    ensures { IfOk result (λ o. IsOrder values.now o.items) }
+    ensures order { IfOk result (λ o. IsOrder values.now o.0.items) }
+    ensures apart { IfOk result (λ o. o.1 ≡ true → distinct_values values.now ≡ values.now) }
 {
     let mut ranked = identities(alloc, values)?;
     ranked.sort_unstable_by(|a, b| a.identity.cmp(&b.identity));
-    places(alloc, &ranked)
+    let are_apart = ranked.is_sorted_by(|a, b| a.identity.cmp(&b.identity).is_lt());
+    let order = places(alloc, &ranked)?;
+    Ok((order, are_apart))
 }

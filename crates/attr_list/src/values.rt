@@ -1,13 +1,15 @@
 //! The values of a tag, and the order in which they are searched.
-ghost use Rattle.std.specs.Prelude.{◌≡◌, not, IfOk};
+ghost use Rattle.std.specs.Prelude.{◌≡◌, ◌≤◌, true, not, length, IfOk};
 ghost use Rattle.std.specs.List.{list_any};
 ghost use Rattle.std.specs.Ordering.{is_eq};
 ghost use Rattle.std.specs.declared.cmp.Ordering.{Ordering};
 ghost use Rattle.attr_values.specs.Ranks.{Rises};
 ghost use Rattle.attr_values.specs.declared.value.Value.{Value as Item};
-ghost use Rattle.attr_list.specs.Orders.{value_at};
+ghost use Rattle.attr_list.specs.Lists.{distinct_values};
+ghost use Rattle.attr_list.specs.Orders.{value_at, IsOrder};
 ghost use Rattle.attr_list.specs.Tests.{StandsAs};
 
+use crate::distinct::distinct;
 use crate::order::order_of;
 use attr_values::Value;
 use slp_text::NoMemory;
@@ -58,6 +60,13 @@ pub fn copies(alloc: Global, values: &[Value]) -> Result<Vec<Value>, NoMemory>
     Ok(copied)
 }
 
+// Whether values have an order beside them: they are many, and the places of all can be told.
+fn has_order(values: &[Value]) -> bool
+    ensures { result ≡ true → length values.now ≤ 65536 }
+{
+    FEW < values.len() && values.len() <= MOST
+}
+
 // Where the value at a place stands.
 fn stand_at<F: Fn(&Value) -> Ordering>(values: &[Value], place: u16, stand: &F) -> Ordering
     requires { F.IsAlwaysCallable stand.now }
@@ -70,14 +79,37 @@ fn stand_at<F: Fn(&Value) -> Ordering>(values: &[Value], place: u16, stand: &F) 
 }
 
 impl Values {
-    /// These values. It takes time for their number and its logarithm.
-    pub(crate) fn of(alloc: Global, items: Vec<Value>) -> Result<Values, NoMemory>
+    // The first of those that are the same. It takes time for the number of values and its logarithm.
+    pub(crate) fn distinct(alloc: Global, items: Vec<Value>) -> Result<Values, NoMemory>
+        ensures { IfOk result (λ v. v ≡ distinct_values items.items) }
+    {
+        if has_order(&items) {
+            let (order, are_apart) = order_of(alloc, &items)?;
+            if are_apart {
+                return Values::with_order(alloc, items, order);
+            }
+            drop(order);
+        }
+        Values::of(alloc, distinct(alloc, items)?)
+    }
+
+    // These values.
+    fn of(alloc: Global, items: Vec<Value>) -> Result<Values, NoMemory>
         ensures { IfOk result (λ v. v ≡ items.items) }
     {
-        if items.len() <= FEW || items.len() > MOST {
+        if !has_order(&items) {
             return Ok(Values { items, order: None });
         }
-        let order = Box::new(alloc, order_of(alloc, &items)?)?;
+        let (order, _) = order_of(alloc, &items)?;
+        Values::with_order(alloc, items, order)
+    }
+
+    // These values, with their order.
+    fn with_order(alloc: Global, items: Vec<Value>, order: Vec<u16>) -> Result<Values, NoMemory>
+        requires { IsOrder items.items order.items }
+        ensures { IfOk result (λ v. v ≡ items.items) }
+    {
+        let order = Box::new(alloc, order)?;
         Ok(Values {
             items,
             order: Some(order),
