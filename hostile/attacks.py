@@ -112,9 +112,10 @@ def streams(told, server, seed, source, count, end):
     breaker, chance, live, begun = Breaker(seed), random.Random(seed), [], 0
     while len(told.lost) < 3:
         if begun < count and len(live) < LIVE and time.monotonic() < end:
-            pieces, ending = breaker.stream()
+            pieces, ending, messages = breaker.stream()
             live.append((server.stream(f"{source[:-1]}{10 + begun % 16}", seconds=10), pieces, ending))
             told.sent[f"streams, {ending}"] += 1
+            told.sent["messages of these streams, some of them cut short"] += messages
             begun += 1
         elif not live:
             break

@@ -198,12 +198,13 @@ class Breaker:
         return message if self.bits(2) else self.put(message, 0, self.some(1))
 
     def stream(self):
-        """The pieces of a stream of one to five messages, of which some are broken; and how it ends."""
-        whole = b"".join(self.base() if self.bits(1) else self.message()[1] for _ in range(1 + self.below(5)))
+        """The pieces of a stream of one to five messages, of which some are broken; how it ends; and how many messages it has."""
+        count = 1 + self.below(5)
+        whole = b"".join(self.base() if self.bits(1) else self.message()[1] for _ in range(count))
         if not self.bits(2):
             whole = whole[: self.below(len(whole) + 1)]
         cuts = sorted(self.below(len(whole) + 1) for _ in range(self.bits(2)))
-        return [whole[a:b] for a, b in zip([0, *cuts], [*cuts, len(whole)])], ("closed", "reset", "half-closed", "left open")[self.bits(2)]
+        return [whole[a:b] for a, b in zip([0, *cuts], [*cuts, len(whole)])], ("closed", "reset", "half-closed", "left open")[self.bits(2)], count
 
 
 # Bombs
