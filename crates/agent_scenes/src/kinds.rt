@@ -60,6 +60,7 @@ pub(crate) enum AgentRow {
     Udp,
     Quiet,
     Hold,
+    Held,
     Release,
     Log,
     /// A line is typed, and this after it.
@@ -84,7 +85,7 @@ pub(crate) enum ToolRow {
 }
 
 /// The rows by their words.
-static ROWS: [(&str, Row); 46] = [
+static ROWS: [(&str, Row); 47] = [
     ("at", Row::Place(PlaceRow::At)),
     ("from", Row::Place(PlaceRow::From)),
     ("near", Row::Place(PlaceRow::Near)),
@@ -114,6 +115,7 @@ static ROWS: [(&str, Row); 46] = [
     ("udp", Row::Agent(AgentRow::Udp)),
     ("quiet", Row::Agent(AgentRow::Quiet)),
     ("hold", Row::Agent(AgentRow::Hold)),
+    ("held", Row::Agent(AgentRow::Held)),
     ("release", Row::Agent(AgentRow::Release)),
     ("log", Row::Agent(AgentRow::Log)),
     ("console", Row::Agent(AgentRow::Console("\n"))),

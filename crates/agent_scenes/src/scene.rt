@@ -300,6 +300,7 @@ where
             AgentRow::Udp => self.udp(rest, out),
             AgentRow::Quiet => self.quiet(rest, out),
             AgentRow::Hold => self.hold(rest, out),
+            AgentRow::Held => self.held(out),
             AgentRow::Release => self.release(out),
             AgentRow::Log => self.log(out),
             AgentRow::Console(end) => {

@@ -66,7 +66,7 @@ pub named_told : {E : Type 0} (r : Result (Unit {0}) E) (path : List ℕ) (confi
     → OnOk r ((read : List ReadTemplate) × (map (λ t. t.path) read ≡ config.templates) × Appends mid new (each_template_lines rules fin.empty read))
     → OnOk r ((s : SiteReads) × AreNamed s config × Appends old new (named_file_lines path s config))
 named_told (Ok x) path config rules old mid new h k = (
-  record { config = h.0; rules = h.0; templates = k.0 },
+  record { config = h.0; rules = h.0; templates = k.0; limits = Err NoMemory },
   record { rules = h.1; templates = k.1 },
   Appends-trans old mid new _ _ h.3 (subst (λ rs. Appends mid new (each_template_lines rs fin.empty k.0)) h.2 k.2),
 )
@@ -77,9 +77,9 @@ pub config_told : {E : Type 0} (r : Result (Unit {0}) E) (path text : List ℕ) 
     → OnOk r ((s : SiteReads) × AreNamed s config × Appends old new (named_lines path s config))
     → OnOk r ((s : SiteReads) × (s.config.read ≡ Ok text) × AreRead s × Appends old new (site_lines path s))
 config_told (Ok x) path text config old new is h =
-    let named : AreNamed (record { config = record { read = Ok text; stop = record { place = 0; message = [] } }; rules = h.0.rules; templates = h.0.templates }) config =
+    let named : AreNamed (record { config = record { read = Ok text; stop = record { place = 0; message = [] } }; rules = h.0.rules; templates = h.0.templates; limits = h.0.limits }) config =
     record { rules = h.1.rules; templates = h.1.templates } in (
-      record { config = record { read = Ok text; stop = record { place = 0; message = [] } }; rules = h.0.rules; templates = h.0.templates },
+      record { config = record { read = Ok text; stop = record { place = 0; message = [] } }; rules = h.0.rules; templates = h.0.templates; limits = h.0.limits },
       refl,
       record { config = omega arith; named = rw is named },
       rw is h.2,
@@ -99,7 +99,7 @@ pub config_refused : {E : Type 0} (r : Result (Unit {0}) E) (path text : List �
     → OnOk r ((s : SiteReads) × (s.config.read ≡ Ok text) × AreRead s × Appends old new (site_lines path s))
 config_refused (Ok x) path text e old new told known h =
     let is = fault_is e (config_of text) told known in (
-      record { config = record { read = Ok text; stop = h.0 }; rules = record { read = Err NoMemory; stop = h.0 }; templates = [] },
+      record { config = record { read = Ok text; stop = h.0 }; rules = record { read = Err NoMemory; stop = h.0 }; templates = []; limits = Err NoMemory },
       refl,
       record { config = h.1; named = rw is tt },
       rw is h.2,
@@ -110,7 +110,7 @@ config_refused (Err x) path text e old new told known h = tt
 pub site_unread : {E : Type 0} (r : Result (Unit {0}) E) (path : List ℕ) (e : FileFault) (old new : Option (List ℕ)) → OnOk r (Appends old new (unread_line path e)) → OnOk r (AppendsSite old new (site_lines path))
 site_unread (Ok x) path e old new h =
     let unread : ReadToml = record { read = Err e; stop = record { place = 0; message = [] } } in
-    (record { config = unread; rules = unread; templates = [] }, record { config = tt; named = tt }, h)
+    (record { config = unread; rules = unread; templates = []; limits = Err NoMemory }, record { config = tt; named = tt }, h)
 site_unread (Err x) path e old new h = tt
 
 -- what is written after the lines of a site

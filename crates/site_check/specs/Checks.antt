@@ -15,6 +15,6 @@ IsChecked status = (told : Result SiteFiles StartFault) × IsReadAs AreNamed sta
 abbrev pub AppendsCheck : Option (List ℕ) → Option (List ℕ) → List ℕ → ℕ → Type 0
 AppendsCheck old new path status = AppendsSite old new (λ s. site_lines path s ++ status_line path status)
 
--- how the program is called
+-- how the program is called, and its version
 abbrev pub usage_text : List ℕ
-usage_text = codes "usage: slpcheck CONFIG" ++ line_feed ∷ []
+usage_text = codes "usage: slpcheck CONFIG (slpda 0.9.0)" ++ line_feed ∷ []

@@ -1,5 +1,6 @@
 pub mod Checks
 pub mod ConfigFaults
+pub mod Descriptors
 pub mod Hiding
 pub mod Lines
 pub mod ListenWarnings

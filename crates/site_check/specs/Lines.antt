@@ -113,9 +113,15 @@ pub data Warning : Type 0 where
   -- a type that does not begin with service:
   NoService : List ℕ → Warning
   NoSight : Warning
+  -- an element of from, by its number, with bits that do not count
+  MoreBits : ℕ → Warning
+  -- a type that rules about every type alone let be registered
+  AnyType : List ℕ → Warning
   -- an element of listen, by its number, that is every address; or one that is not of one machine
   AnyAddress : ℕ → Warning
   NoMachine : ℕ → Warning
+  -- how many descriptors there may be, and how many can be needed
+  FewDescriptors : ℕ → ℕ → Warning
 
 abbrev pub warning_in : WarningLent → Warning
 warning_in lent_warning.NoRuleFile = NoRuleFile
@@ -125,8 +131,11 @@ warning_in (lent_warning.NoScope scope) = NoScope scope.now
 warning_in (lent_warning.NoType kind) = NoType kind.now
 warning_in (lent_warning.NoService kind) = NoService kind.now
 warning_in lent_warning.NoSight = NoSight
+warning_in (lent_warning.MoreBits number) = MoreBits number
+warning_in (lent_warning.AnyType kind) = AnyType kind.now
 warning_in (lent_warning.AnyAddress number) = AnyAddress number
 warning_in (lent_warning.NoMachine number) = NoMachine number
+warning_in (lent_warning.FewDescriptors most need) = FewDescriptors most need
 
 abbrev pub warning_text : Warning → List ℕ
 warning_text NoRuleFile = codes "no rule file is named, so all is denied"
@@ -136,8 +145,11 @@ warning_text (NoScope scope) = codes "the site has no scope " ++ shown scope
 warning_text (NoType kind) = codes "no rule lets anyone register " ++ shown kind
 warning_text (NoService kind) = codes "it is about URLs that begin with " ++ shown kind ++ codes ": and about no type that begins with service:"
 warning_text NoSight = codes "no rule lets anyone see anything"
+warning_text (MoreBits number) = codes "element " ++ decimal number ++ codes " of from has bits behind its prefix, which do not count"
+warning_text (AnyType kind) = codes "only rules of type * let anyone register " ++ shown kind
 warning_text (AnyAddress number) = codes "element " ++ decimal number ++ codes " of listen is 0.0.0.0, which is told to clients as the address of the directory"
 warning_text (NoMachine number) = codes "element " ++ decimal number ++ codes " of listen is no address of one machine"
+warning_text (FewDescriptors most need) = codes "a process may have " ++ decimal most ++ codes " descriptors here, and slpda can need " ++ decimal need
 
 -- what is written of what is surely not meant
 abbrev pub warning_line : Place → Warning → List ℕ

@@ -1,5 +1,5 @@
 -- What is surely not meant with the rules and the hide tables of a site.
-use Rattle.std.specs.Prelude.{ℕ, ◌+◌, Bool, true, ◌&&◌, ◌||◌, ◌==◌, List, [], ◌∷◌, ◌++◌, find, is_some, length, take, Option, Some, None, if◌then◌else◌}
+use Rattle.std.specs.Prelude.{ℕ, ◌+◌, ◌-◌, ◌*◌, ◌/◌, ◌^◌, not, Bool, true, ◌&&◌, ◌||◌, ◌==◌, List, [], ◌∷◌, ◌++◌, find, is_some, length, take, Option, Some, None, if◌then◌else◌}
 use Rattle.std.specs.List.{enumerate_from, flat_map, list_any}
 use Rattle.std.specs.Option.{option_map_or}
 use Rattle.slp_text.specs.Words.{bytes_eq}
@@ -9,7 +9,8 @@ use Rattle.access_rules.specs.declared.hide.Hide.{Hide}
 use Rattle.access_rules.specs.declared.rule.Action.TheVariants.{Register, See}
 use Rattle.access_rules.specs.declared.rule.Rule.{Rule}
 use Rattle.site_check.specs.Hiding.{hides}
-use Rattle.site_check.specs.Lines.{Place, At, File, Hidden, NoRules, NoScope, NoService, NoSight, NoType, warning_line}
+use Rattle.addresses.specs.declared.prefix.Prefix.{Prefix}
+use Rattle.site_check.specs.Lines.{Place, AnyType, At, File, Hidden, MoreBits, NoRules, NoScope, NoService, NoSight, NoType, warning_line}
 use Rattle.site_check.specs.declared.problem.Numbered.TheVariants as numbered
 
 -- the first of some earlier rules that hides one, by its number and its name
@@ -25,6 +26,18 @@ scope_line place scopes scope = if list_any (λ s. bytes_eq s scope) scopes then
 abbrev pub scope_lines : Place → List (List ℕ) → Option (List (List ℕ)) → List ℕ
 scope_lines place scopes None = []
 scope_lines place scopes (Some named) = flat_map (scope_line place scopes) named
+
+-- not all bits behind those that count are 0
+abbrev pub has_more : Prefix → Bool
+has_more p = not (p.addr / 2 ^ (32 - p.bits) * 2 ^ (32 - p.bits) == p.addr)
+
+-- a prefix, with its index, that has such bits
+abbrev pub from_line : Place → ℕ × Prefix → List ℕ
+from_line place indexed = if has_more indexed.1 then warning_line place (MoreBits (indexed.0 + 1)) else []
+
+-- each such prefix of a rule or a hide table
+abbrev pub from_lines : Place → List Prefix → List ℕ
+from_lines place from = flat_map (from_line place) (enumerate_from 0 from)
 
 -- two types have one in common; no type named is every type
 abbrev pub meets : Option (List ℕ) → Option (List ℕ) → Bool
@@ -44,7 +57,20 @@ abbrev pub kind_line : Place → List Rule → Option (List ℕ) → List ℕ
 kind_line place rules None = []
 kind_line place rules (Some kind) = if may_stand rules (Some kind) then [] else warning_line place (NoType kind)
 
--- the same of a rule, which may itself be about registering
+-- the same where the rule is about a type that it names
+abbrev pub lets_named_stand : Option (List ℕ) → Rule → Bool
+lets_named_stand kind rule = is_some rule.kind && lets_stand kind rule
+
+abbrev pub named_may_stand : List Rule → Option (List ℕ) → Bool
+named_may_stand rules kind = list_any (lets_named_stand kind) rules
+
+-- a type that no rule lets anyone register, or none but rules about every type
+abbrev pub stand_line : Place → List Rule → Option (List ℕ) → List ℕ
+stand_line place rules None = []
+stand_line place rules (Some kind) =
+    if named_may_stand rules (Some kind) then [] else warning_line place (if may_stand rules (Some kind) then AnyType kind else NoType kind)
+
+-- a type that no rule lets anyone register, of a rule, which may itself be about registering
 abbrev pub rule_kind_line : Place → List Rule → Rule → List ℕ
 rule_kind_line place rules rule = if action_eq rule.action Register then [] else kind_line place rules rule.kind
 
@@ -65,14 +91,14 @@ abbrev pub rule_lines : List ℕ → List Rule → List (List ℕ) → ℕ × Ru
 rule_lines file rules scopes indexed =
     let rule = indexed.1 in
     let place = At file (numbered.Rule (indexed.0 + 1)) (Some rule.name) in
-    hidden_lines place rule (take indexed.0 rules) ++ scope_lines place scopes rule.scopes ++ kind_lines place rules rule
+    hidden_lines place rule (take indexed.0 rules) ++ from_lines place rule.from ++ scope_lines place scopes rule.scopes ++ kind_lines place rules rule
 
 -- a hide table with its index, which comes after these rules
 abbrev pub hide_lines : List ℕ → List Rule → List (List ℕ) → ℕ × Hide → List ℕ
 hide_lines file rules scopes indexed =
     let hide = indexed.1 in
     let place = At file (numbered.Hide (length rules + indexed.0 + 1)) (Some hide.name) in
-    scope_lines place scopes hide.scopes ++ kind_line place rules hide.kind
+    from_lines place hide.from ++ scope_lines place scopes hide.scopes ++ kind_line place rules hide.kind
 
 -- that there are no rules
 abbrev pub absence_line : List ℕ → List Rule → List ℕ

@@ -22,11 +22,12 @@ use Rattle.srv_template.specs.Templates.{Template, added_to}
 use Rattle.srv_template.specs.declared.fault.ParseFault.{ParseFault}
 use Rattle.srv_template.specs.declared.fault.ParseFault.TheVariants as parse_fault
 use Rattle.site_check.specs.ConfigFaults.{config_lines}
+use Rattle.site_check.specs.Descriptors.{descriptor_lines}
 use Rattle.site_check.specs.Lines.{File, NoRuleFile, SameType, problem_line, warning_line}
 use Rattle.site_check.specs.ListenWarnings.{listen_lines}
 use Rattle.site_check.specs.NotToml.{Stop}
 use Rattle.site_check.specs.RuleFaults.{rule_file_lines}
-use Rattle.site_check.specs.RuleWarnings.{kind_line, warnings_of_rules}
+use Rattle.site_check.specs.RuleWarnings.{stand_line, warnings_of_rules}
 use Rattle.site_check.specs.TemplateFaults.{template_lines}
 
 -- ---- a file that has no text
@@ -65,10 +66,10 @@ rules_read read = option_and_then (λ text. result_ok (rules_in_text text)) (res
 abbrev pub template_kind : Template → Option (List ℕ)
 template_kind t = result_ok (type_of (codes "service:" ++ t.name))
 
--- that no rule lets anyone register a service of its type
+-- that no rule lets anyone register a service of its type, or none but rules about every type
 abbrev pub template_warning : List ℕ → Option SiteRules → Template → List ℕ
 template_warning file None t = []
-template_warning file (Some rules) t = kind_line (File file) (rules_in rules) (template_kind t)
+template_warning file (Some rules) t = stand_line (File file) (rules_in rules) (template_kind t)
 
 -- that an earlier template is of its type
 abbrev pub addition_line : List ℕ → Result SiteTemplates ParseFault → List ℕ
@@ -114,11 +115,12 @@ pub record ReadToml : Type 0 where
 abbrev pub StopsWithin : ReadToml → Type 0
 StopsWithin r = IfOk r.read (λ text. r.stop.place ≤ length text)
 
--- what reading the files of a site gave: the configuration, the rule file if there is one, and each template
+-- what reading the files of a site gave: the configuration, the rule file if there is one, and each template; and the limits of the process that reads them
 pub record SiteReads : Type 0 where
   pub config : ReadToml
   pub rules : ReadToml
   pub templates : List ReadTemplate
+  pub limits : Result (List ℕ) FileFault
 
 -- the rules in the file that a configuration names, where it names one that is read and taken
 abbrev pub named_rules : Option (List ℕ) → ReadToml → Option SiteRules
@@ -134,9 +136,10 @@ named_rule_lines path scopes (Some file) r = file_lines file (λ text. rule_text
 abbrev pub named_file_lines : List ℕ → SiteReads → Config → List ℕ
 named_file_lines path s config = named_rule_lines path config.scopes config.rules s.rules ++ each_template_lines (named_rules config.rules s.rules) fin.empty s.templates
 
--- of its addresses, and then of these files
+-- of its addresses, of the descriptors that a server can need, and then of these files
 abbrev pub named_lines : List ℕ → SiteReads → Config → List ℕ
-named_lines path s config = listen_lines path config.listen ++ named_file_lines path s config
+named_lines path s config =
+    listen_lines path config.listen ++ descriptor_lines path (length config.listen) config.connections s.limits ++ named_file_lines path s config
 
 -- of the text of a configuration: what is wrong with it, else what is written of the files that it names
 abbrev pub told_config : List ℕ → List ℕ → SiteReads → Result Config ConfigFault → List ℕ

@@ -2,6 +2,7 @@
 #![tactic(auto)]
 
 mod config_faults;
+mod descriptors;
 mod fault;
 mod hiding;
 pub mod laws;

@@ -127,10 +127,16 @@ pub(crate) enum Warning<'a> {
     /// A type that does not begin with `service:`.
     NoService(&'a str),
     NoSight,
+    /// An element of `from`, by its number, with bits that do not count.
+    MoreBits(usize),
+    /// A type that rules about every type alone let be registered.
+    AnyType(&'a str),
     /// An element of `listen`, by its number, that is every address.
     AnyAddress(usize),
     /// One that is not of one machine.
     NoMachine(usize),
+    /// How many descriptors there may be, and how many can be needed.
+    FewDescriptors(u32, usize),
 }
 
 // Writes what is surely not meant.
@@ -159,6 +165,14 @@ fn print_warning<W: Write>(warning: Warning<'_>, writer: &mut W) -> io::Result<(
             write!(writer, ": and about no type that begins with service:")
         }
         Warning::NoSight => write!(writer, "no rule lets anyone see anything"),
+        Warning::MoreBits(number) => write!(
+            writer,
+            "element {number} of from has bits behind its prefix, which do not count"
+        ),
+        Warning::AnyType(kind) => {
+            write!(writer, "only rules of type * let anyone register ")?;
+            print_text(kind, writer)
+        }
         Warning::AnyAddress(number) => write!(
             writer,
             "element {number} of listen is 0.0.0.0, which is told to clients as the address of the directory"
@@ -169,6 +183,10 @@ fn print_warning<W: Write>(warning: Warning<'_>, writer: &mut W) -> io::Result<(
                 "element {number} of listen is no address of one machine"
             )
         }
+        Warning::FewDescriptors(most, need) => write!(
+            writer,
+            "a process may have {most} descriptors here, and slpda can need {need}"
+        ),
     }
 }
 

@@ -19,8 +19,8 @@ use std::rt::Files;
 /// The status of a call with words that are not understood.
 const USAGE: u8 = 64;
 
-/// How the program is called.
-const USAGE_TEXT: &str = "usage: slpcheck CONFIG\n";
+/// How the program is called, and its version, which is that of all programs.
+const USAGE_TEXT: &str = "usage: slpcheck CONFIG (slpda 0.9.0)\n";
 
 /// The status where memory ran out.
 const NO_MEMORY: u8 = 3;

@@ -7,17 +7,19 @@ ghost use Rattle.std.specs.Result.{result_ok, result_unwrap_or};
 ghost use Rattle.rule_files.specs.RuleFiles.{rules_in_text};
 ghost use Rattle.service_url.specs.Types.{type_of};
 ghost use Rattle.srv_template.specs.Templates.{added_to};
+ghost use Rattle.site_config.specs.Configurations.{IsWithin};
 ghost use Rattle.site_check.specs.ConfigFaults.{config_lines};
 ghost use Rattle.site_check.specs.NotToml.{AppendsStopped};
 ghost use Rattle.site_check.specs.SiteLines.{AppendsSite, AreNamed, AreRead, ReadTemplate, ReadToml, SiteReads, StopsWithin, addition_line, each_template_lines, fault_text, file_lines, named_file_lines, named_lines, named_rule_lines, named_rules, rule_text_lines, rules_read, site_lines, template_kind, template_text_lines, template_warning, templates_with, unread_line};
 
 use crate::config_faults::explain_config;
+use crate::descriptors::tell_descriptors;
 use crate::fault::CheckFault;
 use crate::listening::warn_of_listen;
 use crate::problem::{FileText, Place, Problem, Warning, report, warn};
 use crate::rule_faults::explain_rules;
 use crate::template_faults::explain_template;
-use crate::warnings::{warn_of_kind, warn_of_rules};
+use crate::warnings::{warn_of_rules, warn_of_stand};
 use access_rules::Rules;
 use rule_files::{RuleFault, rules_of_text};
 use service_url::{ServiceType, UrlFault};
@@ -156,7 +158,7 @@ fn kind_of(alloc: Global, template: &Template) -> Result<Option<ServiceType>, Ch
     kind_in(alloc, text.as_str())
 }
 
-// Writes that no rule lets anyone register a service of the type of a template, where that is so.
+// Writes that no rule lets anyone register a service of the type of a template, or none but rules about every type, where that is so.
 fn warn_of_template<W: Write>(
     alloc: Global,
     file: &str,
@@ -170,7 +172,7 @@ fn warn_of_template<W: Write>(
         return Ok(());
     };
     let kind = kind_of(alloc, template)?;
-    warn_of_kind(Place::File(file), kind.as_ref(), rules.as_slice(), writer)?;
+    warn_of_stand(Place::File(file), kind.as_ref(), rules.as_slice(), writer)?;
     Ok(())
 }
 
@@ -264,7 +266,7 @@ fn look_at_files<R: Files, W: Write>(
     )
 }
 
-// Looks at what a configuration says: its addresses, and the files that it names.
+// Looks at what a configuration says: its addresses, how many descriptors it needs, and the files that it names.
 fn look_at_named<R: Files, W: Write>(
     rt: &R,
     alloc: Global,
@@ -272,10 +274,12 @@ fn look_at_named<R: Files, W: Write>(
     config: &Config,
     writer: &mut W,
 ) -> Result<(), CheckFault>
+    requires { IsWithin config.now }
     ensures { OnOk result ((s : SiteReads) × AreNamed s config.now
         × Appends (W.contents writer.old) (W.contents writer.new) (named_lines path.now s config.now)) }
 {
     warn_of_listen(path, config.listen.as_slice(), writer)?;
+    tell_descriptors(rt, alloc, path, config, writer)?;
     look_at_files(rt, alloc, path, config, writer)
 }
 

@@ -5,12 +5,13 @@ ghost use Rattle.std.specs.List.{enumerate_from};
 ghost use Rattle.std.specs.Option.{option_copied};
 ghost use Rattle.site_check.specs.Lines.{place_in};
 ghost use Rattle.site_check.specs.RuleWarnings as spec;
-ghost use Rattle.site_check.specs.RuleWarnings.{absence_line, form_line, hidden_lines, hide_lines, kind_line, kind_lines, rule_kind_line, rule_lines, scope_line, scope_lines, sight_line, warnings_of_rules};
+ghost use Rattle.site_check.specs.RuleWarnings.{absence_line, form_line, from_line, from_lines, hidden_lines, hide_lines, kind_line, kind_lines, rule_kind_line, rule_lines, scope_line, scope_lines, sight_line, stand_line, warnings_of_rules};
 
 use crate::fault::CheckFault;
 use crate::hiding::{hides, is_same};
 use crate::problem::{Numbered, Place, Warning, warn};
 use access_rules::{Action, Hide, Rule, Rules};
+use addresses::Prefix;
 use service_url::ServiceType;
 use slp_scopes::ScopeList;
 use slp_text::Key;
@@ -50,11 +51,61 @@ fn lets_stand(rule: &Rule, kind: Option<&ServiceType>) -> bool
     rule.allow && is_same(rule.action, Action::Register) && meets(rule.kind.as_ref(), kind)
 }
 
+// The same where the rule names its type.
+fn lets_named_stand(rule: &Rule, kind: Option<&ServiceType>) -> bool
+    ensures { result ≡ spec.lets_named_stand (option_copied kind.entry) rule.now }
+{
+    rule.kind.is_some() && lets_stand(rule, kind)
+}
+
 // Whether some rule lets someone register some type that a rule of this one is about.
 fn may_stand(rules: &[Rule], kind: Option<&ServiceType>) -> bool
     ensures { result ≡ spec.may_stand rules.now (option_copied kind.entry) }
 {
     rules.iter().any(|rule| lets_stand(rule, kind))
+}
+
+// Whether some rule that names its type lets someone register some type that a rule of this one is about.
+fn named_may_stand(rules: &[Rule], kind: Option<&ServiceType>) -> bool
+    ensures { result ≡ spec.named_may_stand rules.now (option_copied kind.entry) }
+{
+    rules.iter().any(|rule| lets_named_stand(rule, kind))
+}
+
+// Whether not all bits of a prefix behind those that count are 0.
+fn has_more(prefix: &Prefix) -> bool
+    ensures { result ≡ spec.has_more prefix.now }
+{
+    let ignored = 32u32.saturating_sub(u32::from(prefix.bits));
+    let addr = u64::from(prefix.addr.0);
+    addr >> ignored << ignored != addr
+}
+
+// Writes that a prefix, which has this index, has such bits.
+fn warn_of_prefix<W: Write>(
+    place: Place<'_>,
+    index: usize,
+    prefix: &Prefix,
+    from: &[Prefix],
+    writer: &mut W,
+) -> io::Result<()>
+    requires { index < length from.now }
+    ensures { OnOk result (Appends (W.contents writer.old) (W.contents writer.new) (from_line (place_in place.entry) (index, prefix.now))) }
+{
+    if has_more(prefix) {
+        return warn(place, Warning::MoreBits(index + 1), writer);
+    }
+    Ok(())
+}
+
+// Writes each of some prefixes that has such bits.
+fn warn_of_from<W: Write>(place: Place<'_>, from: &[Prefix], writer: &mut W) -> io::Result<()>
+    ensures { OnOk result (Appends (W.contents writer.old) (W.contents writer.new) (from_lines (place_in place.entry) from.now)) }
+{
+    for (i, prefix) in from.iter().enumerate() {
+        warn_of_prefix(place, i, prefix, from, writer)?;
+    }
+    Ok(())
 }
 
 // Writes a scope that a site does not have.
@@ -104,8 +155,8 @@ fn warn_of_scopes<W: Write>(
     }
 }
 
-/// Writes that no rule lets anyone register a service of a type, where that is so.
-pub(crate) fn warn_of_kind<W: Write>(
+// Writes that no rule lets anyone register a service of a type, where that is so.
+fn warn_of_kind<W: Write>(
     place: Place<'_>,
     kind: Option<&ServiceType>,
     rules: &[Rule],
@@ -121,7 +172,28 @@ pub(crate) fn warn_of_kind<W: Write>(
     }
 }
 
-// The same of the type of a rule, unless the rule is itself about registering.
+/// Writes that no rule lets anyone register a service of a type, or none but rules about every type, where that is so.
+pub(crate) fn warn_of_stand<W: Write>(
+    place: Place<'_>,
+    kind: Option<&ServiceType>,
+    rules: &[Rule],
+    writer: &mut W,
+) -> io::Result<()>
+    ensures { OnOk result (Appends (W.contents writer.old) (W.contents writer.new) (stand_line (place_in place.entry) rules.now (option_copied kind.entry))) }
+{
+    match kind {
+        Some(named) if !named_may_stand(rules, kind) => {
+            if may_stand(rules, kind) {
+                warn(place, Warning::AnyType(named.text()), writer)
+            } else {
+                warn(place, Warning::NoType(named.text()), writer)
+            }
+        }
+        _ => Ok(()),
+    }
+}
+
+// Writes that no rule lets anyone register a service of the type of a rule, where that is so, unless the rule is itself about registering.
 fn warn_of_rule_kind<W: Write>(
     place: Place<'_>,
     rule: &Rule,
@@ -195,6 +267,7 @@ fn warn_of_rule<W: Write>(
 {
     let place = Place::Numbered(file, Numbered::Rule(index + 1), Some(rule.name.as_str()));
     warn_of_hiding(place, rule, &site.rules[..index], writer)?;
+    warn_of_from(place, rule.from.as_slice(), writer)?;
     warn_of_scopes(place, rule.scopes.as_ref(), site.scopes, writer)?;
     warn_of_kinds(place, rule, site.rules, writer)
 }
@@ -222,6 +295,7 @@ fn warn_of_hide<W: Write>(
 {
     let number = site.rules.len() + index + 1;
     let place = Place::Numbered(file, Numbered::Hide(number), Some(hide.name.as_str()));
+    warn_of_from(place, hide.from.as_slice(), writer)?;
     warn_of_scopes(place, hide.scopes.as_ref(), site.scopes, writer)?;
     warn_of_kind(place, hide.kind.as_ref(), site.rules, writer)
 }

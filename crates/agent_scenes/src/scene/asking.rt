@@ -61,11 +61,17 @@ where
         Ok(())
     }
 
-    // Prints where the agent does not wait at the valve, and where a reply came all the same.
-    fn print_held(&self, socket: &UdpSocket, out: &mut Vec<u8>) -> io::Result<()> {
-        if !self.props.by_words.valve.is_reached(self.rt) {
-            out.write_all(b"(not held)\n")?;
+    // Waits until the agent waits at the valve, and prints where it does not.
+    pub(super) fn held(&self, out: &mut Vec<u8>) -> io::Result<()> {
+        if self.props.by_words.valve.is_reached(self.rt) {
+            return Ok(());
         }
+        out.write_all(b"(not held)\n")
+    }
+
+    // The same, and prints where a reply came all the same.
+    fn print_held(&self, socket: &UdpSocket, out: &mut Vec<u8>) -> io::Result<()> {
+        self.held(out)?;
         match receive(self.alloc, socket) {
             Ok(_) => out.write_all(b"(answered)\n"),
             Err(_) => Ok(()),

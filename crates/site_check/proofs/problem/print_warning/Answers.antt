@@ -23,3 +23,12 @@ returns-in_ok-print_text-in-NoService g c =
 
 pub returns-in-NoSight : goal.returns-in-NoSight
 returns-in-NoSight g c = rw c.in-NoSight.is c.write-in-NoSight.ensures.bytes
+
+pub returns-in-FewDescriptors : goal.returns-in-FewDescriptors
+returns-in-FewDescriptors g c = rw c.in-FewDescriptors.is (simp append_assoc c.write-in-FewDescriptors.ensures.bytes)
+
+pub returns-in-MoreBits : goal.returns-in-MoreBits
+returns-in-MoreBits g c = rw c.in-MoreBits.is c.write-in-MoreBits.ensures.bytes
+
+pub returns-in_ok-write-in-AnyType : goal.returns-in_ok-write-in-AnyType
+returns-in_ok-write-in-AnyType g c = rw c.in-AnyType.is (written_after c.print_text-in-AnyType.result _ _ _ _ _ c.in_ok-write-in-AnyType.ensures.bytes c.print_text-in-AnyType.ensures)
