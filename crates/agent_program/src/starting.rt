@@ -13,7 +13,7 @@ use crate::threads::Job;
 use agent_watch::SharedInput;
 use published_view::{Gate, LoopView, MOST_LOOPS, Naming, Opened, open};
 use site_config::Config;
-use site_opening::StartFault;
+use site_opening::{StartFault, descriptor_limit, shared_streams};
 use slp_loops::{
     AgentLoop, Desk, LineWriter, LoopFault, Moments, Queue, QueuedOutput, Shared, WallClock,
 };
@@ -274,7 +274,7 @@ where
     told
 }
 
-// Opens what the configuration names, and serves.
+// Opens what the configuration names, and serves. Loops share the descriptors that this process may have, so that the streams of one leave some for another.
 fn run<R, G, I, W>(
     rt: &R,
     alloc: Global,
@@ -288,7 +288,9 @@ where
     W: Write + Send,
 {
     let boot = WallClock::new(rt).now();
-    let begun = begun(rt, alloc, path, boot)?;
+    let mut begun = begun(rt, alloc, path, boot)?;
+    let most = descriptor_limit(rt, alloc)?;
+    begun.config.connections = shared_streams(&begun.config, most);
     let opened = Opened::new();
     serve_opened::<Brand, _, _, _, _>(rt, alloc, opened, begun, ends)
 }

@@ -1,14 +1,12 @@
 -- What is written of a list, element by element.
-use Rattle.std.proofs.Common.{◌≡◌, ◌+◌, ◌++◌, [], ◌∷◌, ◌<◌, ◌≤◌, refl, ℕ, suc, Bool, true, false, List, Option, Some, None, Result, Ok, Err, OnOk, length, zero-add, map, take, drop, get_or, add-one, sym, ap, ◌∙◌, arith}
-use Rattle.std.specs.Prelude.{find, flat_map, nat_eq}
-use Rattle.std.specs.List.{enumerate_from, starts_with}
+use Rattle.std.proofs.Common.{◌≡◌, ◌+◌, ◌++◌, [], ◌∷◌, ◌<◌, ◌≤◌, ℕ, suc, Bool, true, false, List, Option, Some, None, Result, Ok, Err, OnOk, length, zero-add, map, take, drop, get_or, add-one, sym, ap, ◌∙◌, arith}
+use Rattle.std.specs.Prelude.{find, flat_map}
+use Rattle.std.specs.List.{enumerate_from}
 use Rattle.std.specs.Io.KnownBytes.{Appends}
 use Rattle.std.proofs.KnownBytes.{Appends-trans}
 use Rattle.std.proofs.Math.Seq.{take-suc, drop-cons}
 use Rattle.std.proofs.lemmas.List.{drop_all, flat_map_more, get_or-map, length-map, take_all}
 use Rattle.std.proofs.lemmas.List.FromFn.{length-enumerate_from, get_or-enumerate_from}
-use Rattle.std.proofs.lemmas.Bool.Decides.{Decides-eqb}
-use Rattle.std.proofs.lemmas.Slice.Eq.{starts_is}
 
 -- what is written of one element more
 pub flat_map-taken : {X A : Type 0} (f : X → List A) (xs : List X) (i : ℕ) (d : X) → i < length xs → flat_map f (take i xs) ++ f (get_or xs i d) ≡ flat_map f (take (i + 1) xs)
@@ -54,14 +52,6 @@ found_nowhere p n xs i past = rw (drop_all i (enumerate_from n xs) (omega (arith
 pub written_after : {E : Type 0} (r : Result (Unit {0}) E) (old mid new : Option (List ℕ)) (before after : List ℕ) → Appends old mid before → OnOk r (Appends mid new after) → OnOk r (Appends old new (before ++ after))
 written_after (Ok x) old mid new before after h k = Appends-trans old mid new before after h k
 written_after (Err e) old mid new before after h k = tt
-
--- a text does not begin so where there is no rest
-pub no_front : (text front : List ℕ) → ((rest : List ℕ) → text ≡ front ++ rest → ⊥) → starts_with nat_eq text front ≡ false
-no_front text front none = by (starts_with nat_eq text front) refl
-  where
-    by : (b : Bool) → starts_with nat_eq text front ≡ b → starts_with nat_eq text front ≡ false
-    by false e = e
-    by true e = absurd (none _ ((starts_is Decides-eqb text front (starts_with nat_eq text front) refl).0 e))
 
 -- ---- an element of a list, seen as another
 

@@ -1,3 +1,4 @@
+pub mod Descriptors
 pub mod Openings
 pub mod Statuses
 pub mod Words

@@ -1,6 +1,6 @@
 use Rattle.std.proofs.Common.{◌≡◌, drop}
-use Rattle.site_check.specs.Descriptors.{first_limit, texts_of}
-use Rattle.site_check.proofs.descriptors.limit_among.Given as goal
+use Rattle.site_opening.specs.Descriptors.{first_limit, texts_of}
+use Rattle.site_opening.proofs.descriptors.limit_among.Given as goal
 
 -- none before says it
 abbrev pub invariant-loop-place : goal.invariant-loop-place

@@ -2,8 +2,8 @@ use Rattle.std.proofs.Common.{◌≡◌}
 use Rattle.std.specs.Str.Lines.{lines}
 use Rattle.std.proofs.lemmas.Iterator.Consumers.{map_from_collect}
 use Rattle.std.proofs.lemmas.Iterator.Splits.{YieldsList-from_lines}
-use Rattle.site_check.specs.Descriptors.{texts_of}
-use Rattle.site_check.proofs.descriptors.limit.Goals as goal
+use Rattle.site_opening.specs.Descriptors.{texts_of}
+use Rattle.site_opening.proofs.descriptors.limit.Goals as goal
 
 pub returns : goal.returns
 returns c =

@@ -1,9 +1,9 @@
 use Rattle.std.proofs.Common.{◌≡◌, false, refl}
 use Rattle.std.specs.Prelude.{nat_eq}
 use Rattle.std.specs.List.{starts_with}
-use Rattle.site_check.specs.Descriptors.{files_word}
-use Rattle.site_check.proofs.Written.{no_front}
-use Rattle.site_check.proofs.descriptors.after_files.Goals as goal
+use Rattle.site_opening.specs.Descriptors.{files_word}
+use Rattle.site_opening.proofs.Fronts.{no_front}
+use Rattle.site_opening.proofs.descriptors.after_files.Goals as goal
 
 pub returns-in-None : goal.returns-in-None
 returns-in-None c =

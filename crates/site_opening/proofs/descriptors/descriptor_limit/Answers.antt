@@ -1,6 +1,6 @@
 use Rattle.std.proofs.Common.{Ok, Err, refl}
 use Rattle.site_opening.specs.declared.files.FileFault.TheVariants.{NoMemory}
-use Rattle.site_check.proofs.descriptors.limit_here.Goals as goal
+use Rattle.site_opening.proofs.descriptors.descriptor_limit.Goals as goal
 
 pub returns-in_ok-limit-in-Ok : goal.returns-in_ok-limit-in-Ok
 returns-in_ok-limit-in-Ok g c = (Ok c.as_str.result.now, c.in_ok-limit-in-Ok.ensures)
