@@ -8,7 +8,7 @@ import struct
 import threading
 import time
 
-from messages import LONGEST, Breaker, attributes, bombs, code_of, registration, services, types
+from messages import LONGEST, Breaker, attributes, bombs, code_of, registration, services, types, withdrawal
 from server import ASKED, ATTACKED, CONNECTIONS, ask, take
 
 WINDOW, WEIGHT, OVERHEAD = 64, 49152, 768  # what is sent before a question has to be answered: so no buffer of the system overflows
@@ -200,10 +200,12 @@ def in_one_piece(server, say):
     told, waits = Told(), []
     question = services("piece", predicate="(|" + "".join(f"(c={number})" for number in range(500)) + ")")
     with server.stream("127.0.2.1") as stream, server.datagrams("127.0.3.9") as asker:
-        for number in range(800):
-            stream.sendall(registration(f"piece:{number}", "piece", attrs="(a=1),(b=2)", lifetime=600))
+        there = 0
+        while there < 800:
+            stream.sendall(registration(f"piece:{there}", "piece", attrs="(a=1),(b=2)", lifetime=600))
             if told.reply(take(stream)) != 0:
                 break
+            there += 1
         alone = measured(stream, question)
         bound = PIECE_WAITS * alone + 0.05
         reader = threading.Thread(target=lambda: [told.reply(take(stream)) for _ in range(PIECE)])
@@ -216,6 +218,10 @@ def in_one_piece(server, say):
                 break
             waits.append(time.monotonic() - began)
         reader.join()
+        # they leave room for others
+        for number in range(there):
+            stream.sendall(withdrawal(f"piece:{number}"))
+            told.reply(take(stream))
     longest = max(waits, default=0.0)
     told.sent["questions in one piece"] += PIECE
     say(f"  {PIECE} questions of {alone * 1000:.1f} ms in one piece: the longest of {len(waits):,} datagrams beside them waited {longest * 1000:.1f} ms")
