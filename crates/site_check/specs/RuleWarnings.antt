@@ -8,8 +8,8 @@ use Rattle.access_rules.specs.Deciding.{SiteRules, action_eq, hides_in, rules_in
 use Rattle.access_rules.specs.declared.hide.Hide.{Hide}
 use Rattle.access_rules.specs.declared.rule.Action.TheVariants.{Register, See}
 use Rattle.access_rules.specs.declared.rule.Rule.{Rule}
-use Rattle.site_check.specs.Hiding.{hides}
 use Rattle.addresses.specs.declared.prefix.Prefix.{Prefix}
+use Rattle.site_check.specs.Hiding.{hides}
 use Rattle.site_check.specs.Lines.{Place, AnyType, At, File, Hidden, MoreBits, NoRules, NoScope, NoService, NoSight, NoType, warning_line}
 use Rattle.site_check.specs.declared.problem.Numbered.TheVariants as numbered
 
@@ -57,7 +57,7 @@ abbrev pub kind_line : Place → List Rule → Option (List ℕ) → List ℕ
 kind_line place rules None = []
 kind_line place rules (Some kind) = if may_stand rules (Some kind) then [] else warning_line place (NoType kind)
 
--- the same where the rule is about a type that it names
+-- a rule that names its type lets someone register some type that one of this type is about
 abbrev pub lets_named_stand : Option (List ℕ) → Rule → Bool
 lets_named_stand kind rule = is_some rule.kind && lets_stand kind rule
 
