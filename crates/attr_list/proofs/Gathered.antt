@@ -55,7 +55,7 @@ module _ {A : Type 0} where
       ] refl
 
   -- tests that answer alike keep the same
-  filter_alike : (p q : A → Bool) → ((x : A) → p x ≡ q x) → (xs : List A) → filter p xs ≡ filter q xs
+  pub filter_alike : (p q : A → Bool) → ((x : A) → p x ≡ q x) → (xs : List A) → filter p xs ≡ filter q xs
   filter_alike p q alike [] = refl
   filter_alike p q alike (x ∷ xs) = ap₂ (λ b ys. cond b (x ∷ ys) ys) (alike x) (filter_alike p q alike xs)
 

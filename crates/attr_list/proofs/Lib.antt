@@ -2,9 +2,8 @@ pub mod Combined
 pub mod CutTexts
 pub mod DistinctValues
 pub mod Gathered
-pub mod GatheredMaps
 pub mod InnerCharacters
-pub mod JoinedMaps
+pub mod JoinedElements
 pub mod KeptAttributes
 pub mod ListedTexts
 pub mod Meaning

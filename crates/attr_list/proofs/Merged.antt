@@ -16,7 +16,7 @@ use Rattle.attr_list.specs.Texts.{IsAttribute}
 use Rattle.attr_list.specs.declared.attrs.Attribute.{Attribute}
 use Rattle.attr_list.specs.declared.held.Held.{Held}
 use Rattle.attr_list.proofs.Combined.{below-missed, both_parts, equal, get-updated_attributes, same_attributes}
-use Rattle.attr_list.proofs.JoinedMaps.{both}
+use Rattle.attr_list.proofs.JoinedElements.{both}
 use Rattle.attr_list.proofs.SortedByKey.{less, ordered}
 use Rattle.attr_list.proofs.StoredAttributes.{get-stored}
 

@@ -1,12 +1,8 @@
 -- How elements are gathered by their tags.
-use Rattle.std.specs.Prelude.{◌≡◌, ℕ, ◌++◌, List, [], map, Option, Some, None, unwrap_or, vec_items, if◌then◌else◌}
-use Rattle.std.specs.BTreeMap as tree
-use Rattle.std.specs.BTreeMap.{BTreeMap}
+use Rattle.std.specs.Prelude.{◌≡◌, ℕ, ◌++◌, ◌∷◌, List, [], Option, Some, None, vec_items, if◌then◌else◌}
 use Rattle.std.specs.List.{list_any, AllByRecursion}
-use Rattle.std.specs.Option.{option_map}
-use Rattle.std.specs.declared.vec.Vec.{Vec}
 use Rattle.slp_text.specs.Keys.{key_of}
-use Rattle.slp_text.specs.Words.{bytes_cmp, bytes_eq}
+use Rattle.slp_text.specs.Words.{bytes_eq}
 use Rattle.attr_values.specs.declared.value.Value.{Value}
 use Rattle.attr_values.specs.declared.value.Value.TheVariants as value
 use Rattle.attr_list.specs.Elements.{Element}
@@ -38,18 +34,15 @@ IsIdentity i v = identity_value i ≡ common_value v
 abbrev pub AreRanked : List Value → List Ranked → Type 0
 AreRanked vs = AllByRecursion (λ r. IsIdentity r.identity (value_at vs r.place))
 
-module _ {A : Type 0} where
-  -- the values that were gathered of a tag, if it was named
-  abbrev pub values_at : BTreeMap (List ℕ) (Vec Value A) → List ℕ → Option (List Value)
-  values_at m tag = option_map vec_items (tree.get bytes_cmp m tag)
+-- elements with one more, whose values are added to those of the last, where both have one tag
+abbrev pub joined_with : List Element → Element → List Element
+joined_with [] e = e ∷ []
+joined_with (last ∷ []) e = if bytes_eq last.tag e.tag then record { tag = last.tag; values = last.values ++ e.values } ∷ [] else last ∷ e ∷ []
+joined_with (e₀ ∷ e₁ ∷ es) e = e₀ ∷ joined_with (e₁ ∷ es) e
 
-  -- what is held by each tag whose values were gathered
-  abbrev pub pairs_of : BTreeMap (List ℕ) (Vec Value A) → List (List ℕ × Held)
-  pairs_of m = map (λ p. (p.0, held_of (distinct_values (vec_items p.1)))) m.entries
-
--- the same with an element more
-abbrev pub values_with : (List ℕ → Option (List Value)) → Element → List ℕ → Option (List Value)
-values_with old e tag = if bytes_eq e.tag tag then Some (unwrap_or (old tag) [] ++ e.values) else old tag
+-- a tag, and what it holds of which these are all values
+abbrev pub pair_of : Element → List ℕ × Held
+pair_of e = (e.tag, held_of (distinct_values e.values))
 
 -- all values that elements give a tag, if one names it
 abbrev pub gathered_values : List Element → List ℕ → Option (List Value)

@@ -1,8 +1,8 @@
-ghost use Rattle.std.specs.Prelude.{◌≡◌, ℕ, List, map, IfOk};
-ghost use Rattle.std.specs.BTreeMap.{IsOrdered};
+ghost use Rattle.std.specs.Prelude.{◌≡◌, ℕ, List, [], map, fold, IfOk};
 ghost use Rattle.std.specs.List.{AllByRecursion};
+ghost use Rattle.std.specs.List.Sorted.{IsStrictlySortedBy};
 ghost use Rattle.slp_text.specs.Words.{bytes_cmp};
-ghost use Rattle.attr_list.specs.Gathering.{gathered_values, pairs_of, values_at, values_with};
+ghost use Rattle.attr_list.specs.Gathering.{gathered_values, joined_with, pair_of};
 ghost use Rattle.attr_list.specs.Lists as spec;
 ghost use Rattle.attr_list.specs.Lists.{attributes_of, distinct_values};
 ghost use Rattle.attr_list.specs.Pieces.{element_in, IsElement};
@@ -15,32 +15,45 @@ use crate::values::Values;
 use attr_values::Value;
 use slp_text::{Key, NoMemory};
 use std::alloc::Global;
-use std::collections::BTreeMap;
 
-// Adds the values of an element to those of its tag.
-fn add(
-    alloc: Global,
-    element: Element,
-    named: &mut BTreeMap<Key, Vec<Value>>,
-) -> Result<(), NoMemory>
-    ensures { IfOk result (λ _. (tag : List ℕ) → values_at named.new tag ≡ values_with (values_at named.old) (element_in element) tag) }
+// Adds an element: its values to those of the last, where both have one tag.
+fn add(element: Element, joined: &mut Vec<Element>) -> Result<(), NoMemory>
+    ensures { IfOk result (λ _. map element_in joined.new.items ≡ joined_with (map element_in joined.old.items) (element_in element)) }
 {
-    let Element { tag, mut values } = element;
-    let mut all = named.remove(&tag).unwrap_or(Vec::new(alloc));
-    all.append(&mut values)?;
-    named.insert(tag, all)?;
+    let Some(mut last) = joined.pop() else {
+        joined.push(element)?;
+        return Ok(());
+    };
+    if last.tag != element.tag {
+        joined.push(last)?;
+        joined.push(element)?;
+        return Ok(());
+    }
+    let Element { tag: _, mut values } = element;
+    last.values.append(&mut values)?;
+    joined.push(last)?;
     Ok(())
 }
 
-// All values of each tag.
-fn gather(alloc: Global, elements: Vec<Element>) -> Result<BTreeMap<Key, Vec<Value>>, NoMemory>
-    ensures { IfOk result (λ m. (tag : List ℕ) → values_at m tag ≡ gathered_values (map element_in elements.items) tag) }
+// The elements, with neighbours of one tag as one.
+fn join_neighbours(alloc: Global, elements: Vec<Element>) -> Result<Vec<Element>, NoMemory>
+    ensures { IfOk result (λ v. map element_in v.items ≡ fold joined_with [] (map element_in elements.items)) }
 {
-    let mut named = BTreeMap::new(alloc);
+    let mut joined = Vec::with_capacity(alloc, elements.len())?;
     for element in elements {
-        add(alloc, element, &mut named)?;
+        add(element, &mut joined)?;
     }
-    Ok(named)
+    Ok(joined)
+}
+
+// The elements in the order of their tags, those of one tag as one.
+fn gather(alloc: Global, elements: Vec<Element>) -> Result<Vec<Element>, NoMemory>
+    ensures values { IfOk result (λ v. (tag : List ℕ) → gathered_values (map element_in v.items) tag ≡ gathered_values (map element_in elements.items) tag) }
+    ensures rises { IfOk result (λ v. IsStrictlySortedBy bytes_cmp (map (λ e. e.tag) v.items)) }
+{
+    let mut ordered = elements;
+    ordered.sort_by(|a, b| a.tag.cmp(&b.tag))?;
+    join_neighbours(alloc, ordered)
 }
 
 // What a tag holds of which these are all values: each once, and none of a keyword.
@@ -53,13 +66,13 @@ fn held_of(alloc: Global, values: Vec<Value>) -> Result<Held, NoMemory>
     Ok(Held::Values(Values::distinct(alloc, values)?))
 }
 
-// What each tag holds, in key order.
-fn settle(alloc: Global, named: BTreeMap<Key, Vec<Value>>) -> Result<Vec<Attribute>, NoMemory>
-    ensures value { IfOk result (λ v. pairs_in v.items ≡ pairs_of named) }
-    ensures ordered { IsOrdered bytes_cmp named }
+// What each element holds.
+fn settle(alloc: Global, elements: Vec<Element>) -> Result<Vec<Attribute>, NoMemory>
+    ensures { IfOk result (λ v. pairs_in v.items ≡ map pair_of (map element_in elements.items)) }
 {
-    let mut settled = Vec::with_capacity(alloc, named.len())?;
-    for (tag, values) in named {
+    let mut settled = Vec::with_capacity(alloc, elements.len())?;
+    for element in elements {
+        let Element { tag, values } = element;
         let held = held_of(alloc, values)?;
         settled.push(Attribute { tag, held })?;
     }
@@ -75,7 +88,7 @@ pub fn join(alloc: Global, elements: Vec<Element>) -> Result<Attrs, NoMemory>
     if elements.is_empty() {
         return Ok(Attrs::of(Vec::new(alloc)));
     }
-    let named = gather(alloc, elements)?;
-    let entries = settle(alloc, named)?;
+    let gathered = gather(alloc, elements)?;
+    let entries = settle(alloc, gathered)?;
     Ok(Attrs::of(entries))
 }

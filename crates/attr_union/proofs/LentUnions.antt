@@ -13,16 +13,18 @@ use Rattle.std.proofs.lemmas.Option.{slice_get-map}
 use Rattle.slp_text.specs.Words.{bytes_cmp, bytes_eq}
 use Rattle.attr_values.specs.declared.value.Value.{Value}
 use Rattle.attr_list.specs.Elements.{Element}
-use Rattle.attr_list.specs.Gathering.{gathered_values, pairs_of, values_at}
+use Rattle.attr_list.specs.Gathering.{gathered_values}
 use Rattle.attr_list.specs.Lists.{Attributes, attributes_of, values_named}
 use Rattle.attr_list.specs.Pieces.{IsElement}
 use Rattle.attr_list.specs.Texts.{IsAttribute}
 use Rattle.attr_list.specs.declared.held.Held.{Held}
 use Rattle.attr_list.proofs.Gathered.{AreKinds, attributes_of-kinds, get-attributes_of}
-use Rattle.attr_list.proofs.JoinedMaps.{find_entries, given_values, settled, sorted_entries}
+use Rattle.attr_list.proofs.JoinedElements.{given_values, settled}
 use Rattle.attr_list.proofs.SortedByKey.{ordered}
+use Rattle.attr_union.specs.Gathering.{pairs_of, values_at}
 use Rattle.attr_union.specs.Unions.{joined_pair, union_of, IsUnion}
 use Rattle.attr_union.specs.declared.gathering.Joined.{Joined}
+use Rattle.attr_union.proofs.GatheredMaps.{find_entries, sorted_entries}
 
 kinds : (es : List Element) → AllByRecursion IsElement es → AreKinds es
 kinds [] h = tt

@@ -1,4 +1,5 @@
 pub mod FirstValues
+pub mod GatheredMaps
 pub mod KeptPieces
 pub mod LentUnions
 pub mod LentValues

@@ -1,2 +1,3 @@
-pub mod Unions
+pub mod Gathering
 pub mod Rooms
+pub mod Unions

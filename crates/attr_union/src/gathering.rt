@@ -2,7 +2,8 @@
 ghost use Rattle.std.specs.Prelude.{◌≡◌, ◌++◌, ℕ, List, map, IfOk};
 ghost use Rattle.std.specs.BTreeMap.{IsOrdered};
 ghost use Rattle.slp_text.specs.Words.{bytes_cmp};
-ghost use Rattle.attr_list.specs.Gathering.{gathered_values, pairs_of, values_at, values_with};
+ghost use Rattle.attr_list.specs.Gathering.{gathered_values};
+ghost use Rattle.attr_union.specs.Gathering.{pairs_of, values_at, values_with};
 ghost use Rattle.attr_union.specs.Unions.{joined_pair, piece_element};
 
 use crate::lent::{LentTag, LentValue};

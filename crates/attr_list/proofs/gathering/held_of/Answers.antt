@@ -1,7 +1,7 @@
 use Rattle.std.proofs.Common.{◌≡◌, ◌∙◌, [], sym, ap, length, rules}
 use Rattle.std.specs.Prelude.{◌==◌, vec_len}
 use mathlib.Core.Bool.{true≢false}
-use Rattle.attr_list.proofs.GatheredMaps.{held_some}
+use Rattle.attr_list.proofs.JoinedElements.{held_some}
 use Rattle.attr_list.proofs.gathering.held_of.Goals as goal
 
 pub returns : goal.returns

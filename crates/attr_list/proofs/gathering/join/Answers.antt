@@ -5,7 +5,7 @@ use mathlib.Core.Bool.{true≢false}
 use Rattle.attr_list.specs.Lists.{attributes_of}
 use Rattle.attr_list.specs.Pieces.{element_in}
 use Rattle.attr_list.specs.Stored.{attributes_stored, AreStored}
-use Rattle.attr_list.proofs.JoinedMaps.{joined-is, joined-stored, none-joined}
+use Rattle.attr_list.proofs.JoinedElements.{joined-is, joined-stored, none-joined}
 use Rattle.attr_list.proofs.gathering.join.Goals as goal
 
 positive : (n : ℕ) → 0 < n → (n == 0) ≡ false
@@ -26,8 +26,8 @@ returns-then-is_empty c =
 
 pub of-requires-2 : goal.of-requires-2
 of-requires-2 c =
-    joined-stored c.args.elements.items c.in_ok-named.named c.in_ok-entries.entries.items c.requires c.in_ok-named.ensures c.in_ok-entries.ensures.ordered c.in_ok-entries.ensures.value
+    joined-stored c.args.elements.items c.in_ok-gathered.gathered.items c.in_ok-entries.entries.items c.requires c.in_ok-gathered.ensures.values c.in_ok-gathered.ensures.rises c.in_ok-entries.ensures
 
 pub returns : goal.returns
 returns c =
-    c.of-2.ensures ∙ joined-is c.args.elements.items c.in_ok-named.named c.in_ok-entries.entries.items c.requires c.in_ok-named.ensures c.in_ok-entries.ensures.ordered c.in_ok-entries.ensures.value
+    c.of-2.ensures ∙ joined-is c.args.elements.items c.in_ok-gathered.gathered.items c.in_ok-entries.entries.items c.requires c.in_ok-gathered.ensures.values c.in_ok-gathered.ensures.rises c.in_ok-entries.ensures

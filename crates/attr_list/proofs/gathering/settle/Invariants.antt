@@ -1,9 +1,9 @@
 use Rattle.std.proofs.Common.{◌≡◌, map}
-use Rattle.std.specs.Prelude.{vec_items}
-use Rattle.attr_list.specs.Lists.{distinct_values, held_of}
+use Rattle.attr_list.specs.Gathering.{pair_of}
+use Rattle.attr_list.specs.Pieces.{element_in}
 use Rattle.attr_list.specs.Stored.{pairs_in}
 use Rattle.attr_list.proofs.gathering.settle.Given as goal
 
--- what each tag holds so far
-abbrev pub invariant-loop-tag : goal.invariant-loop-tag
-invariant-loop-tag l = pairs_in l.settled.items ≡ map (λ p. (p.0, held_of (distinct_values (vec_items p.1)))) l.yielded
+-- what each of those so far holds
+abbrev pub invariant-loop-element : goal.invariant-loop-element
+invariant-loop-element l = pairs_in l.settled.items ≡ map pair_of (map element_in l.yielded)

@@ -1,7 +1,6 @@
-use Rattle.std.proofs.Common.{◌≡◌, ◌∙◌, rules, ap, sym, subst, map, length, true}
+use Rattle.std.proofs.Common.{◌≡◌, ◌∙◌, rules, ap, subst, map, length, true}
 use Rattle.std.specs.List.{AllAdjacentBelow}
 use Rattle.std.specs.Ordering.{is_lt}
-use Rattle.attr_list.specs.declared.order.Ranked.{Ranked}
 use Rattle.attr_list.proofs.DistinctValues.{identity_cmp}
 use Rattle.attr_list.proofs.OrderedValues.{apart-kept, order-is, rising-by, sorted-by}
 use Rattle.attr_list.proofs.order.order_of.Goals as goal

@@ -9,8 +9,8 @@ use Rattle.std.specs.declared.vec.Vec.{Vec}
 use Rattle.slp_text.specs.Words.{bytes_cmp, bytes_eq}
 use Rattle.slp_text.proofs.KeySets.{bytes_same}
 use Rattle.attr_values.specs.declared.value.Value.{Value}
-use Rattle.attr_list.specs.Gathering.{values_at, values_with}
 use Rattle.attr_list.specs.Lists.{values_in}
+use Rattle.attr_union.specs.Gathering.{values_at, values_with}
 use Rattle.attr_union.proofs.gathering.add.Goals as goal
 
 -- a tag has these values more

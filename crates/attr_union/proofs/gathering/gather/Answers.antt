@@ -1,5 +1,5 @@
 use Rattle.attr_union.specs.Unions.{piece_element}
-use Rattle.attr_list.proofs.GatheredMaps.{gathered-next}
+use Rattle.attr_union.proofs.GatheredMaps.{gathered-next}
 use Rattle.attr_union.proofs.gathering.gather.Goals as goal
 
 pub loop-piece-preserved : goal.loop-piece-preserved

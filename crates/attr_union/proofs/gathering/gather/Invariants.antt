@@ -1,5 +1,6 @@
 use Rattle.std.proofs.Common.{◌≡◌, ℕ, List, map}
-use Rattle.attr_list.specs.Gathering.{gathered_values, values_at}
+use Rattle.attr_list.specs.Gathering.{gathered_values}
+use Rattle.attr_union.specs.Gathering.{values_at}
 use Rattle.attr_union.specs.Unions.{piece_element}
 use Rattle.attr_union.proofs.gathering.gather.Given as goal
 

@@ -3,7 +3,7 @@ use Rattle.std.specs.Prelude.{◌==◌, string_bytes}
 use mathlib.Core.Bool.{true≢false}
 use Rattle.std.proofs.lemmas.Result.{IfOk-weaker}
 use Rattle.attr_list.specs.Texts.{attribute_text}
-use Rattle.attr_list.proofs.GatheredMaps.{held_some}
+use Rattle.attr_list.proofs.JoinedElements.{held_some}
 use Rattle.attr_list.specs.declared.held.Held.TheVariants as held
 use Rattle.attr_union.specs.Rooms.{IsWrittenWithin}
 use Rattle.attr_union.proofs.FirstValues.{written-within}

@@ -1,42 +1,25 @@
--- Values that are gathered by their tags.
-use Rattle.std.proofs.Common.{◌≡◌, ℕ, Bool, true, false, cond, List, [], ◌∷◌, ◌++◌, map, Option, Some, None, refl, sym, ap, ap₂, ◌∙◌, append-nil}
+-- Values that are gathered by their tags, and settled in key order.
+use Rattle.std.proofs.Common.{◌≡◌, ℕ, Bool, true, false, cond, T, List, [], ◌∷◌, ◌++◌, map, Some, None, refl, sym, ap, ap₂, subst, ◌∙◌, append-nil}
 use Rattle.std.specs.Prelude.{◌||◌, if◌then◌else◌, unwrap_or, vec_items}
-use Rattle.std.specs.BTreeMap as tree
-use Rattle.std.specs.BTreeMap.{BTreeMap}
-use Rattle.std.specs.Cmp.Lexicographic.{texts_ties}
-use Rattle.std.specs.List.{list_any}
+use Rattle.std.specs.BTreeMap.{BTreeMap, is_at}
+use Rattle.std.specs.FinMap as fin
+use Rattle.std.specs.FinMap.Entries.{below_all}
+use Rattle.std.specs.List.{AllByRecursion, list_any}
+use Rattle.std.specs.List.Sorted.{IsStrictlySortedBy}
+use Rattle.std.specs.Map.{keys_of, lookup}
 use Rattle.std.specs.Option.{option_map}
-use Rattle.std.specs.Ordering.{is_eq}
+use Rattle.std.specs.Ordering.{is_eq, is_lt}
+use Rattle.std.specs.declared.cmp.Ordering.TheVariants.{Less}
 use Rattle.std.specs.declared.vec.Vec.{Vec}
 use Rattle.std.proofs.lemmas.Grind.{flat_map-append}
 use Rattle.std.proofs.lemmas.List.Folds.{list_any-append}
 use Rattle.slp_text.specs.Words.{bytes_cmp, bytes_eq}
-use Rattle.slp_text.proofs.KeySets.{bytes_same}
 use Rattle.attr_values.specs.declared.value.Value.{Value}
 use Rattle.attr_list.specs.Elements.{Element}
-use Rattle.attr_list.specs.Gathering.{gathered_values, values_at, values_with}
-use Rattle.attr_list.specs.Lists.{distinct_values, held_of, values_named}
-use Rattle.attr_list.specs.declared.held.Held.TheVariants.{Values}
-
--- ---- one element more
-
--- the values of a tag are taken out, and put back with those of an element
-module _ {A : Type 0} (old mid new : BTreeMap (List ℕ) (Vec Value A)) (tag : List ℕ) (values : List Value) (all : Vec Value A) (out : (q : List ℕ) → tree.get bytes_cmp mid q ≡ cond (is_eq (bytes_cmp tag q)) None (tree.get bytes_cmp old q)) (back : (q : List ℕ) → tree.get bytes_cmp new q ≡ cond (is_eq (bytes_cmp tag q)) (Some all) (tree.get bytes_cmp mid q)) (joined : vec_items all ≡ unwrap_or (values_at old tag) [] ++ values) where
-  at_tag : (q : List ℕ) (b : Bool) → bytes_eq tag q ≡ b → option_map vec_items (cond b (Some all) (cond b None (tree.get bytes_cmp old q))) ≡ cond b (Some (unwrap_or (values_at old q) [] ++ values)) (values_at old q)
-  at_tag q true e = ap Some (joined ∙ ap (λ t. unwrap_or (values_at old t) [] ++ values) (bytes_same tag q e))
-  at_tag q false e = refl
-
-  pub added : (q : List ℕ) → values_at new q ≡ values_with (values_at old) (record { tag = tag; values = values }) q
-  added q =
-      let ties = sym (texts_ties tag q) in
-      ap (option_map vec_items) (back q ∙ ap₂ (λ b o. cond b (Some all) o) ties (out q ∙ ap (λ b. cond b None (tree.get bytes_cmp old q)) ties)) ∙ at_tag q (bytes_eq tag q) refl
-
--- the items of what was there, or of none
-pub items_or : {A : Type 0} (o : Option (Vec Value A)) (none : Vec Value A) → vec_items none ≡ [] → vec_items (unwrap_or o none) ≡ unwrap_or (option_map vec_items o) []
-items_or None none e = e
-items_or (Some v) none e = refl
-
--- ---- all elements
+use Rattle.attr_list.specs.Gathering.{gathered_values}
+use Rattle.attr_list.specs.Lists.{values_named}
+use Rattle.attr_list.proofs.JoinedElements.{both, settled}
+use Rattle.attr_union.specs.Gathering.{values_at, values_with}
 
 unnamed : (tag : List ℕ) (es : List Element) → list_any (λ e. bytes_eq e.tag tag) es ≡ false → values_named tag es ≡ []
 unnamed tag [] h = refl
@@ -71,7 +54,22 @@ gathered-next f done x old new before after tag =
     after tag ∙ ap (λ o. cond (bytes_eq (f x).tag tag) (Some (unwrap_or o [] ++ (f x).values)) o) (before tag)
     ∙ sym (ap (λ es. gathered_values es tag) (map-one f done x) ∙ gathered-more (map f done) (f x) tag)
 
--- values of which there are some are held
-pub held_some : (vs kept : List Value) → (vs ≡ [] → ⊥) → kept ≡ distinct_values vs → Values kept ≡ held_of (distinct_values vs)
-held_some [] kept some e = absurd (some refl)
-held_some (v ∷ vs) kept some e = ap Values e
+-- ---- settled in key order
+
+module _ {A : Type 0} where
+  below : (x : List ℕ) (es : List (List ℕ × Vec Value A)) → AllByRecursion (λ y. bytes_cmp x y ≡ Less) (keys_of es) → T (below_all bytes_cmp x (map (λ p. (p.0, settled (vec_items p.1))) es))
+  below x [] h = tt
+  below x (e ∷ es) h = both (is_lt (bytes_cmp x e.0)) _ (subst (λ o. T (is_lt o)) (sym h.0) tt) (below x es h.1)
+
+  pub sorted_entries : (es : List (List ℕ × Vec Value A)) → IsStrictlySortedBy bytes_cmp (keys_of es) → T (fin.is_sorted bytes_cmp (map (λ p. (p.0, settled (vec_items p.1))) es))
+  unfolding IsStrictlySortedBy
+  sorted_entries [] h = tt
+  sorted_entries (e ∷ es) h = both (below_all bytes_cmp e.0 (map (λ p. (p.0, settled (vec_items p.1))) es)) _ (below e.0 es h.0) (sorted_entries es h.1)
+
+  pub find_entries : (q : List ℕ) (es : List (List ℕ × Vec Value A)) → fin.find bytes_cmp q (map (λ p. (p.0, settled (vec_items p.1))) es) ≡ option_map settled (option_map vec_items (lookup (is_at (bytes_cmp q)) es))
+  find_entries q [] = refl
+  find_entries q (e ∷ es) =
+      elim (is_eq (bytes_cmp q e.0)) as (λ b. cond b (Some (settled (vec_items e.1))) (fin.find bytes_cmp q (map (λ p. (p.0, settled (vec_items p.1))) es)) ≡ option_map settled (option_map vec_items (cond b (Some e.1) (lookup (is_at (bytes_cmp q)) es)))) [
+        | true ↦ refl
+        | false ↦ find_entries q es
+      ]
