@@ -1,5 +1,5 @@
 //! Lines on their way to the thread that writes them.
-ghost use Rattle.std.specs.Prelude.{◌≡◌, ◌+◌, ◌≤◌, ◌↔◌, ◌++◌, [], length, slice_get, Some, IsTrue, IsFalse, IfOk};
+ghost use Rattle.std.specs.Prelude.{◌≡◌, ◌+◌, ◌≤◌, ◌↔◌, ◌++◌, [], length, slice_get, slice_set, Some, IsTrue, IsFalse, IfOk};
 ghost use Rattle.slp_loops.specs.Queues.{most_waiting, share_of, HasNone, IsOpen};
 
 use crate::log::{Log, SharedOutput, write_out};
@@ -70,6 +70,7 @@ impl Handed {
     fn add(&mut self, place: usize, lines: &[u8]) -> bool
         ensures added { IsTrue result → self.new.lines ≡ self.old.lines ++ lines.now }
         ensures share { IsTrue result → slice_get self.new.shares place ≡ Some (share_of self.old place + length lines.now) }
+        ensures others { IsTrue result → self.new.shares ≡ slice_set self.old.shares place (share_of self.old place + length lines.now) }
         ensures within { IsTrue result → share_of self.old place + length lines.now ≤ most_waiting }
         ensures kept { IsFalse result → self.new ≡ self.old }
     {
