@@ -1,6 +1,7 @@
 pub mod Checks
 pub mod ConfigFaults
 pub mod Descriptors
+pub mod Elements
 pub mod Hiding
 pub mod Lines
 pub mod ListenWarnings

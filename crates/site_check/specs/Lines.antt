@@ -60,6 +60,10 @@ pub data Problem : Type 0 where
   Missing : List ℕ → Problem
   -- a key, and what its value is not
   Value : List ℕ → List ℕ → Problem
+  -- an element by its number, of a key, and what it is not
+  Element : ℕ → List ℕ → List ℕ → Problem
+  -- an element that is there before: its number, the key, and the number of that one
+  Again : ℕ → List ℕ → ℕ → Problem
   TooManyRules : Problem
   TooManyTogether : Problem
   NotTable : Problem
@@ -75,6 +79,8 @@ problem_in (lent_problem.EarlyKey key) = EarlyKey key.now
 problem_in lent_problem.EarlyHides = EarlyHides
 problem_in (lent_problem.Missing key) = Missing key.now
 problem_in (lent_problem.Value key refusal) = Value key.now refusal.now
+problem_in (lent_problem.Element number key refusal) = Element number key.now refusal.now
+problem_in (lent_problem.Again number key other) = Again number key.now other
 problem_in lent_problem.TooManyRules = TooManyRules
 problem_in lent_problem.TooManyTogether = TooManyTogether
 problem_in lent_problem.NotTable = NotTable
@@ -90,6 +96,8 @@ problem_text (EarlyKey key) = key ++ codes " needs version 2"
 problem_text EarlyHides = codes "hide tables need version 3"
 problem_text (Missing key) = key ++ codes " is missing"
 problem_text (Value key refusal) = key ++ codes " is " ++ refusal
+problem_text (Element number key refusal) = codes "element " ++ decimal number ++ codes " of " ++ key ++ codes " is " ++ refusal
+problem_text (Again number key other) = codes "element " ++ decimal number ++ codes " of " ++ key ++ codes " is element " ++ decimal other ++ codes " again"
 problem_text TooManyRules = codes "more than 1024 rules"
 problem_text TooManyTogether = codes "more than 1024 rules and hide tables"
 problem_text NotTable = codes "not a table"

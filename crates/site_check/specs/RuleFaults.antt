@@ -1,13 +1,14 @@
 -- What is wrong with a table as a rule file.
-use Rattle.std.specs.Prelude.{ℕ, ◌+◌, Bool, true, false, List, [], ◌++◌, codes, find, length, nat_lt, take, Option, Some, None, is_some, unwrap_or, if◌then◌else◌, option_and_then}
+use Rattle.std.specs.Prelude.{ℕ, ◌+◌, Bool, true, false, List, [], ◌++◌, codes, find, length, nat_lt, take, Option, Some, None, is_some, if◌then◌else◌, option_and_then}
 use Rattle.std.specs.List.{enumerate_from, flat_map}
 use Rattle.std.specs.Option.{option_map, option_map_or}
 use Rattle.toml.specs.Data.{Data, as_table, Members, get_member}
 use Rattle.slp_text.specs.Words.{bytes_eq}
 use Rattle.rule_files.specs.RuleFiles.{hide_key, is_plain_file_key, name_key, rule_key, version_in, version_key}
-use Rattle.toml_tables.specs.Tables.{array_values, is_some_list, keys_of, text_at, values_at}
+use Rattle.toml_tables.specs.Tables.{array_values, is_some_list, keys_of, text_at}
 use Rattle.rule_files.specs.declared.version.Version.{Version}
 use Rattle.rule_files.specs.declared.version.Version.TheVariants.{One, Two, Three}
+use Rattle.site_check.specs.Elements.{elements_at}
 use Rattle.site_check.specs.Lines.{At, EarlyHides, File, Missing, Place, Problem, SameName, TooManyRules, TooManyTogether, UnknownKey, Value, problem_line}
 use Rattle.site_check.specs.declared.problem.Numbered.{Numbered}
 use Rattle.site_check.specs.declared.problem.Numbered.TheVariants.{Rule, Hide}
@@ -80,10 +81,6 @@ abbrev pub array_line : List ℕ → Members → List ℕ → List ℕ
 array_line file table key =
     option_map_or (λ d. option_map_or (λ ds. []) (array_values d) (problem_line (File file) (Value key (codes "not an array of tables")))) (get_member key table) []
 
--- the values of the array at a key; none where there is none
-abbrev pub array_at : List ℕ → Members → List Data
-array_at key table = unwrap_or (values_at key table) []
-
 abbrev pub too_many : List Data → Problem
 too_many hides = if is_some_list hides then TooManyTogether else TooManyRules
 
@@ -100,7 +97,7 @@ rule_table_lines file table =
     ++ flat_map (file_key_line file (version_in table)) (keys_of table)
     ++ array_line file table rule_key
     ++ array_line file table hide_key
-    ++ all_lines file (version_in table) (array_at rule_key table) (array_at hide_key table)
+    ++ all_lines file (version_in table) (elements_at rule_key table) (elements_at hide_key table)
 
 -- what is wrong with a text as a rule file; where it is no TOML, reading it stops so
 abbrev pub rule_file_lines : List ℕ → List ℕ → Stop → List ℕ

@@ -8,6 +8,7 @@ use Rattle.rule_files.specs.RuleFiles.{action_in, action_key, from_in, from_key,
 use Rattle.toml_tables.specs.Tables.{keys_of}
 use Rattle.rule_files.specs.declared.version.Version.{Version}
 use Rattle.rule_files.specs.declared.version.Version.TheVariants.{One, Two, Three}
+use Rattle.site_check.specs.Elements.{elements_at, prefix_lines}
 use Rattle.site_check.specs.Lines.{EarlyKey, Missing, NotTable, Place, Problem, UnknownKey, Value, problem_line}
 use Rattle.site_check.specs.declared.rule_keys.Keys as lent
 use Rattle.site_check.specs.declared.rule_keys.RuleKey.{RuleKey}
@@ -53,8 +54,20 @@ stands SpareOwner table = is_some (spare_owner_in table)
 abbrev pub key_problem : Members → RuleKey → Problem
 key_problem table key = option_map_or (λ d. Value (key_text key) (key_refusal key)) (get_member (key_text key) table) (Missing (key_text key))
 
+-- which elements of what stands at the key are wrong
+abbrev pub part_lines : Place → Members → RuleKey → List ℕ
+part_lines place table From = prefix_lines place (elements_at from_key table)
+part_lines place table Name = []
+part_lines place table Action = []
+part_lines place table Kind = []
+part_lines place table Scopes = []
+part_lines place table Verdict = []
+part_lines place table Owner = []
+part_lines place table Tags = []
+part_lines place table SpareOwner = []
+
 abbrev pub key_line : Place → Members → RuleKey → List ℕ
-key_line place table key = if stands key table then [] else problem_line place (key_problem table key)
+key_line place table key = if stands key table then [] else problem_line place (key_problem table key) ++ part_lines place table key
 
 -- ---- the keys of a rule or of a hide table
 

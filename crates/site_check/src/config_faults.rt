@@ -5,15 +5,31 @@ ghost use Rattle.toml.specs.Errors.{IsMemory, span_start};
 ghost use Rattle.toml.specs.View.{table_view, view};
 ghost use Rattle.toml_tables.specs.Tables as tables;
 ghost use Rattle.site_config.specs.Tables.{members_in};
-ghost use Rattle.site_check.specs.ConfigFaults.{config_lines, config_table_lines, key_line, unknown_line};
+ghost use Rattle.site_check.specs.ConfigFaults.{config_lines, config_table_lines, key_line, part_lines, unknown_line};
 ghost use Rattle.site_check.specs.NotToml.{AppendsStopped, Stop, not_toml_line};
 
+use crate::elements::{elements_of, explain_listen};
 use crate::fault::CheckFault;
 use crate::problem::{FileText, LONGEST_TEXT, Place, Problem, line_at, report};
 use site_config::{CONFIG_KEYS, ConfigFault, ConfigKey, keys};
 use std::alloc::Global;
 use std::io::{self, Write};
 use toml::{Table, Value};
+
+// Writes which elements of the value of a key are wrong.
+fn explain_parts<W: Write>(
+    file: &str,
+    key: ConfigKey,
+    table: &Value,
+    writer: &mut W,
+) -> io::Result<()>
+    ensures { OnOk result (Appends (W.contents writer.old) (W.contents writer.new) (part_lines file.now (members_in (view table.now)) key)) }
+{
+    match key {
+        ConfigKey::Listen => explain_listen(file, elements_of(table.get("listen")), writer),
+        _ => Ok(()),
+    }
+}
 
 // Writes what is wrong with the value of a key, if anything is.
 fn explain_key<W: Write>(
@@ -33,6 +49,7 @@ fn explain_key<W: Write>(
         Some(ConfigFault::Range | ConfigFault::Toml) => Problem::Value(text, refusal),
     };
     report(Place::File(file), problem, writer)?;
+    explain_parts(file, key, table, writer)?;
     Ok(())
 }
 

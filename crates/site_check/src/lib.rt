@@ -3,6 +3,7 @@
 
 mod config_faults;
 mod descriptors;
+mod elements;
 mod fault;
 mod hiding;
 pub mod laws;

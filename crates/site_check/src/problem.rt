@@ -80,6 +80,10 @@ pub(crate) enum Problem<'a> {
     Missing(&'a str),
     /// A key, and what its value is not.
     Value(&'a str, &'a str),
+    /// An element by its number, of a key, and what it is not.
+    Element(usize, &'a str, &'a str),
+    /// An element that is there before: its number, the key, and the number of that one.
+    Again(usize, &'a str, usize),
     TooManyRules,
     TooManyTogether,
     NotTable,
@@ -106,6 +110,12 @@ fn print_problem<W: Write>(problem: Problem<'_>, writer: &mut W) -> io::Result<(
         Problem::EarlyHides => write!(writer, "hide tables need version 3"),
         Problem::Missing(key) => write!(writer, "{key} is missing"),
         Problem::Value(key, refusal) => write!(writer, "{key} is {refusal}"),
+        Problem::Element(number, key, refusal) => {
+            write!(writer, "element {number} of {key} is {refusal}")
+        }
+        Problem::Again(number, key, other) => {
+            write!(writer, "element {number} of {key} is element {other} again")
+        }
         Problem::TooManyRules => write!(writer, "more than 1024 rules"),
         Problem::TooManyTogether => write!(writer, "more than 1024 rules and hide tables"),
         Problem::NotTable => write!(writer, "not a table"),

@@ -11,6 +11,7 @@ ghost use Rattle.site_check.specs.RuleFaults as spec;
 ghost use Rattle.site_check.specs.RuleFaults.{all_lines, array_line, file_key_line, has_name, hide_lines, name_given, name_line, rule_file_lines, rule_lines, rule_table_lines, version_line};
 
 use crate::config_faults::explain_toml;
+use crate::elements::elements_at;
 use crate::fault::CheckFault;
 use crate::problem::{FileText, LONGEST_TEXT, Numbered, Place, Problem, report};
 use crate::rule_keys::{explain_value, hide_keys, keys_of};
@@ -222,19 +223,6 @@ fn explain_file_keys<W: Write>(
     Ok(())
 }
 
-// The values of the array at a key; none where there is none.
-fn array_at<'a>(table: &'a Table, key: &str) -> &'a [Value]
-    ensures { map view result.now ≡ spec.array_at key.now (table_view table.now) }
-{
-    match value_at(table, key) {
-        Some(value) => match array_values(value) {
-            Some(values) => values,
-            None => &[],
-        },
-        None => &[],
-    }
-}
-
 // Writes that what stands at a key is no array, where that is so.
 fn explain_array<W: Write>(file: &str, table: &Table, key: &str, writer: &mut W) -> io::Result<()>
     ensures { OnOk result (Appends (W.contents writer.old) (W.contents writer.new) (array_line file.now (table_view table.now) key.now)) }
@@ -296,9 +284,9 @@ fn explain_table<W: Write>(
     explain_array(path, table, "hide", writer)?;
     let file = RuleFile {
         path,
-        rules: array_at(table, "rule"),
+        rules: elements_at(table, "rule"),
     };
-    let hides = array_at(table, "hide");
+    let hides = elements_at(table, "hide");
     explain_all(alloc, version, file, hides, writer)
 }
 

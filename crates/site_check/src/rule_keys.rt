@@ -6,8 +6,9 @@ ghost use Rattle.toml.specs.View.{table_view, view};
 ghost use Rattle.toml_tables.specs.Tables as tables;
 ghost use Rattle.site_check.specs.Lines.{place_in, problem_in};
 ghost use Rattle.site_check.specs.RuleKeys as spec;
-ghost use Rattle.site_check.specs.RuleKeys.{key_line, key_refusal, key_text, keys_in, other_line, rule_keys, table_lines, value_lines};
+ghost use Rattle.site_check.specs.RuleKeys.{key_line, key_refusal, key_text, keys_in, other_line, part_lines, rule_keys, table_lines, value_lines};
 
+use crate::elements::{elements_at, explain_from};
 use crate::fault::CheckFault;
 use crate::problem::{Place, Problem, report};
 use rule_files::{Version, fields};
@@ -122,6 +123,21 @@ impl RuleKey {
         }
     }
 
+    // Writes which elements of what stands at the key are wrong.
+    fn explain_parts<W: Write>(
+        self,
+        place: Place<'_>,
+        table: &Table,
+        writer: &mut W,
+    ) -> io::Result<()>
+        ensures { OnOk result (Appends (W.contents writer.old) (W.contents writer.new) (part_lines (place_in place.entry) (table_view table.now) self)) }
+    {
+        match self {
+            RuleKey::From => explain_from(place, elements_at(table, "from"), writer),
+            _ => Ok(()),
+        }
+    }
+
     // Writes what is wrong with what stands at the key, if anything is.
     fn explain<W: Write>(
         self,
@@ -141,6 +157,7 @@ impl RuleKey {
             Some(_) => Problem::Value(text, refusal),
         };
         report(place, problem, writer)?;
+        self.explain_parts(place, table, writer)?;
         Ok(())
     }
 }

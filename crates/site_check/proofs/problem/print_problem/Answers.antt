@@ -1,3 +1,4 @@
+use Rattle.std.proofs.Common.{append_assoc}
 use Rattle.site_check.proofs.Written.{written_after}
 use Rattle.site_check.proofs.problem.print_problem.Goals as goal
 
@@ -24,3 +25,6 @@ returns-in-SameName g c = rw c.in-SameName.is c.write-in-SameName.ensures.bytes
 
 pub returns-in-SameType : goal.returns-in-SameType
 returns-in-SameType g c = rw c.in-SameType.is c.write-in-SameType.ensures.bytes
+
+pub returns-in-Again : goal.returns-in-Again
+returns-in-Again g c = rw c.in-Again.is (simp append_assoc c.write-in-Again.ensures.bytes)
