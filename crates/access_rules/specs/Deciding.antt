@@ -15,6 +15,7 @@ use Rattle.addresses.specs.Addresses.{holds}
 use Rattle.access_rules.specs.declared.rule.Rule.{Rule}
 use Rattle.access_rules.specs.declared.rules.Verdict.{Verdict}
 
+-- two actions are the same
 abbrev pub action_eq : Action → Action → Bool
 action_eq Register Register = true
 action_eq Withdraw Withdraw = true
@@ -43,6 +44,7 @@ pub record Deed : Type 0 where
   pub kind : List ℕ
   pub registrant : ℕ
 
+-- an action that an asker asks for, on a type, and who registered what it is about
 abbrev pub deed : ℕ → Action → List ℕ → ℕ → Deed
 deed asker action kind registrant = record { asker = asker; action = action; kind = kind; registrant = registrant }
 
@@ -65,9 +67,11 @@ pub record SiteRules : Type 0 where
   pub rules : List Rule
   pub hides : List Hide
 
+-- the rules of a site, in their order
 abbrev pub rules_in : SiteRules → List Rule
 rules_in s = s.rules
 
+-- its hide tables, in their order
 abbrev pub hides_in : SiteRules → List Hide
 hides_in s = s.hides
 

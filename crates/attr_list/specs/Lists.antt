@@ -33,6 +33,7 @@ abbrev pub held_of : List Value → Held
 held_of [] = Keyword
 held_of (v ∷ vs) = Values (v ∷ vs)
 
+-- the values that are held; a keyword holds none
 abbrev pub values_in : Held → List Value
 values_in Keyword = []
 values_in (Values vs) = vs

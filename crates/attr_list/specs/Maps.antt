@@ -6,6 +6,7 @@ use Rattle.attr_list.specs.Elements.{Element}
 use Rattle.attr_list.specs.Lists.{Attributes, attributes_of, values_in}
 use Rattle.attr_list.specs.declared.held.Held.{Held}
 
+-- attributes with these put in, one after the other
 abbrev pub with_entries : Attributes → List (List ℕ × Held) → Attributes
 with_entries a [] = a
 with_entries a (p ∷ ps) = with_entries (fin.insert a p.0 p.1) ps
@@ -18,6 +19,7 @@ updated_attributes a more = with_entries a (fin.entries more)
 abbrev pub attributes_without : Attributes → List Part → Attributes
 attributes_without a tags = fin.retain_keys a (λ tag. not (selects tags tag))
 
+-- the attributes whose tags a list of tags selects; an empty list selects all
 abbrev pub selected_attributes : Attributes → List Part → Attributes
 selected_attributes a tags = fin.retain_keys a (selects tags)
 

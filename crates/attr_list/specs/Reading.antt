@@ -46,6 +46,7 @@ read_end (InTag cs) = read_then (λ tag. Err BadList) (tag_or BadList cs)
 read_end (InValue tag vs cs) = read_then (λ v. Err BadList) (value_of cs)
 read_end (AtEnd e) = Ok (e ∷ [])
 
+-- the elements from a point of the text on, character by character
 abbrev pub read_from : Point → List ℕ → Result (List Element) AttrFault
 read_from p [] = read_end p
 read_from (InElement cs) (c ∷ more) =

@@ -13,6 +13,7 @@ use Rattle.attr_list.specs.Lists.{Attributes, distinct_values}
 use Rattle.attr_list.specs.declared.held.Held.{Held}
 use Rattle.attr_list.specs.declared.held.Held.TheVariants.{Keyword, Values}
 
+-- a tag as it is written in a list
 abbrev pub tag_text : List ℕ → List ℕ
 tag_text tag = encode_utf8_all (escaped_text place.Tag (chars tag))
 

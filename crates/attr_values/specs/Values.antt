@@ -27,9 +27,11 @@ abbrev pub number_of : List ℕ → Option ℕ
 number_of [] = None
 number_of (c ∷ cs) = number_from 0 (c ∷ cs)
 
+-- a number without a sign, below 2^31
 abbrev pub positive : ℕ → Option ℤ
 positive n = if nat_lt n (2 ^ 31) then Some (pos n) else None
 
+-- a number after a minus sign, down to -2^31
 abbrev pub negative : ℕ → Option ℤ
 negative zero = Some (pos 0)
 negative (suc n) = if nat_lt n (2 ^ 31) then Some (negsuc n) else None
@@ -55,10 +57,12 @@ fault_in_value text.Reserved = BadList
 fault_in_value text.NotUtf8 = BadList
 fault_in_value text.NoMemory = NoMemory
 
+-- a value made of characters that were read, or the fault of reading them
 abbrev pub value_by : (List ℕ → Value) → Result (List ℕ) TextFault → Result Value AttrFault
 value_by f (Ok cs) = Ok (f cs)
 value_by f (Err e) = Err (fault_in_value e)
 
+-- the character is F or f
 abbrev pub is_f : ℕ → Bool
 is_f c = c == upper_f || c == lower_f
 
@@ -79,9 +83,11 @@ value_of cs =
 
 -- ---- a value that is written
 
+-- a byte as a backslash and two capital hexadecimal digits
 abbrev pub escaped_byte : ℕ → List ℕ
 escaped_byte b = backslash ∷ capital_digit (b / 16) ∷ capital_digit (b % 16) ∷ []
 
+-- a value as it is written in a list
 abbrev pub value_text : Value → List ℕ
 value_text (value.Bool true) = codes "true"
 value_text (value.Bool false) = codes "false"

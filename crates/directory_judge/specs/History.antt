@@ -33,6 +33,7 @@ pub record Withdrawing : Type 0 where
   pub url : List ℕ
   pub scopes : List (List ℕ)
 
+-- what is done to a history: the four kinds of change, a sweep, and a reload of the rules
 pub data Act : Type 0 where
   Put : Putting → Act
   Set : Setting → Act

@@ -68,6 +68,7 @@ grounds_code = coded.code_by (SiteRules × (Site × (Entries × (ℕ × ℕ))))
     (λ t. record { rules = t.0; site = t.1.0; live = t.1.1.0; now = t.1.1.1.0; asker = t.1.1.1.1 })
     (λ _. refl)
 
+-- what is judged of a message
 pub data Judgement : Type 0 where
   -- the change that it makes
   Accepts : Event → Because → Judgement
@@ -80,6 +81,7 @@ pub data Judgement : Type 0 where
 
 -- ---- who decided
 
+-- who decided: the rule of the verdict, or the default
 abbrev pub decider_of : Verdict → Decider
 decider_of v = option_map_or decider.Rule v.rule decider.Default
 
@@ -91,9 +93,11 @@ by_step d kind = record { decider = d; kind = kind; scope = None }
 abbrev pub because_on : Verdict → List ℕ → List ℕ → Because
 because_on v kind scope = record { decider = decider_of v; kind = Some kind; scope = Some scope }
 
+-- who decides on a deed in a scope
 abbrev pub by_rule : SiteRules → Deed → List ℕ → Because
 by_rule rules d scope = because_on (deciding rules d scope) d.kind scope
 
+-- the rules deny a deed in a scope
 abbrev pub is_denied : SiteRules → Deed → List ℕ → Bool
 is_denied rules d scope = not (deciding rules d scope).allow
 
@@ -141,6 +145,7 @@ denial because = Denies (code_by because.decider) because
 abbrev pub denial_of : SiteRules → Deed → List (List ℕ) → Option Because
 denial_of rules d scopes = option_map (by_rule rules d) (find (is_denied rules d) scopes)
 
+-- the same as a judgement, for a deed of the asker
 abbrev pub denial_in : Grounds → Action → List ℕ → ℕ → List (List ℕ) → Option Judgement
 denial_in g action kind registrant scopes = option_map denial (denial_of g.rules (deed g.asker action kind registrant) scopes)
 
@@ -201,6 +206,7 @@ AreParticularsOf url (read.Denied because) = Unit {0}
 abbrev pub pair_in : Header → Registration → Pair
 pair_in h r = (r.entry.url, key_of h.language)
 
+-- the site has a scope
 abbrev pub supports : Site → List ℕ → Bool
 supports site scope = list_any (λ s. bytes_eq s scope) site.scopes
 
@@ -257,6 +263,7 @@ act_of g h r t = if h.flags.fresh then Put (putting_of g h r t) else history.Set
 abbrev pub allowance : Grounds → Particulars → Because
 allowance g t = by_rule g.rules (deed g.asker Register t.kind g.asker) (unwrap_or (slice_get t.scopes 0) [])
 
+-- of a registration by its particulars: scopes, rules, what is live, template, room; it is accepted where none of these speaks against it
 abbrev pub judgement_of_particulars : Grounds → Header → Registration → Particulars → Judgement
 judgement_of_particulars g h r t =
     unwrap_or
@@ -267,15 +274,18 @@ judgement_of_particulars g h r t =
     (denial_of_room g (pair_in h r) t)))))
     (Accepts (record { moment = g.now; act = act_of g h r t }) (allowance g t))
 
+-- of particulars that were read; else the fault by which they were not
 abbrev pub judgement_of_reading : Grounds → Header → Registration → Result Particulars Judgement → Judgement
 judgement_of_reading g h r (Ok t) = judgement_of_particulars g h r t
 judgement_of_reading g h r (Err j) = j
 
+-- of a registration: its particulars are read first
 abbrev pub judgement_of_registration : Grounds → Header → Registration → Judgement
 judgement_of_registration g h r = judgement_of_reading g h r (particulars g.site h r)
 
 -- ---- withdrawals of a URL
 
+-- the live entries, in the order of their pairs
 abbrev pub entries_in : Entries → List Entry
 entries_in m = map (λ p. p.1) (fin.entries m)
 
@@ -284,6 +294,7 @@ abbrev pub earlier_entry : Option Entry → Entry → Entry
 earlier_entry None e = e
 earlier_entry (Some f) e = match_ordering (bytes_cmp e.language f.language) e f f
 
+-- the first by language, of what was first so far and further entries
 abbrev pub first_from : Option Entry → List Entry → Option Entry
 first_from o [] = o
 first_from o (e ∷ es) = first_from (Some (earlier_entry o e)) es
@@ -305,6 +316,7 @@ denial_of_kept g (Some e) = denial_in g Withdraw e.kind e.owner e.scopes
 abbrev pub release : Grounds → Entry → Because
 release g e = by_rule g.rules (deed g.asker Withdraw e.kind e.owner) (unwrap_or (slice_get e.scopes 0) [])
 
+-- that a URL is withdrawn in scopes
 abbrev pub withdrawal_event : Grounds → List ℕ → List (List ℕ) → Event
 withdrawal_event g url scopes = record { moment = g.now; act = history.Withdraw (record { url = url; scopes = scopes }) }
 
@@ -327,6 +339,7 @@ judgement_of_url g url scopes =
 
 -- ---- withdrawals of tags
 
+-- that tags are removed from what stands of a pair
 abbrev pub removal_event : Grounds → Pair → List Part → Event
 removal_event g q tags = record { moment = g.now; act = history.Remove (record { url = q.0; language = q.1; tags = tags }) }
 
@@ -338,6 +351,7 @@ judgement_of_tagged g q tags scopes (Some e) =
     then unwrap_or (option_or (denial_in g Withdraw e.kind e.owner e.scopes) (denial_of_template g e.kind (attributes_without e.attrs tags))) (Accepts (removal_event g q tags) (release g e))
     else denial_by decider.Scope
 
+-- of a withdrawal of tags: what is live of its pair
 abbrev pub judgement_of_removal : Grounds → Pair → List Part → List (List ℕ) → Judgement
 judgement_of_removal g q tags scopes = judgement_of_tagged g q tags scopes (fin.get g.live q)
 
@@ -348,6 +362,7 @@ abbrev pub judgement_of_tags : Grounds → Pair → List Part → List (List ℕ
 judgement_of_tags g q [] scopes = judgement_of_url g q.0 scopes
 judgement_of_tags g q (p ∷ ps) scopes = judgement_of_removal g q (p ∷ ps) scopes
 
+-- of a withdrawal in the scopes of it that the site supports, one at least
 abbrev pub judgement_in_scopes : Grounds → Pair → List Part → List (List ℕ) → Judgement
 judgement_in_scopes g q tags [] = denial_by decider.Scope
 judgement_in_scopes g q tags (s ∷ ss) = judgement_of_tags g q tags (s ∷ ss)
@@ -359,6 +374,7 @@ judgement_of_texts g language (Some url) (Some tags) None = denial_by decider.Pa
 judgement_of_texts g language (Some url) None scopes = denial_by decider.Parse
 judgement_of_texts g language None tags scopes = denial_by decider.Parse
 
+-- of a withdrawal: its URL, its tags and its scopes are read first
 abbrev pub judgement_of_withdrawal : Grounds → Header → Withdrawal → Judgement
 judgement_of_withdrawal g h w =
     judgement_of_texts g (key_of h.language) (result_ok (url_of w.entry.url)) (result_ok (tags_of w.tags)) (result_ok (scopes_of w.scopes))
@@ -378,6 +394,7 @@ IsChange (message.TypeRequest h q) = ⊥
 IsChange (message.TypeReply h r) = ⊥
 IsChange (message.ServiceAdvert h a) = ⊥
 
+-- what a message is judged: a registration or a withdrawal; of others nothing
 abbrev pub judgement : Grounds → Message → Judgement
 judgement g (message.Registration h r) = judgement_of_registration g h r
 judgement g (message.ServiceRequest h q) = Waits

@@ -10,6 +10,7 @@ use Rattle.registry_core.specs.declared.entry.Entry.{Entry}
 use Rattle.registry_core.specs.Entries.{Pair, Entries, pair_of, pair_eq}
 use Rattle.directory_judge.specs.History.{Putting, Put, Set, Remove, Withdraw, Sweep, Reload, Event, History, now, last_that}
 
+-- what is there, where a condition holds
 abbrev pub if_true : {A : Type 0} → Bool → Option A → Option A
 if_true true o = o
 if_true false o = None
@@ -60,6 +61,7 @@ held_of q tag c = elim c.act [
   | Reload rs ↦ None
 ]
 
+-- the rules that an event brings, if it is a reload
 abbrev pub rules_of : Event → Option (SiteRules)
 rules_of c = elim c.act [
   | Reload rs ↦ Some rs
@@ -81,6 +83,7 @@ abbrev pub since_put : Pair → History → History
 since_put q [] = []
 since_put q (c ∷ h) = if is_none (put_of q c) then c ∷ since_put q h else []
 
+-- the putting, if there is one and nothing of a history withdraws it
 abbrev pub unless_withdrawn : History → Option Putting → Option Putting
 unless_withdrawn h None = None
 unless_withdrawn h (Some p) = if list_any (withdraws p) h then None else Some p

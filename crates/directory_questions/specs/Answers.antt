@@ -52,6 +52,7 @@ advert_of site own h = message.DirectoryAdvert (reply_header h false) (directory
 abbrev pub advert_code : Heading → ℕ → Because → Outcome
 advert_code h code because = code_outcome_as h code because DIRECTORY_ADVERT
 
+-- a DAAdvert, and that nobody had to decide (RFC 2608, section 8.5)
 abbrev pub advert_outcome : Site → ℕ → Heading → List ℕ → Outcome
 advert_outcome site own h kind = outcome (sent_of h OK false (plain_bytes (advert_of site own h))) OK (by_step decider.Nobody (Some kind))
 
@@ -67,6 +68,7 @@ agents_outcome site own h kind (Some scopes) = if is_agent_for site scopes then 
 
 -- ---- what bytes ask for
 
+-- what is asked for, as far as it can be said without a history
 pub data Sense : Type 0 where
   -- what comes of it is the same at every history
   Settled : Outcome → Sense
@@ -84,6 +86,7 @@ abbrev pub sense_within : Site → Heading → List (List ℕ) → Option (List 
 sense_within site h scopes kind sense =
     if list_any (supports site) scopes then sense else Settled (code_outcome h (code_by decider.Scope) (by_step decider.Scope kind))
 
+-- of a question: nothing, a fault, or what is asked within scopes
 abbrev pub sense_of_question : Site → ℕ → Heading → Question → Sense
 sense_of_question site own h Silent = Settled silence
 sense_of_question site own h Unreadable = Settled (denial_outcome h decider.Parse)
@@ -106,6 +109,7 @@ question_of own (message.DirectoryAdvert header a) = Silent
 question_of own (message.TypeReply header r) = Silent
 question_of own (message.ServiceAdvert header a) = Silent
 
+-- of a message: a change, a question, or nothing that is answered
 abbrev pub sense_of_message : Site → ℕ → Heading → Message → Sense
 sense_of_message site own h (message.Registration header r) = Changes h (message.Registration header r)
 sense_of_message site own h (message.Withdrawal header w) = Changes h (message.Withdrawal header w)
@@ -119,6 +123,7 @@ sense_of_message site own h (message.DirectoryAdvert header a) = Settled silence
 sense_of_message site own h (message.TypeReply header r) = Settled silence
 sense_of_message site own h (message.ServiceAdvert header a) = Settled silence
 
+-- of a message that is read; what is not read is answered by a fault
 abbrev pub sense_of_reading : Site → ℕ → Heading → Result Message WireFault → Sense
 sense_of_reading site own h (Ok m) = sense_of_message site own h m
 sense_of_reading site own h (Err e) = Settled (fault_outcome h e)
@@ -128,6 +133,7 @@ abbrev pub sense_under : Site → ℕ → Option Heading → Result Message Wire
 sense_under site own None read = Settled silence
 sense_under site own (Some h) read = sense_of_reading site own h read
 
+-- what a call asks for, by its bytes
 abbrev pub sense_of : Site → Call → Sense
 sense_of site c = sense_under site c.own (heading_of c.bytes) (reading c.bytes)
 

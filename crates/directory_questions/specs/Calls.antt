@@ -17,6 +17,7 @@ pub record Standpoint : Type 0 where
   pub moment : ℕ
   pub asker : ℕ
 
+-- where an asker stands: an opening, a history, a moment, and the address of the asker
 abbrev pub standpoint : Opening → History → ℕ → ℕ → Standpoint
 standpoint o h m asker = record { opening = o; history = h; moment = m; asker = asker }
 

@@ -101,6 +101,7 @@ abbrev pub kind_asked : Target → Option (List ℕ)
 kind_asked (Kind kind) = Some kind
 kind_asked (Place url) = None
 
+-- an open entry about which an attribute request asks
 abbrev pub IsAskedAbout : (Entry → Type 0) → AttrQuery → Entry → Type 0
 IsAskedAbout IsOpen q = Matches IsOpen (is_target q.target)
 
@@ -137,6 +138,7 @@ is_under authority.All e = true
 is_under authority.Unnamed e = is_none (authority_of e.kind)
 is_under (authority.Named name) e = option_map_or (λ own. bytes_eq own name) (authority_of e.kind) false
 
+-- an open entry whose type a type request asks for
 abbrev pub IsNamed : (Entry → Type 0) → TypeQuery → Entry → Type 0
 IsNamed IsOpen q = Matches IsOpen (is_under q.authority)
 

@@ -17,9 +17,11 @@ pub record Outcome : Type 0 where
   pub reply : List ℕ
   pub verdict : Option (ℕ × Because)
 
+-- no reply, and no verdict
 abbrev pub silence : Outcome
 silence = record { reply = []; verdict = None }
 
+-- a reply, with its code and who decided on what
 abbrev pub outcome : List ℕ → ℕ → Because → Outcome
 outcome reply code because = record { reply = reply; verdict = Some (code, because) }
 
@@ -43,6 +45,7 @@ sent_of h code is_empty reply = if is_to_many h && (not (code == OK) || is_empty
 abbrev pub code_outcome_as : Heading → ℕ → Because → ℕ → Outcome
 code_outcome_as h code because function = outcome (sent_of h code false (refusal_bytes function code h.xid h.language)) code because
 
+-- a reply that has a code alone, where the function of the message has a reply
 abbrev pub code_outcome : Heading → ℕ → Because → Outcome
 code_outcome h code because = option_map_or (code_outcome_as h code because) (reply_function_of h.function) silence
 
@@ -63,6 +66,7 @@ decider_of_fault fault.Unknown = None
 decider_of_fault fault.NoMemory = None
 decider_of_fault fault.TooLong = None
 
+-- the reply to what is not read as a message, if the fault is one that is replied to
 abbrev pub fault_outcome : Heading → WireFault → Outcome
 fault_outcome h e = option_map_or (denial_outcome h) (decider_of_fault e) silence
 
@@ -72,6 +76,7 @@ refusal_outcome heading = option_map_or (λ h. denial_outcome h decider.Memory) 
 
 -- ---- what was judged
 
+-- the acknowledgement of a registration or a withdrawal, by what it was judged
 abbrev pub acknowledgement_of : Heading → Judgement → Outcome
 acknowledgement_of h (Accepts c because) = code_outcome h OK because
 acknowledgement_of h Ignores = code_outcome h OK (by_step decider.Nobody None)

@@ -64,6 +64,7 @@ services_as h (Some kind) scopes filter =
     if is_directory_agent kind then agents_in kind scopes filter
     else (if is_service_agent kind then Silent else services_in h kind scopes filter)
 
+-- what a SrvRqst asks, by its texts
 abbrev pub service_question : Header → ServiceRequest → Question
 service_question h q = services_as h (result_ok (type_of q.kind)) (result_ok (scopes_of q.scopes)) (result_ok (predicate_in q.predicate))
 
@@ -74,6 +75,7 @@ abbrev pub target_as : Option (List ℕ) → Option (List ℕ) → Option Target
 target_as (Some kind) url = Some (Kind kind)
 target_as None url = option_map Place url
 
+-- what an AttrRqst is about: a type, or a URL
 abbrev pub target_of : List ℕ → Option Target
 target_of text = target_as (result_ok (type_of text)) (result_ok (url_of text))
 
@@ -84,6 +86,7 @@ attributes_as h (Some target) (Some scopes) None = Unreadable
 attributes_as h (Some target) None tags = Unreadable
 attributes_as h None scopes tags = Unreadable
 
+-- what an AttrRqst asks, by its texts
 abbrev pub attribute_question : Header → AttributeRequest → Question
 attribute_question h q = attributes_as h (target_of q.subject) (result_ok (scopes_of q.scopes)) (result_ok (tags_of q.tags))
 
@@ -94,6 +97,7 @@ abbrev pub authority_by_name : List ℕ → Option Authority
 authority_by_name [] = Some authority.Unnamed
 authority_by_name (b ∷ bs) = option_map authority.Named (result_ok (named_authority (b ∷ bs)))
 
+-- the naming authority that is asked for, if its name is one
 abbrev pub authority_asked : wire.Authority → Option Authority
 authority_asked wire_authority.All = Some authority.All
 authority_asked (wire_authority.Named text) = authority_by_name text
@@ -104,5 +108,6 @@ types_as (Some whose) (Some scopes) = Types (record { authority = whose; scopes 
 types_as (Some whose) None = Unreadable
 types_as None scopes = Unreadable
 
+-- what a SrvTypeRqst asks, by its texts
 abbrev pub type_question : TypeRequest → Question
 type_question q = types_as (authority_asked q.authority) (result_ok (scopes_of q.scopes))

@@ -43,6 +43,7 @@ pub record MayUpdate (g : Grounds) (q : Pair) (named : Particulars) : Type 0 whe
   pub scopes : entry.scopes ≡ named.scopes
   pub ruled : IsRuledIn g action.Register entry.kind entry.owner entry.scopes
 
+-- a fresh registration may replace what stands of its pair, another may update it
 abbrev pub MayFollow : Bool → Grounds → Pair → Particulars → Type 0
 MayFollow true g q named = MayReplace g q
 MayFollow false g q named = MayUpdate g q named
@@ -99,6 +100,7 @@ pub record WithdrawalIsAllowed (g : Grounds) (h : Header) (w : Withdrawal) (even
 
 -- ---- messages
 
+-- a message is allowed to make this change, on these grounds; what asks for no change is allowed none
 abbrev pub IsAllowedOn : Grounds → Message → Event → Type 0
 IsAllowedOn g (message.Registration h r) event = RegistrationIsAllowed g h r event
 IsAllowedOn g (message.Withdrawal h w) event = WithdrawalIsAllowed g h w event

@@ -73,6 +73,7 @@ is_for_agents (question.Services q) = false
 is_for_agents (question.Attributes q) = false
 is_for_agents (question.Types q) = false
 
+-- the message that is read asks for directory agents
 abbrev pub asks_for_agents : ℕ → Result Message WireFault → Bool
 asks_for_agents own (Ok sent) = is_for_agents (question_of own sent)
 asks_for_agents own (Err e) = false

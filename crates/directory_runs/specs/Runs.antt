@@ -47,6 +47,7 @@ beginning = record { published = []; seen = λ i. []; notes = []; replies = [] }
 abbrev pub shown : ℕ → History → (ℕ → History) → ℕ → History
 shown i h seen j = if j == i then h else seen j
 
+-- what one thing that happens makes of the world
 abbrev pub happened : World → Happening → World
 happened w (Publish c t change) = record w { published = history_with change w.published }
 happened w (Sweep m) = record w { published = record { moment = now w.published m; act = Swept } ∷ w.published }
@@ -72,6 +73,7 @@ May o w Refusal = Unit {0}
 abbrev pub Run : Type 0
 Run = List Happening
 
+-- the world after a run: what has happened, one thing after the other
 abbrev pub world : Run → World
 world [] = beginning
 world (e ∷ es) = happened (world es) e

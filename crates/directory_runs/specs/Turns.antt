@@ -36,6 +36,7 @@ abbrev pub IsTelling : Opening → History → Option Telling → Type 0
 IsTelling o h None = Unit {0}
 IsTelling o h (Some t) = AreBytes t.call.bytes × (is_change_of t.call.bytes ≡ false) × Replies o h t.call t.what t.reply t.line
 
+-- what was seen at the last turn of a loop
 abbrev pub last_turn : List Turn → History
 last_turn [] = []
 last_turn (t ∷ ts) = t.seen
@@ -81,6 +82,7 @@ AreVisitsOf o [] vs = vs ≡ []
 AreVisitsOf o (t ∷ ts) [] = ⊥
 AreVisitsOf o (t ∷ ts) (v ∷ vs) = (v.at ≡ t.seen) × IsToldBy o t.seen t.told v.told × AreVisitsOf o ts vs
 
+-- this is what the writer does for a deed
 abbrev pub IsWriteOf : Opening → History → Deed → Happening → Type 0
 IsWriteOf o h (Changes t) e = (r : Outcome) × (change : Option Event) × (e ≡ Publish t.call r change) × IsToldAs o h t r
 IsWriteOf o h (Sweeps m) e = e ≡ Sweep m

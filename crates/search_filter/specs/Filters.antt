@@ -4,6 +4,7 @@ use Rattle.attr_list.specs.Lists.{Attributes}
 use Rattle.search_filter.specs.Conditions.{item_holds, negated_item_holds}
 use Rattle.search_filter.specs.declared.item.Item.{Item}
 
+-- a filter: all or any of some, the negation of one, or an item (RFC 2254)
 mutual
   pub data Filter : Type 0 where
     all : Filters → Filter
@@ -17,6 +18,7 @@ mutual
 
 -- ---- negations stand at the items
 
+-- a filter without a negation but of items
 mutual
   pub data Settled : Type 0 where
     every : Settleds → Settled
@@ -52,6 +54,7 @@ abbrev mutual
 
 -- ---- where they hold
 
+-- it holds of attributes; `every` of none holds, `some` of none does not
 abbrev mutual
   pub settled_holds : Attributes → Settled → Bool
   settled_holds a (every fs) = every_holds a fs

@@ -45,9 +45,11 @@ abbrev pub tag_by : Result (List ℕ) AttrFault → Result (List ℕ) FilterFaul
 tag_by (Ok tag) = if ends_with_colon tag then Err Syntax else Ok tag
 tag_by (Err e) = Err Syntax
 
+-- the key of the tag that characters spell
 abbrev pub tag_in : List ℕ → Result (List ℕ) FilterFault
 tag_in cs = tag_by (tag_or BadTag cs)
 
+-- there are no characters
 abbrev pub is_nothing : List ℕ → Bool
 is_nothing [] = true
 is_nothing (c ∷ cs) = false
@@ -79,6 +81,7 @@ abbrev pub opaque_by : Result (List ℕ) TextFault → Result Operand FilterFaul
 opaque_by (Ok bytes) = Ok (operand.Opaque bytes)
 opaque_by (Err e) = Err Syntax
 
+-- what a value is compared with, as characters spell it
 abbrev pub spelled_operand : List ℕ → Result Operand FilterFault
 spelled_operand cs = read_map (λ read. operand_of (value_of_form (squeezed_text read))) (characters_in cs)
 
@@ -111,6 +114,7 @@ abbrev pub star_after : Result (List ℕ) TextFault → FilterFault
 star_after (Ok bytes) = Wildcard
 star_after (Err e) = Syntax
 
+-- why a text with a raw * is no pattern, by what stands before it
 abbrev pub star_fault : List ℕ → FilterFault
 star_fault before = if has null before then Syntax else star_after (spelled_bytes before)
 
@@ -118,6 +122,7 @@ star_fault before = if has null before then Syntax else star_after (spelled_byte
 abbrev pub unstarred : (Operand → Condition) → List ℕ → Result Condition FilterFault
 unstarred f cs = if has asterisk cs then Err (star_fault (part_before asterisk cs)) else read_map f (operand_in cs)
 
+-- the condition that an operator and the characters after it spell
 abbrev pub condition_in : Operator → List ℕ → Result Condition FilterFault
 condition_in operator.Equal cs = if has asterisk cs then starred cs else read_map Equal (operand_in cs)
 condition_in operator.Alike cs = unstarred Equal cs
@@ -126,6 +131,7 @@ condition_in operator.AtMost cs = unstarred AtMost cs
 
 -- ---- the item
 
+-- the item of a tag, an operator and the characters after it
 abbrev pub item_by : List ℕ × Operator → List ℕ → Result Item FilterFault
 item_by p cs = read_then (λ tag. read_map (λ c. record { tag = tag; condition = c }) (condition_in p.1 cs)) (tag_in p.0)
 

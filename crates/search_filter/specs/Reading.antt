@@ -39,6 +39,7 @@ filters_with (more f fs) g = more f (filters_with fs g)
 abbrev pub opened_frame : Connective → Frame
 opened_frame c = record { connective = c; filters = none }
 
+-- an open list of filters with one more
 abbrev pub frame_with : Filter → Frame → Frame
 frame_with f o = record { connective = o.connective; filters = filters_with o.filters f }
 
@@ -82,12 +83,14 @@ broken cs = read_then (λ i. Err Syntax) (item_in cs)
 abbrev pub whole_item : List ℕ → Result Item FilterFault
 whole_item cs = if has left_parenthesis cs then broken (part_before left_parenthesis cs) else item_in cs
 
+-- what is read where the text ends
 abbrev pub read_end : Point → Result Filter FilterFault
 read_end (Between frames) = Err Syntax
 read_end (Begun frames) = Err Syntax
 read_end (InItem frames cs) = broken cs
 read_end (After f) = Ok f
 
+-- the filter from a point of the text on, character by character
 abbrev pub read_from : Point → List ℕ → Result Filter FilterFault
 read_from p [] = read_end p
 read_from (Between []) (c ∷ cs) =

@@ -14,6 +14,7 @@ use slp_text::Key;
 use text_patterns::Pattern;
 
 // What is asked of the values of a tag.
+/// What an item asks of the values of its tag (RFC 2254).
 pub enum Condition {
     Present,
     Equal(Operand),
@@ -35,6 +36,7 @@ impl Drop for Condition {
 }
 
 // What is asked of a tag.
+/// A tag, and what is asked of its values.
 pub struct Item {
     pub tag: Key,
     pub condition: Condition,

@@ -21,7 +21,7 @@ use std::alloc::Global;
 // How many levels there may be.
 const DEEPEST: usize = 32;
 
-// What connects the filters in a filter.
+/// What connects the filters in a filter.
 #[derive(Clone, Copy, Debug, PartialEq, Eq)]
 enum Connective {
     And,

@@ -22,7 +22,7 @@ use slp_text::{Key, Row, TextFault, key, squeeze, trim, unescape_all, unescape_a
 use std::alloc::Global;
 use text_patterns::Pattern;
 
-// How an item compares.
+/// How an item compares.
 #[derive(Clone, Copy, Debug, PartialEq, Eq)]
 enum Operator {
     Equal,

@@ -15,6 +15,7 @@ is_name_byte b = is_plain b || b == plus_sign || b == hyphen || b == dot || b ==
 abbrev pub is_name : List ℕ → Bool
 is_name text = nat_lt 0 (length text) && is_plain (slice_index text 0) && list_all is_name_byte text
 
+-- the byte is a colon
 abbrev pub is_colon : ℕ → Bool
 is_colon b = b == colon
 
@@ -22,6 +23,7 @@ is_colon b = b == colon
 abbrev pub service_word : List ℕ
 service_word = codes "service:"
 
+-- the text begins with service:
 abbrev pub is_service : List ℕ → Bool
 is_service text = starts_with nat_eq text service_word
 
@@ -63,9 +65,11 @@ directory_agent = codes "service:directory-agent"
 abbrev pub service_agent : List ℕ
 service_agent = codes "service:service-agent"
 
+-- the type is that of directory agents
 abbrev pub is_directory_agent : List ℕ → Bool
 is_directory_agent kind = bytes_eq kind directory_agent
 
+-- the type is that of service agents
 abbrev pub is_service_agent : List ℕ → Bool
 is_service_agent kind = bytes_eq kind service_agent
 
@@ -77,6 +81,7 @@ covers kind other = bytes_eq kind other || (is_abstract kind && starts_with nat_
 abbrev pub root_of : List ℕ → List ℕ
 root_of kind = if is_service kind then take (8 + position_or_len is_colon (drop 8 kind)) kind else kind
 
+-- the byte is a dot
 abbrev pub is_dot : ℕ → Bool
 is_dot b = b == dot
 

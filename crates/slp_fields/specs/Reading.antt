@@ -15,15 +15,19 @@ use Rattle.slp_fields.specs.declared.fault.WireFault.{WireFault}
 
 -- ---- single fields
 
+-- a byte, and what comes after it
 unfoldable pub byte_at : List ℕ → Result (ℕ × List ℕ) WireFault
 byte_at bytes = if length bytes == 0 then Err Parse else Ok (slice_index bytes 0, drop 1 bytes)
 
+-- a number of two bytes, the first the highest
 unfoldable pub number_at : List ℕ → Result (ℕ × List ℕ) WireFault
 number_at bytes = if nat_lt (length bytes) 2 then Err Parse else Ok (big_number 2 bytes, drop 2 bytes)
 
+-- a number of four bytes, the first the highest
 unfoldable pub long_at : List ℕ → Result (ℕ × List ℕ) WireFault
 long_at bytes = if nat_lt (length bytes) 4 then Err Parse else Ok (big_number 4 bytes, drop 4 bytes)
 
+-- a string in UTF-8 after its length of two bytes
 unfoldable pub string_at : List ℕ → Result (List ℕ × List ℕ) WireFault
 string_at bytes = do
   n ← number_at bytes
@@ -42,6 +46,7 @@ no_index_at bytes = do
   s ← string_at bytes
   if length s.0 == 0 then Ok (tt, s.1) else Err Auth
 
+-- a URL entry: a reserved byte, lifetime, URL, no authentication block (RFC 2608, section 4.3)
 unfoldable pub entry_at : List ℕ → Result (UrlEntry × List ℕ) WireFault
 entry_at bytes = do
   reserved ← byte_at bytes
@@ -50,6 +55,7 @@ entry_at bytes = do
   none ← no_block_at url.1
   Ok (record { lifetime = lifetime.0; url = url.0 }, none.1)
 
+-- so many URL entries
 unfoldable pub entries_at : ℕ → List ℕ → Result (List UrlEntry × List ℕ) WireFault
 entries_at zero bytes = Ok ([], bytes)
 entries_at (suc n) bytes = do
@@ -57,6 +63,7 @@ entries_at (suc n) bytes = do
   others ← entries_at n first.1
   Ok (first.0 ∷ others.0, others.1)
 
+-- URL entries after their number
 unfoldable pub listing_at : List ℕ → Result (List UrlEntry × List ℕ) WireFault
 listing_at bytes = do
   n ← number_at bytes
@@ -70,6 +77,7 @@ authority_at bytes = do
 
 -- ---- by their kinds
 
+-- a value of a kind
 abbrev pub value_at : (k : Kind) → List ℕ → Result (Value k × List ℕ) WireFault
 value_at Number bytes = number_at bytes
 value_at Long bytes = long_at bytes

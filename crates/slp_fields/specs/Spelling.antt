@@ -21,6 +21,7 @@ entry_bytes reserved e = reserved ∷ big_bytes 2 e.lifetime ++ string e.url ++ 
 abbrev pub listing : List UrlEntry → List ℕ
 listing es = big_bytes 2 (length es) ++ flat_map (entry_bytes 0) es
 
+-- a naming authority; all are the length 65535
 abbrev pub authority_bytes : code.Authority → List ℕ
 authority_bytes All = big_bytes 2 65535
 authority_bytes (Named text) = string text

@@ -4,6 +4,7 @@ use Rattle.slp_fields.specs.declared.fault.WireFault.TheVariants as fault
 use Rattle.slp_fields.specs.declared.fault.WireFault.TheVariants.{NoHeader, Version, Parse, Auth, Unknown, NoMemory, TooLong}
 use Rattle.slp_fields.specs.declared.fault.WireFault.{WireFault}
 
+-- what comes of a value that is read, else its fault
 infixl 10 ◌>>=◌
 abbrev pub ◌>>=◌ : {A B : Type 0} → Result A WireFault → (A → Result B WireFault) → Result B WireFault
 (Ok x) >>= f = f x

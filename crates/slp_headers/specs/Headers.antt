@@ -11,6 +11,7 @@ use Rattle.slp_headers.specs.declared.view.HeaderView.{HeaderView}
 
 -- ---- flags
 
+-- a flag is set
 abbrev pub has_flag : ℕ → ℕ → Bool
 has_flag mask word = not (bit_and word mask == 0)
 

@@ -32,10 +32,12 @@ pub record IsString (text : List ℕ) : Type 0 where
   pub utf8 : IsUtf8 text
   pub short : length text < 2 ^ 16
 
+-- a URL entry has values that fit
 pub record IsEntry (e : UrlEntry) : Type 0 where
   pub lifetime : e.lifetime < 2 ^ 16
   pub url : IsString e.url
 
+-- URL entries have values that fit, and their number does
 pub record AreEntries (es : List UrlEntry) : Type 0 where
   pub each : AllByRecursion IsEntry es
   pub few : length es < 2 ^ 16
@@ -45,6 +47,7 @@ pub record IsAuthorityName (text : List ℕ) : Type 0 where
   pub utf8 : IsUtf8 text
   pub short : length text < 65535
 
+-- a naming authority, where one is named, fits
 abbrev pub IsAuthority : code.Authority → Type 0
 IsAuthority All = Unit {0}
 IsAuthority (Named text) = IsAuthorityName text
@@ -60,6 +63,7 @@ IsFit Authority a = IsAuthority a
 IsFit NoBlock none = Unit {0}
 IsFit NoIndex none = Unit {0}
 
+-- values of these kinds fit, each of them
 abbrev pub AreFit : (ks : List Kind) → Values ks → Type 0
 AreFit [] none = Unit {0}
 AreFit (k ∷ ks) values = IsFit k values.0 × AreFit ks values.1

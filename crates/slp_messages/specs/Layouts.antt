@@ -32,6 +32,7 @@ FitsLayout layout a = AreFit layout.kinds (layout.held a)
 
 -- ---- requests and adverts
 
+-- SrvRqst: previous responders, type, scopes, predicate, no SPI (RFC 2608, section 8.1)
 abbrev pub service_request : Layout ServiceRequest
 service_request = record {
   kinds = Text ∷ Text ∷ Text ∷ Text ∷ NoIndex ∷ [];
@@ -39,6 +40,7 @@ service_request = record {
   made = λ v. record { responders = v.0; kind = v.1.0; scopes = v.1.1.0; predicate = v.1.1.1.0 };
 }
 
+-- SrvReg: URL entry, type, scopes, attributes, no authentication block (section 8.3)
 abbrev pub registration : Layout Registration
 registration = record {
   kinds = Entry ∷ Text ∷ Text ∷ Text ∷ NoBlock ∷ [];
@@ -46,6 +48,7 @@ registration = record {
   made = λ v. record { entry = v.0; kind = v.1.0; scopes = v.1.1.0; attributes = v.1.1.1.0 };
 }
 
+-- SrvDeReg: scopes, URL entry, tags (section 10.6)
 abbrev pub withdrawal : Layout Withdrawal
 withdrawal = record {
   kinds = Text ∷ Entry ∷ Text ∷ [];
@@ -61,6 +64,7 @@ acknowledgement = record {
   made = λ v. v.0;
 }
 
+-- AttrRqst: previous responders, URL or type, scopes, tags, no SPI (section 10.3)
 abbrev pub attribute_request : Layout AttributeRequest
 attribute_request = record {
   kinds = Text ∷ Text ∷ Text ∷ Text ∷ NoIndex ∷ [];
@@ -68,6 +72,7 @@ attribute_request = record {
   made = λ v. record { responders = v.0; subject = v.1.0; scopes = v.1.1.0; tags = v.1.1.1.0 };
 }
 
+-- SrvTypeRqst: previous responders, naming authority, scopes (section 10.1)
 abbrev pub type_request : Layout TypeRequest
 type_request = record {
   kinds = Text ∷ Authority ∷ Text ∷ [];
@@ -75,6 +80,7 @@ type_request = record {
   made = λ v. record { responders = v.0; authority = v.1.0; scopes = v.1.1.0 };
 }
 
+-- SAAdvert: URL, scopes, attributes, no authentication block (section 8.6)
 abbrev pub service_agent : Layout ServiceAgent
 service_agent = record {
   kinds = Text ∷ Text ∷ Text ∷ NoBlock ∷ [];
@@ -84,6 +90,7 @@ service_agent = record {
 
 -- ---- replies: a code, and after the code 0 what was found
 
+-- what a reply has after its error code: a body where that is 0, else nothing
 pub data Reply (A : Type 0) : Type 0 where
   Found : A → Reply A
   Refused : ℕ → Reply A
@@ -93,6 +100,7 @@ abbrev pub IsReply : {A : Type 0} → Layout A → Reply A → Type 0
 IsReply layout (Found a) = FitsLayout layout a
 IsReply layout (Refused code) = IsRefusal code
 
+-- the body of a SrvRply: URL entries (section 8.2)
 abbrev pub services : Layout (List UrlEntry)
 services = record {
   kinds = Entries ∷ [];
@@ -100,6 +108,7 @@ services = record {
   made = λ v. v.0;
 }
 
+-- the body of an AttrRply: an attribute list, no authentication block (section 10.4)
 abbrev pub attributes : Layout (List ℕ)
 attributes = record {
   kinds = Text ∷ NoBlock ∷ [];
@@ -107,6 +116,7 @@ attributes = record {
   made = λ v. v.0;
 }
 
+-- the body of a DAAdvert: boot stamp, URL, scopes, attributes, SPIs, no authentication block (section 8.5)
 abbrev pub directory_agent : Layout DirectoryAgent
 directory_agent = record {
   kinds = Long ∷ Text ∷ Text ∷ Text ∷ Text ∷ NoBlock ∷ [];
@@ -114,6 +124,7 @@ directory_agent = record {
   made = λ v. record { boot = v.0; url = v.1.0; scopes = v.1.1.0; attributes = v.1.1.1.0; indices = v.1.1.1.1.0 };
 }
 
+-- the body of a SrvTypeRply: a list of types (section 10.2)
 abbrev pub types : Layout (List ℕ)
 types = record {
   kinds = Text ∷ [];
@@ -126,14 +137,17 @@ abbrev pub of_services : ServiceReply → Reply (List UrlEntry)
 of_services (service_reply.Found entries) = Found entries
 of_services (service_reply.Refused code) = Refused code
 
+-- an AttrRply by its body or its code
 abbrev pub of_attributes : AttributeReply → Reply (List ℕ)
 of_attributes (attribute_reply.Found list) = Found list
 of_attributes (attribute_reply.Refused code) = Refused code
 
+-- a DAAdvert by its body or its code
 abbrev pub of_directory_agent : DirectoryAdvert → Reply DirectoryAgent
 of_directory_agent (directory_advert.Present agent) = Found agent
 of_directory_agent (directory_advert.Refused code) = Refused code
 
+-- a SrvTypeRply by its body or its code
 abbrev pub of_types : TypeReply → Reply (List ℕ)
 of_types (type_reply.Found list) = Found list
 of_types (type_reply.Refused code) = Refused code

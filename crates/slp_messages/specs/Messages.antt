@@ -35,10 +35,12 @@ function_of (message.TypeRequest h q) = TYPE_REQUEST
 function_of (message.TypeReply h r) = TYPE_REPLY
 function_of (message.ServiceAdvert h a) = SERVICE_ADVERT
 
+-- each field of the header has a value that fits
 pub record IsHeader (h : Header) : Type 0 where
   pub xid : h.xid < 2 ^ 16
   pub language : IsTag h.language
 
+-- each field of the body has a value that its layout can hold
 abbrev pub IsBody : Message → Type 0
 IsBody (message.ServiceRequest h q) = FitsLayout service_request q
 IsBody (message.ServiceReply h r) = IsReply services (of_services r)

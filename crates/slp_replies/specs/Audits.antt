@@ -24,6 +24,7 @@ abbrev pub rule_named : SiteRules → Decider → List ℕ
 rule_named rules (Rule index) = name_at rules index
 rule_named rules _ = []
 
+-- the word for an action
 abbrev pub action_text : Action → List ℕ
 action_text Register = codes "register"
 action_text Withdraw = codes "withdraw"
@@ -43,6 +44,7 @@ scope_or_dash (Some scope) = encode_utf8_all (escaped_text Scope (chars scope))
 abbrev pub beginning_text : ℕ → List ℕ
 beginning_text code = (if code == 0 then codes "# allow code=" else codes "# deny code=") ++ decimal code ++ codes " by="
 
+-- the end of a line: the scope, or a dash
 abbrev pub ending_text : Option (List ℕ) → List ℕ
 ending_text scope = codes " scope=" ++ scope_or_dash scope ++ line_feed ∷ []
 

@@ -27,6 +27,7 @@ audit_in asker h v = record { code = v.0; because = v.1; action = action_of h; a
 abbrev pub line_by : SiteRules → ℕ → Heading → Outcome → List ℕ
 line_by rs asker h r = option_map_or (λ v. audit_text rs (audit_in asker h v)) r.verdict []
 
+-- the line of the log for an outcome; none where not even a heading was read
 abbrev pub line_of : SiteRules → ℕ → Option Heading → Outcome → List ℕ
 line_of rs asker heading r = option_map_or (λ h. line_by rs asker h r) heading []
 

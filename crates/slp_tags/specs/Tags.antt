@@ -14,6 +14,7 @@ use Rattle.slp_text.specs.declared.faults.TextFault.{TextFault}
 abbrev pub Part : Type 0
 Part = List (Option ℕ)
 
+-- the character is *
 abbrev pub is_star : ℕ → Bool
 is_star c = c == asterisk
 
@@ -21,6 +22,7 @@ is_star c = c == asterisk
 abbrev pub Sign : Type 0
 Sign = Option ℕ
 
+-- the sign is white space
 abbrev pub is_white_sign : Sign → Bool
 is_white_sign None = false
 is_white_sign (Some c) = is_white c
@@ -31,6 +33,7 @@ signs_of [] = []
 signs_of (p ∷ []) = map Some p
 signs_of (p ∷ q ∷ ps) = map Some p ++ None ∷ signs_of (q ∷ ps)
 
+-- the bytes of a sign
 abbrev pub sign_bytes : Sign → Part
 sign_bytes None = None ∷ []
 sign_bytes (Some c) = map Some (encode_utf8 c)
@@ -52,6 +55,7 @@ abbrev pub ends_of : List ℕ → List (List ℕ)
 ends_of [] = [] ∷ []
 ends_of (b ∷ bs) = (b ∷ bs) ∷ ends_of bs
 
+-- a part of a list of tags selects a tag: byte for byte, with any run for each *
 abbrev pub is_match : Part → List ℕ → Bool
 is_match [] [] = true
 is_match [] (b ∷ bs) = false

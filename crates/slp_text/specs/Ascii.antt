@@ -117,17 +117,22 @@ tilde = 126
 abbrev pub delete : ℕ
 delete = 127
 
+-- the character is 0 to 9
 abbrev pub is_digit : ℕ → Bool
 is_digit c = nat_le digit_zero c && nat_le c digit_nine
 
+-- the character is A to Z
 abbrev pub is_upper : ℕ → Bool
 is_upper c = nat_le upper_a c && nat_le c upper_z
 
+-- the character is a to z
 abbrev pub is_lower : ℕ → Bool
 is_lower c = nat_le lower_a c && nat_le c lower_z
 
+-- the character is a letter of ASCII
 abbrev pub is_letter : ℕ → Bool
 is_letter c = is_upper c || is_lower c
 
+-- the character is a control character of ASCII
 abbrev pub is_control : ℕ → Bool
 is_control c = nat_lt c space || c == delete

@@ -2,6 +2,7 @@
 use Rattle.std.specs.Prelude.{ℕ, Bool, ◌==◌, nat_lt, List, [], ◌∷◌, ◌++◌, length}
 use Rattle.slp_text.specs.Ascii.{comma}
 
+-- the character is a comma
 abbrev pub is_comma : ℕ → Bool
 is_comma c = c == comma
 

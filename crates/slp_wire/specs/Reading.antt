@@ -35,12 +35,14 @@ ends_at extension total rest =
     if extension == 0 then (if length rest == 0 then Ok tt else Err Parse)
     else (if extension + length rest == total then extensions_at (length rest) extension rest else Err Parse)
 
+-- a message whose body is read, where it ends at its length or its extensions
 unfoldable pub reading_to_end : Heading → Result (Message × List ℕ) WireFault → Result Message WireFault
 reading_to_end h read = do
   m ← read
   _ ← ends_at h.extension h.length m.1
   Ok m.0
 
+-- the message after its heading: the function is known, the version is 2, and the length is that of the heading at least and no more than there is
 unfoldable pub reading_after : Heading → List ℕ → Result Message WireFault
 reading_after h bytes =
     if is_known h.function then

@@ -61,6 +61,7 @@ pub record Spells (bytes : List ℕ) (m : Message) : Type 0 where
 
 -- ---- what is written: the one spelling with zeros in the reserved places, nothing after a nonzero code, and no extension
 
+-- the bytes of its body
 abbrev pub body_of : Message → List ℕ
 body_of (message.ServiceRequest h q) = layout_bytes service_request q
 body_of (message.ServiceReply h r) = reply_bytes services (of_services r)
@@ -74,5 +75,6 @@ body_of (message.TypeRequest h q) = layout_bytes type_request q
 body_of (message.TypeReply h r) = reply_bytes types (of_types r)
 body_of (message.ServiceAdvert h a) = layout_bytes service_agent a
 
+-- the bytes of a message without extensions
 abbrev pub plain_bytes : Message → List ℕ
 plain_bytes m = frame_bytes (function_of m) (word_of (header_of m).flags) (header_of m).xid (header_of m).language (body_of m)

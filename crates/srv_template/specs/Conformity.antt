@@ -35,6 +35,7 @@ takes kind.Opaque (value.Opaque bytes) = true
 takes kind.Opaque _ = false
 takes kind.Keyword v = false
 
+-- the definition is of a keyword
 abbrev pub is_keyword : ValueKind → Bool
 is_keyword kind.Keyword = true
 is_keyword kind.Text = false
@@ -63,6 +64,7 @@ fault_of_held d None = if d.optional || is_keyword d.kind then None else Some fa
 fault_of_held d (Some Keyword) = if is_keyword d.kind then None else Some fault.WrongKind
 fault_of_held d (Some (Values vs)) = fault_of_values d vs
 
+-- what is wrong with what attributes hold at the tag of a definition
 abbrev pub fault_on : Definition → Attributes → Option FaultKind
 fault_on d a = fault_of_held d (fin.get a d.tag)
 
@@ -91,5 +93,6 @@ definitions_for templates type = option_and_then (fin.get templates) (service_na
 abbrev pub ConformsTo : SiteTemplates → List ℕ → Attributes → Type 0
 ConformsTo templates type a = (ds : List Definition) → definitions_for templates type ≡ Some ds → Conforms ds a
 
+-- what is wrong with the attributes of a type by its template, if it has one
 abbrev pub template_fault : SiteTemplates → List ℕ → Attributes → Option TemplateFault
 template_fault templates type a = option_and_then (λ ds. first_fault 0 ds a) (definitions_for templates type)
