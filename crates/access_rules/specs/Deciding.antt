@@ -59,7 +59,8 @@ is_own d = d.asker == d.registrant
 -- a rule fits a deed in a scope; one of owners fits no deed of another
 abbrev pub fits : Deed → List ℕ → Rule → Bool
 fits d scope r =
-    list_any (λ p. holds p d.asker) r.from && action_eq r.action d.action && allows_kind r.kind d.kind && allows_scope r.scopes scope
+    list_any (λ p. holds p d.asker) r.from && action_eq r.action d.action && allows_kind r.kind d.kind
+    && allows_scope r.scopes scope
     && (not r.owner || is_own d)
 
 -- what decides for a site: its rules, in their order, and what it hides
@@ -86,7 +87,8 @@ no_rules = record { rules = []; hides = [] }
 -- what the rule at an index says, if there is one; without a rule all is denied
 abbrev pub verdict_at : SiteRules → Option ℕ → Verdict
 verdict_at rules None = record { allow = false; rule = None }
-verdict_at rules (Some index) = record { allow = option_map_or (λ r. r.allow) (slice_get (rules_in rules) index) false; rule = Some index }
+verdict_at rules (Some index) =
+    record { allow = option_map_or (λ r. r.allow) (slice_get (rules_in rules) index) false; rule = Some index }
 
 -- The first rule that fits decides.
 abbrev pub deciding : SiteRules → Deed → List ℕ → Verdict
@@ -111,10 +113,12 @@ may_show asker kind scope r = r.allow && (action_eq r.action See && (overlaps r.
 
 -- ---- what is hidden
 
--- A hide table fits what is asked in a scope, whatever is done; one that spares owners does not fit what the asker registered.
+-- A hide table fits what is asked in a scope, whatever is done; one that spares owners does not fit what the asker
+-- registered.
 abbrev pub is_hiding : Deed → List ℕ → Hide → Bool
 is_hiding d scope h =
-    list_any (λ p. holds p d.asker) h.from && allows_kind h.kind d.kind && allows_scope h.scopes scope && not (h.spares_owner && is_own d)
+    list_any (λ p. holds p d.asker) h.from && allows_kind h.kind d.kind && allows_scope h.scopes scope
+    && not (h.spares_owner && is_own d)
 
 -- one of some tables fits, and selects a tag
 abbrev pub some_hides : List Hide → Deed → List ℕ → List ℕ → Bool

@@ -85,7 +85,8 @@ prefix_of text = option_map prefix_with (address_and bits_of (slice_split is_sla
 
 -- four decimal numbers with a dot between each two
 abbrev pub address_text : ℕ → List ℕ
-address_text a = decimal (a / 16777216) ++ dot ∷ decimal (a / 65536 % 256) ++ dot ∷ decimal (a / 256 % 256) ++ dot ∷ decimal (a % 256)
+address_text a =
+    decimal (a / 16777216) ++ dot ∷ decimal (a / 65536 % 256) ++ dot ∷ decimal (a / 256 % 256) ++ dot ∷ decimal (a % 256)
 
 -- the first bits of a prefix are those of the address; bits after them are ignored
 abbrev pub holds : Prefix → ℕ → Bool

@@ -31,8 +31,8 @@ tag_by empty (Err e) = Err (fault_in_tag e)
 abbrev pub tag_or : AttrFault → List ℕ → Result (List ℕ) AttrFault
 tag_or empty cs = tag_by empty (unescaped_text_at place.Tag cs)
 
--- where reading stands: in an element, with its characters so far; after `(`, with those of its tag so far; among the values of a tag,
--- with those that were read and the characters of the next so far; or after `)`
+-- where reading stands: in an element, with its characters so far; after `(`, with those of its tag so far; among the values
+-- of a tag, with those that were read and the characters of the next so far; or after `)`
 pub data Point : Type 0 where
   InElement : List ℕ → Point
   InTag : List ℕ → Point
@@ -50,7 +50,8 @@ read_end (AtEnd e) = Ok (e ∷ [])
 abbrev pub read_from : Point → List ℕ → Result (List Element) AttrFault
 read_from p [] = read_end p
 read_from (InElement cs) (c ∷ more) =
-    if c == comma then read_then (λ tag. read_map (λ es. record { tag = tag; values = [] } ∷ es) (read_from (InElement []) more)) (tag_or BadList cs)
+    if c == comma then read_then
+    (λ tag. read_map (λ es. record { tag = tag; values = [] } ∷ es) (read_from (InElement []) more)) (tag_or BadList cs)
     else (if c == left_parenthesis && list_all is_white cs then read_from (InTag []) more
     else read_from (InElement (cs ++ c ∷ [])) more)
 read_from (InTag cs) (c ∷ more) =
@@ -58,7 +59,8 @@ read_from (InTag cs) (c ∷ more) =
     else read_from (InTag (cs ++ c ∷ [])) more
 read_from (InValue tag vs cs) (c ∷ more) =
     if c == comma then read_then (λ v. read_from (InValue tag (vs ++ v ∷ []) []) more) (value_of cs)
-    else (if c == right_parenthesis then read_then (λ v. read_from (AtEnd (record { tag = tag; values = vs ++ v ∷ [] })) more) (value_of cs)
+    else (if c == right_parenthesis then read_then
+    (λ v. read_from (AtEnd (record { tag = tag; values = vs ++ v ∷ [] })) more) (value_of cs)
     else read_from (InValue tag vs (cs ++ c ∷ [])) more)
 read_from (AtEnd e) (c ∷ more) =
     if c == comma then read_map (λ es. e ∷ es) (read_from (InElement []) more)

@@ -24,7 +24,8 @@ opening_text tag = left_parenthesis ∷ tag_text tag ++ equals_sign ∷ []
 -- one attribute: `tag`, or `(tag=value,value)`
 abbrev pub attribute_text : List ℕ → Held → List ℕ
 attribute_text tag Keyword = tag_text tag
-attribute_text tag (Values vs) = left_parenthesis ∷ tag_text tag ++ equals_sign ∷ comma_list (map value_text vs) ++ right_parenthesis ∷ []
+attribute_text tag (Values vs) =
+    left_parenthesis ∷ tag_text tag ++ equals_sign ∷ comma_list (map value_text vs) ++ right_parenthesis ∷ []
 
 -- all of them in key order, with a comma between each two
 abbrev pub attributes_text : Attributes → List ℕ

@@ -39,7 +39,8 @@ negative (suc n) = if nat_lt n (2 ^ 31) then Some (negsuc n) else None
 -- digits, or `-` and digits, from -2147483648 to 2147483647
 abbrev pub integer_of : List ℕ → Option ℤ
 integer_of [] = None
-integer_of (c ∷ cs) = if c == hyphen then option_and_then negative (number_of cs) else option_and_then positive (number_of (c ∷ cs))
+integer_of (c ∷ cs) =
+    if c == hyphen then option_and_then negative (number_of cs) else option_and_then positive (number_of (c ∷ cs))
 
 -- ---- a value that is read
 

@@ -147,7 +147,8 @@ denial_of rules d scopes = option_map (by_rule rules d) (find (is_denied rules d
 
 -- the same as a judgement, for a deed of the asker
 abbrev pub denial_in : Grounds → Action → List ℕ → ℕ → List (List ℕ) → Option Judgement
-denial_in g action kind registrant scopes = option_map denial (denial_of g.rules (deed g.asker action kind registrant) scopes)
+denial_in g action kind registrant scopes =
+    option_map denial (denial_of g.rules (deed g.asker action kind registrant) scopes)
 
 -- what decides on a deed in some scopes, if there are any: what denies it in the first of them in which it is denied, else what allows it in the first of all
 abbrev pub ruling_on : SiteRules → Deed → List (List ℕ) → Option (Result Because Because)
@@ -176,9 +177,12 @@ because_of_placed d placed = because_of_entry d (arc_value placed.entry)
 abbrev pub denial_by : Decider → Judgement
 denial_by d = denial (by_step d None)
 
--- the URL, the type, the attributes, and those of the scopes that the site supports; or the first fault, where something is not read
-abbrev pub particulars_of_texts : Site → Option (List ℕ) → Option (List ℕ) → Option Attributes → Option (List (List ℕ)) → Result Particulars Judgement
-particulars_of_texts site (Some kind) (Some url) (Some attrs) (Some scopes) = Ok (record { url = url; kind = kind; scopes = common_keys site.scopes scopes; attrs = attrs })
+-- the URL, the type, the attributes, and those of the scopes that the site supports; or the first fault, where something is
+-- not read
+abbrev pub particulars_of_texts : Site → Option (List ℕ) → Option (List ℕ) → Option Attributes → Option (List (List ℕ))
+    → Result Particulars Judgement
+particulars_of_texts site (Some kind) (Some url) (Some attrs) (Some scopes) =
+    Ok (record { url = url; kind = kind; scopes = common_keys site.scopes scopes; attrs = attrs })
 particulars_of_texts site (Some kind) (Some url) (Some attrs) None = Err (denial_by decider.Parse)
 particulars_of_texts site (Some kind) (Some url) None scopes = Err (denial (by_step decider.Attributes (Some kind)))
 particulars_of_texts site (Some kind) None attrs scopes = Err (denial_by decider.Registration)
@@ -188,7 +192,8 @@ particulars_of_texts site None url attrs scopes = Err (denial_by decider.Registr
 abbrev pub particulars : Site → Header → Registration → Result Particulars Judgement
 particulars site h r =
     if length h.language == 0 || r.entry.lifetime == 0 then Err (denial_by decider.Registration)
-    else particulars_of_texts site (result_ok (type_of r.kind)) (result_ok (url_of r.entry.url)) (result_ok (attributes_in r.attributes)) (result_ok (scopes_of r.scopes))
+    else particulars_of_texts site (result_ok (type_of r.kind)) (result_ok (url_of r.entry.url))
+    (result_ok (attributes_in r.attributes)) (result_ok (scopes_of r.scopes))
 
 -- what the code finds of it
 abbrev pub particulars_in : Reading → Result Particulars Judgement
@@ -241,19 +246,31 @@ resulting_attributes fresh t o = if fresh then t.attrs else option_map_or (λ e.
 
 -- such attributes do not conform to the template of the type, if it has one
 abbrev pub denial_of_template : Grounds → List ℕ → Attributes → Option Judgement
-denial_of_template g kind a = if is_some (template_fault g.site.templates kind a) then Some (denial (by_step decider.Template (Some kind))) else None
+denial_of_template g kind a =
+    if is_some (template_fault g.site.templates kind a) then Some (denial (by_step decider.Template (Some kind))) else None
 
 -- the pair is not live, and the live entries fill the capacity
 abbrev pub denial_of_room : Grounds → Pair → Particulars → Option Judgement
-denial_of_room g q t = if is_none (fin.get g.live q) && (nat_le g.site.capacity (fin.len g.live)) then Some (denial (by_step decider.Full (Some t.kind))) else None
+denial_of_room g q t =
+    if is_none (fin.get g.live q) && (nat_le g.site.capacity (fin.len g.live))
+    then Some (denial (by_step decider.Full (Some t.kind))) else None
 
 -- the registration that is made
 abbrev pub putting_of : Grounds → Header → Registration → Particulars → Putting
-putting_of g h r t = record { asker = g.asker; url = r.entry.url; language = key_of h.language; kind = t.kind; scopes = t.scopes; attributes = t.attrs; lifetime = r.entry.lifetime }
+putting_of g h r t = record {
+  asker = g.asker;
+  url = r.entry.url;
+  language = key_of h.language;
+  kind = t.kind;
+  scopes = t.scopes;
+  attributes = t.attrs;
+  lifetime = r.entry.lifetime;
+}
 
 -- the update that is made
 abbrev pub setting_of : Header → Registration → Particulars → Setting
-setting_of h r t = record { url = r.entry.url; language = key_of h.language; attributes = t.attrs; lifetime = r.entry.lifetime }
+setting_of h r t =
+    record { url = r.entry.url; language = key_of h.language; attributes = t.attrs; lifetime = r.entry.lifetime }
 
 -- a fresh registration founds an entry, another updates one
 abbrev pub act_of : Grounds → Header → Registration → Particulars → Act
@@ -263,7 +280,8 @@ act_of g h r t = if h.flags.fresh then Put (putting_of g h r t) else history.Set
 abbrev pub allowance : Grounds → Particulars → Because
 allowance g t = by_rule g.rules (deed g.asker Register t.kind g.asker) (unwrap_or (slice_get t.scopes 0) [])
 
--- of a registration by its particulars: scopes, rules, what is live, template, room; it is accepted where none of these speaks against it
+-- of a registration by its particulars: scopes, rules, what is live, template, room; it is accepted where none of these
+-- speaks against it
 abbrev pub judgement_of_particulars : Grounds → Header → Registration → Particulars → Judgement
 judgement_of_particulars g h r t =
     unwrap_or
@@ -320,11 +338,12 @@ release g e = by_rule g.rules (deed g.asker Withdraw e.kind e.owner) (unwrap_or 
 abbrev pub withdrawal_event : Grounds → List ℕ → List (List ℕ) → Event
 withdrawal_event g url scopes = record { moment = g.now; act = history.Withdraw (record { url = url; scopes = scopes }) }
 
--- Where no entry is concerned the scopes are other ones. The first denial is that of the entry whose language comes first among those that may not
--- be withdrawn.
+-- Where no entry is concerned the scopes are other ones. The first denial is that of the entry whose language comes first
+-- among those that may not be withdrawn.
 abbrev pub judgement_of_entries : Grounds → List ℕ → List (List ℕ) → Option Entry → Option Entry → Judgement
 judgement_of_entries g url scopes None kept = denial_by decider.Scope
-judgement_of_entries g url scopes (Some first) kept = unwrap_or (denial_of_kept g kept) (Accepts (withdrawal_event g url scopes) (release g first))
+judgement_of_entries g url scopes (Some first) kept =
+    unwrap_or (denial_of_kept g kept) (Accepts (withdrawal_event g url scopes) (release g first))
 
 -- the entries concerned: those of the URL in just these scopes
 abbrev pub concerned_entries : Grounds → List ℕ → List (List ℕ) → List Entry
@@ -334,7 +353,8 @@ concerned_entries g url scopes = filter (is_registered url scopes) (entries_in g
 abbrev pub judgement_of_url : Grounds → List ℕ → List (List ℕ) → Judgement
 judgement_of_url g url scopes =
     if list_any (is_of_url url) (entries_in g.live)
-    then judgement_of_entries g url scopes (first_of (concerned_entries g url scopes)) (first_of (filter (is_kept g.rules g.asker) (concerned_entries g url scopes)))
+    then judgement_of_entries g url scopes (first_of (concerned_entries g url scopes))
+    (first_of (filter (is_kept g.rules g.asker) (concerned_entries g url scopes)))
     else Ignores
 
 -- ---- withdrawals of tags
@@ -343,12 +363,14 @@ judgement_of_url g url scopes =
 abbrev pub removal_event : Grounds → Pair → List Part → Event
 removal_event g q tags = record { moment = g.now; act = history.Remove (record { url = q.0; language = q.1; tags = tags }) }
 
--- what is live of the pair must be of just these scopes, its withdrawal allowed, and what is left of it conform; where nothing is live, nothing is changed
+-- what is live of the pair must be of just these scopes, its withdrawal allowed, and what is left of it conform; where
+-- nothing is live, nothing is changed
 abbrev pub judgement_of_tagged : Grounds → Pair → List Part → List (List ℕ) → Option Entry → Judgement
 judgement_of_tagged g q tags scopes None = Ignores
 judgement_of_tagged g q tags scopes (Some e) =
     if texts_eq e.scopes scopes
-    then unwrap_or (option_or (denial_in g Withdraw e.kind e.owner e.scopes) (denial_of_template g e.kind (attributes_without e.attrs tags))) (Accepts (removal_event g q tags) (release g e))
+    then unwrap_or (option_or (denial_in g Withdraw e.kind e.owner e.scopes)
+    (denial_of_template g e.kind (attributes_without e.attrs tags))) (Accepts (removal_event g q tags) (release g e))
     else denial_by decider.Scope
 
 -- of a withdrawal of tags: what is live of its pair
@@ -369,7 +391,8 @@ judgement_in_scopes g q tags (s ∷ ss) = judgement_of_tags g q tags (s ∷ ss)
 
 -- a URL, a list of tags and scopes that were read, each if it is one, and the language
 abbrev pub judgement_of_texts : Grounds → List ℕ → Option (List ℕ) → Option (List Part) → Option (List (List ℕ)) → Judgement
-judgement_of_texts g language (Some url) (Some tags) (Some scopes) = judgement_in_scopes g (url, language) tags (common_keys g.site.scopes scopes)
+judgement_of_texts g language (Some url) (Some tags) (Some scopes) =
+    judgement_in_scopes g (url, language) tags (common_keys g.site.scopes scopes)
 judgement_of_texts g language (Some url) (Some tags) None = denial_by decider.Parse
 judgement_of_texts g language (Some url) None scopes = denial_by decider.Parse
 judgement_of_texts g language None tags scopes = denial_by decider.Parse
@@ -377,7 +400,8 @@ judgement_of_texts g language None tags scopes = denial_by decider.Parse
 -- of a withdrawal: its URL, its tags and its scopes are read first
 abbrev pub judgement_of_withdrawal : Grounds → Header → Withdrawal → Judgement
 judgement_of_withdrawal g h w =
-    judgement_of_texts g (key_of h.language) (result_ok (url_of w.entry.url)) (result_ok (tags_of w.tags)) (result_ok (scopes_of w.scopes))
+    judgement_of_texts g (key_of h.language) (result_ok (url_of w.entry.url)) (result_ok (tags_of w.tags))
+    (result_ok (scopes_of w.scopes))
 
 -- ---- messages that may change something
 

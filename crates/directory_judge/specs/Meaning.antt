@@ -96,8 +96,8 @@ founding q h = unless_withdrawn (since_put q h) (last_that (put_of q) h)
 abbrev pub tag_at : Pair → List ℕ → History → Option (Option Held)
 tag_at q tag h = last_that (held_of q tag) h
 
--- An entry stands: its owner, type and scopes are its founding's, each tag holds what the last event says that speaks of it, and the deadline is what the last
--- event says that sets one.
+-- An entry stands: its owner, type and scopes are its founding's, each tag holds what the last event says that speaks of it,
+-- and the deadline is what the last event says that sets one.
 pub record Stands (h : History) (e : Entry) : Type 0 where
   pub by : Putting
   pub founded : founding (pair_of e) h ≡ Some by

@@ -46,7 +46,13 @@ is_change_of bytes = option_map_or (λ h. is_change_function h.function) (headin
 -- the boot stamp, the address to which the question came, and the scopes of the site (RFC 2608, section 8.5)
 abbrev pub advert_of : Site → ℕ → Heading → Message
 advert_of site own h = message.DirectoryAdvert (reply_header h false) (directory_advert.Present
-    (record { boot = site.boot; url = codes "service:directory-agent://" ++ address_text own; scopes = printed_scopes site.scopes; attributes = []; indices = [] }))
+    (record {
+      boot = site.boot;
+      url = codes "service:directory-agent://" ++ address_text own;
+      scopes = printed_scopes site.scopes;
+      attributes = [];
+      indices = [];
+    }))
 
 -- who asks for directory agents is answered by an advert, also with a code
 abbrev pub advert_code : Heading → ℕ → Because → Outcome
@@ -54,7 +60,8 @@ advert_code h code because = code_outcome_as h code because DIRECTORY_ADVERT
 
 -- a DAAdvert, and that nobody had to decide (RFC 2608, section 8.5)
 abbrev pub advert_outcome : Site → ℕ → Heading → List ℕ → Outcome
-advert_outcome site own h kind = outcome (sent_of h OK false (plain_bytes (advert_of site own h))) OK (by_step decider.Nobody (Some kind))
+advert_outcome site own h kind =
+    outcome (sent_of h OK false (plain_bytes (advert_of site own h))) OK (by_step decider.Nobody (Some kind))
 
 -- some scope is supported, or none is named
 abbrev pub is_agent_for : Site → List (List ℕ) → Bool
@@ -64,7 +71,8 @@ is_agent_for site (s ∷ scopes) = list_any (supports site) (s ∷ scopes)
 -- who asks for agents of a type, in these scopes, if they were read
 abbrev pub agents_outcome : Site → ℕ → Heading → List ℕ → Option (List (List ℕ)) → Outcome
 agents_outcome site own h kind None = advert_code h (code_by decider.Parse) (by_step decider.Parse None)
-agents_outcome site own h kind (Some scopes) = if is_agent_for site scopes then advert_outcome site own h kind else advert_code h (code_by decider.Scope) (by_step decider.Scope (Some kind))
+agents_outcome site own h kind (Some scopes) = if is_agent_for site scopes then advert_outcome site own h kind
+    else advert_code h (code_by decider.Scope) (by_step decider.Scope (Some kind))
 
 -- ---- what bytes ask for
 
@@ -84,7 +92,8 @@ pub data Sense : Type 0 where
 -- what is asked in these scopes, of a type if one is named, where the site supports one of them
 abbrev pub sense_within : Site → Heading → List (List ℕ) → Option (List ℕ) → Sense → Sense
 sense_within site h scopes kind sense =
-    if list_any (supports site) scopes then sense else Settled (code_outcome h (code_by decider.Scope) (by_step decider.Scope kind))
+    if list_any (supports site) scopes then sense
+    else Settled (code_outcome h (code_by decider.Scope) (by_step decider.Scope kind))
 
 -- of a question: nothing, a fault, or what is asked within scopes
 abbrev pub sense_of_question : Site → ℕ → Heading → Question → Sense
@@ -113,9 +122,12 @@ question_of own (message.ServiceAdvert header a) = Silent
 abbrev pub sense_of_message : Site → ℕ → Heading → Message → Sense
 sense_of_message site own h (message.Registration header r) = Changes h (message.Registration header r)
 sense_of_message site own h (message.Withdrawal header w) = Changes h (message.Withdrawal header w)
-sense_of_message site own h (message.ServiceRequest header q) = sense_of_question site own h (question_of own (message.ServiceRequest header q))
-sense_of_message site own h (message.AttributeRequest header q) = sense_of_question site own h (question_of own (message.AttributeRequest header q))
-sense_of_message site own h (message.TypeRequest header q) = sense_of_question site own h (question_of own (message.TypeRequest header q))
+sense_of_message site own h (message.ServiceRequest header q) =
+    sense_of_question site own h (question_of own (message.ServiceRequest header q))
+sense_of_message site own h (message.AttributeRequest header q) =
+    sense_of_question site own h (question_of own (message.AttributeRequest header q))
+sense_of_message site own h (message.TypeRequest header q) =
+    sense_of_question site own h (question_of own (message.TypeRequest header q))
 sense_of_message site own h (message.ServiceReply header r) = Settled silence
 sense_of_message site own h (message.Acknowledgement header code) = Settled silence
 sense_of_message site own h (message.AttributeReply header r) = Settled silence
@@ -140,13 +152,15 @@ sense_of site c = sense_under site c.own (heading_of c.bytes) (reading c.bytes)
 -- ---- what is answered
 
 -- of items that are listed in a message as many are sent as fit
-pub record IsCutReply {A : Type 0} (listed : List A → ℕ → Message) (limit : ℕ) (h : Heading) (because : Because) (items : List A) (r : Outcome) : Type 0 where
+pub record IsCutReply {A : Type 0} (listed : List A → ℕ → Message) (limit : ℕ) (h : Heading) (because : Because)
+    (items : List A) (r : Outcome) : Type 0 where
   pub whole : List ℕ
   pub cut : IsCut (length items) (listed items) limit whole
   pub sent : r ≡ outcome (sent_of h OK (length items == 0) whole) OK because
 
 -- services are found among the entries that are open, at a moment
-pub record IsServiceAnswer (IsOpen : Entry → Type 0) (at limit : ℕ) (h : Heading) (q : ServiceQuery) (r : Outcome) : Type 0 where
+pub record IsServiceAnswer (IsOpen : Entry → Type 0) (at limit : ℕ) (h : Heading) (q : ServiceQuery)
+    (r : Outcome) : Type 0 where
   pub items : List UrlEntry
   pub are : AreItems (Answers IsOpen q) at items
   pub reply : IsCutReply (services_with h) limit h (by_step decider.Nobody (Some q.kind)) items r
@@ -155,7 +169,8 @@ pub record IsServiceAnswer (IsOpen : Entry → Type 0) (at limit : ℕ) (h : Hea
 pub record IsAttributeAnswer (IsOpen : Entry → Type 0) (limit : ℕ) (h : Heading) (q : AttrQuery) (r : Outcome) : Type 0 where
   pub attributes : Attributes
   pub are : AreJoined (IsDescribed IsOpen q) q attributes
-  pub reply : IsCutReply (attributes_with h) limit h (by_step decider.Nobody (kind_asked q.target)) (attribute_texts attributes) r
+  pub reply : IsCutReply (attributes_with h) limit h (by_step decider.Nobody (kind_asked q.target))
+      (attribute_texts attributes) r
 
 -- types are found among the entries that are open
 pub record IsTypeAnswer (IsOpen : Entry → Type 0) (limit : ℕ) (h : Heading) (q : TypeQuery) (r : Outcome) : Type 0 where
@@ -169,7 +184,8 @@ language_outcome h kind = code_outcome h (code_by decider.Language) (by_step dec
 
 -- services are listed, or there are none in the language
 abbrev pub IsListed : (Entry → Type 0) → ℕ → ℕ → Heading → ServiceQuery → Outcome → Type 0
-IsListed IsOpen at limit h q r = (IsForeign IsOpen q × (r ≡ language_outcome h (Some q.kind))) ⊎ ((¬ IsForeign IsOpen q) × IsServiceAnswer IsOpen at limit h q r)
+IsListed IsOpen at limit h q r = (IsForeign IsOpen q × (r ≡ language_outcome h (Some q.kind)))
+    ⊎ ((¬ IsForeign IsOpen q) × IsServiceAnswer IsOpen at limit h q r)
 
 -- attributes are joined, or there are none in the language
 abbrev pub IsDescription : (Entry → Type 0) → ℕ → Heading → AttrQuery → Outcome → Type 0
@@ -180,10 +196,14 @@ IsDescription IsOpen limit h q r =
 -- what may come of a sense at a history, and the change that is made
 abbrev pub IsAnswerTo : Opening → History → Call → Sense → Outcome → Option Event → Type 0
 IsAnswerTo o h c (Settled it) r change = (r ≡ it) × (change ≡ None)
-IsAnswerTo o h c (Lists head q) r change = IsListed (IsOpenNow (standpoint_of o h c) q.scopes) (now h c.moment) c.limit head q r × (change ≡ None)
-IsAnswerTo o h c (Describes head q) r change = IsDescription (IsOpenNow (standpoint_of o h c) q.scopes) c.limit head q r × (change ≡ None)
-IsAnswerTo o h c (Names head q) r change = IsTypeAnswer (IsOpenNow (standpoint_of o h c) q.scopes) c.limit head q r × (change ≡ None)
-IsAnswerTo o h c (Changes head m) r change = (v : Judgement) × IsVerdict (standpoint_of o h c) m v × (r ≡ acknowledgement_of head v) × (change ≡ change_in v)
+IsAnswerTo o h c (Lists head q) r change =
+    IsListed (IsOpenNow (standpoint_of o h c) q.scopes) (now h c.moment) c.limit head q r × (change ≡ None)
+IsAnswerTo o h c (Describes head q) r change =
+    IsDescription (IsOpenNow (standpoint_of o h c) q.scopes) c.limit head q r × (change ≡ None)
+IsAnswerTo o h c (Names head q) r change =
+    IsTypeAnswer (IsOpenNow (standpoint_of o h c) q.scopes) c.limit head q r × (change ≡ None)
+IsAnswerTo o h c (Changes head m) r change =
+    (v : Judgement) × IsVerdict (standpoint_of o h c) m v × (r ≡ acknowledgement_of head v) × (change ≡ change_in v)
 
 -- what may come of bytes at a history, and the change that is made
 unfoldable pub IsAnswer : Opening → History → Call → Outcome → Option Event → Type 0

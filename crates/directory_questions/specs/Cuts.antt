@@ -21,7 +21,8 @@ pub record IsCut (number : ℕ) (message_with : ℕ → Message) (limit : ℕ) (
 
 -- the header of a reply; OVERFLOW says that some items are left out
 abbrev pub reply_header : Heading → Bool → Header
-reply_header h is_cut = record { flags = record { overflow = is_cut; fresh = false; multicast = false }; xid = h.xid; language = h.language }
+reply_header h is_cut =
+    record { flags = record { overflow = is_cut; fresh = false; multicast = false }; xid = h.xid; language = h.language }
 
 -- the same with so many items of all
 abbrev pub cut_header : Heading → ℕ → ℕ → Header
@@ -33,8 +34,10 @@ services_with h items count = message.ServiceReply (cut_header h (length items) 
 
 -- the reply to an attribute request with the first so many attributes, as they are written
 abbrev pub attributes_with : Heading → List (List ℕ) → ℕ → Message
-attributes_with h texts count = message.AttributeReply (cut_header h (length texts) count) (attribute_reply.Found (comma_list (take count texts)))
+attributes_with h texts count =
+    message.AttributeReply (cut_header h (length texts) count) (attribute_reply.Found (comma_list (take count texts)))
 
 -- the reply to a type request with the first so many types
 abbrev pub types_with : Heading → List (List ℕ) → ℕ → Message
-types_with h types count = message.TypeReply (cut_header h (length types) count) (type_reply.Found (comma_list (take count types)))
+types_with h types count =
+    message.TypeReply (cut_header h (length types) count) (type_reply.Found (comma_list (take count types)))

@@ -25,7 +25,8 @@ use Rattle.directory_questions.specs.declared.query.Target.{Target}
 use Rattle.directory_questions.specs.declared.query.Target.TheVariants.{Kind, Place}
 use Rattle.directory_questions.specs.declared.query.TypeQuery.{TypeQuery}
 
--- some scope of the entry, of the request and of the site is one in which the asker may see what its owner registered of its type
+-- some scope of the entry, of the request and of the site is one in which the asker may see what its owner registered of its
+-- type
 pub record Open (rs : SiteRules) (site : Site) (asker : ℕ) (asked : List (List ℕ)) (e : Entry) : Type 0 where
   pub scope : List ℕ
   pub stored : Contains e.scopes scope
@@ -33,7 +34,8 @@ pub record Open (rs : SiteRules) (site : Site) (asker : ℕ) (asked : List (List
   pub supported : Contains site.scopes scope
   pub allowed : IsTrue (deciding rs (deed asker See e.kind e.owner) scope).allow
 
--- what is seen of an entry that is live, and open to the asker in the scopes that are asked for: the entry with what is shown of it there
+-- what is seen of an entry that is live, and open to the asker in the scopes that are asked for: the entry with what is
+-- shown of it there
 pub record IsOpenNow (from : Standpoint) (asked : List (List ℕ)) (e : Entry) : Type 0 where
   pub entry : Entry
   pub live : Live from.history from.moment entry

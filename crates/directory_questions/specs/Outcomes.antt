@@ -35,7 +35,8 @@ code_sent r = elim r.reply [ [] ↦ None | b ∷ bs ↦ elim r.verdict [ None �
 abbrev pub is_to_many : Heading → Bool
 is_to_many h = has_flag MULTICAST h.flags && is_question_function h.function
 
--- what is sent of a reply with a code, which may have nothing in it: a question that was sent to many gets no error and nothing empty. The verdict stands.
+-- what is sent of a reply with a code, which may have nothing in it: a question that was sent to many gets no error and
+-- nothing empty. The verdict stands.
 abbrev pub sent_of : Heading → ℕ → Bool → List ℕ → List ℕ
 sent_of h code is_empty reply = if is_to_many h && (not (code == OK) || is_empty) then [] else reply
 
@@ -43,7 +44,8 @@ sent_of h code is_empty reply = if is_to_many h && (not (code == OK) || is_empty
 
 -- a code and why, in answer to a message of a function that is answered
 abbrev pub code_outcome_as : Heading → ℕ → Because → ℕ → Outcome
-code_outcome_as h code because function = outcome (sent_of h code false (refusal_bytes function code h.xid h.language)) code because
+code_outcome_as h code because function =
+    outcome (sent_of h code false (refusal_bytes function code h.xid h.language)) code because
 
 -- a reply that has a code alone, where the function of the message has a reply
 abbrev pub code_outcome : Heading → ℕ → Because → Outcome

@@ -45,7 +45,8 @@ unless_answered own responders q = if has_answered own responders then Silent el
 -- by the predicate that is read, if it is
 abbrev pub services_by : Header → List ℕ → List (List ℕ) → Option (Option Filter) → Question
 services_by h kind scopes None = Unreadable
-services_by h kind scopes (Some filter) = Services (record { kind = kind; scopes = scopes; language = key_of h.language; filter = filter })
+services_by h kind scopes (Some filter) =
+    Services (record { kind = kind; scopes = scopes; language = key_of h.language; filter = filter })
 
 -- by the scopes that are read, if they are
 abbrev pub services_in : Header → List ℕ → Option (List (List ℕ)) → Option (Option Filter) → Question
@@ -66,7 +67,8 @@ services_as h (Some kind) scopes filter =
 
 -- what a SrvRqst asks, by its texts
 abbrev pub service_question : Header → ServiceRequest → Question
-service_question h q = services_as h (result_ok (type_of q.kind)) (result_ok (scopes_of q.scopes)) (result_ok (predicate_in q.predicate))
+service_question h q =
+    services_as h (result_ok (type_of q.kind)) (result_ok (scopes_of q.scopes)) (result_ok (predicate_in q.predicate))
 
 -- ---- attribute requests
 
@@ -81,7 +83,8 @@ target_of text = target_as (result_ok (type_of text)) (result_ok (url_of text))
 
 -- of what, in which scopes and which tags, each if it is read
 abbrev pub attributes_as : Header → Option Target → Option (List (List ℕ)) → Option (List Part) → Question
-attributes_as h (Some target) (Some scopes) (Some tags) = Attributes (record { target = target; scopes = scopes; language = key_of h.language; tags = tags })
+attributes_as h (Some target) (Some scopes) (Some tags) =
+    Attributes (record { target = target; scopes = scopes; language = key_of h.language; tags = tags })
 attributes_as h (Some target) (Some scopes) None = Unreadable
 attributes_as h (Some target) None tags = Unreadable
 attributes_as h None scopes tags = Unreadable

@@ -70,7 +70,11 @@ abbrev all_may : List ℕ → Action → Rule
 all_may name action = record { name = name; from = every; action = action; kind = None; scopes = None; allow = true; owner = false }
 
 abbrev open_rules : SiteRules
-open_rules = record { rules = all_may (codes "all-register") Register ∷ all_may (codes "all-withdraw") Withdraw ∷ all_may (codes "all-see") See ∷ []; hides = [] }
+open_rules = record {
+  rules = all_may (codes "all-register") Register ∷ all_may (codes "all-withdraw") Withdraw
+      ∷ all_may (codes "all-see") See ∷ [];
+  hides = [];
+}
 
 abbrev open_site : Opening
 open_site = record { rules = open_rules; site = record { scopes = codes "default" ∷ []; capacity = 16; templates = fin.empty; boot = 1 } }
@@ -80,7 +84,10 @@ called bytes = record { own = 2130706433; moment = 0; asker = 167772161; bytes =
 
 -- a SrvReg of the printer, for 300 seconds, with the flag FRESH (RFC 2608, section 8.3)
 register : Call
-register = called (2 ∷ 3 ∷ 0 ∷ 0 ∷ 78 ∷ 64 ∷ 0 ∷ 0 ∷ 0 ∷ 0 ∷ 0 ∷ 2 ∷ 0 ∷ 2 ∷ 101 ∷ 110 ∷ 0 ∷ 1 ∷ 44 ∷ 0 ∷ 23 ∷ 115 ∷ 101 ∷ 114 ∷ 118 ∷ 105 ∷ 99 ∷ 101 ∷ 58 ∷ 112 ∷ 114 ∷ 105 ∷ 110 ∷ 116 ∷ 101 ∷ 114 ∷ 58 ∷ 108 ∷ 112 ∷ 114 ∷ 58 ∷ 47 ∷ 47 ∷ 97 ∷ 0 ∷ 0 ∷ 19 ∷ 115 ∷ 101 ∷ 114 ∷ 118 ∷ 105 ∷ 99 ∷ 101 ∷ 58 ∷ 112 ∷ 114 ∷ 105 ∷ 110 ∷ 116 ∷ 101 ∷ 114 ∷ 58 ∷ 108 ∷ 112 ∷ 114 ∷ 0 ∷ 7 ∷ 68 ∷ 69 ∷ 70 ∷ 65 ∷ 85 ∷ 76 ∷ 84 ∷ 0 ∷ 0 ∷ 0 ∷ [])
+register = called (2 ∷ 3 ∷ 0 ∷ 0 ∷ 78 ∷ 64 ∷ 0 ∷ 0 ∷ 0 ∷ 0 ∷ 0 ∷ 2 ∷ 0 ∷ 2 ∷ 101 ∷ 110 ∷ 0 ∷ 1 ∷ 44 ∷ 0 ∷ 23 ∷ 115 ∷ 101
+    ∷ 114 ∷ 118 ∷ 105 ∷ 99 ∷ 101 ∷ 58 ∷ 112 ∷ 114 ∷ 105 ∷ 110 ∷ 116 ∷ 101 ∷ 114 ∷ 58 ∷ 108 ∷ 112 ∷ 114 ∷ 58 ∷ 47 ∷ 47
+    ∷ 97 ∷ 0 ∷ 0 ∷ 19 ∷ 115 ∷ 101 ∷ 114 ∷ 118 ∷ 105 ∷ 99 ∷ 101 ∷ 58 ∷ 112 ∷ 114 ∷ 105 ∷ 110 ∷ 116 ∷ 101 ∷ 114 ∷ 58
+    ∷ 108 ∷ 112 ∷ 114 ∷ 0 ∷ 7 ∷ 68 ∷ 69 ∷ 70 ∷ 65 ∷ 85 ∷ 76 ∷ 84 ∷ 0 ∷ 0 ∷ 0 ∷ [])
 
 -- a SrvRqst for printers (RFC 2608, section 8.1)
 ask : Call
@@ -125,7 +132,18 @@ abbrev named : Particulars
 named = record { url = url; kind = lpr; scopes = codes "default" ∷ []; attrs = attributes_of [] }
 
 abbrev put : Event
-put = record { moment = 0; act = Put (record { asker = 167772161; url = url; language = en; kind = lpr; scopes = codes "default" ∷ []; attributes = attributes_of []; lifetime = 300 }) }
+put = record {
+  moment = 0;
+  act = Put (record {
+    asker = 167772161;
+    url = url;
+    language = en;
+    kind = lpr;
+    scopes = codes "default" ∷ [];
+    attributes = attributes_of [];
+    lifetime = 300;
+  });
+}
 
 nothing_lives : AreLive [] 0 fin.empty
 nothing_lives q e = ((λ found. absurd (none-some e (sym (fin.get-empty pair_cmp q) ∙ found))), (λ is. absurd (none-some is.1.stands.by is.1.stands.founded)))

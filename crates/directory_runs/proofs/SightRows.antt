@@ -36,7 +36,15 @@ two_scopes = record { scopes = a ∷ b ∷ []; capacity = 16; templates = fin.em
 
 -- what 10.0.0.1 registered in both
 abbrev printer : Entry
-printer = record { url = codes "service:printer:lpr://a"; language = codes "en"; kind = codes "service:printer:lpr"; scopes = a ∷ b ∷ []; attrs = attributes_of []; deadline = 300; owner = one }
+printer = record {
+  url = codes "service:printer:lpr://a";
+  language = codes "en";
+  kind = codes "service:printer:lpr";
+  scopes = a ∷ b ∷ [];
+  attrs = attributes_of [];
+  deadline = 300;
+  owner = one;
+}
 
 nothing_in : (x : List ℕ) → Contains [] x → ⊥
 nothing_in x has = omega (arith, has.1)
@@ -66,7 +74,18 @@ in_both = record { scope = b; stored = there a b (b ∷ []) (here b []); request
 -- ---- each sees what it registered itself
 
 abbrev mine : SiteRules
-mine = record { rules = record { name = codes "mine"; from = every; action = See; kind = None; scopes = None; allow = true; owner = true } ∷ []; hides = [] }
+mine = record {
+  rules = record {
+    name = codes "mine";
+    from = every;
+    action = See;
+    kind = None;
+    scopes = None;
+    allow = true;
+    owner = true;
+  } ∷ [];
+  hides = [];
+}
 
 own_is_seen : Open mine two_scopes one (a ∷ []) printer
 own_is_seen = record { scope = a; stored = here a (b ∷ []); requested = here a []; supported = here a (b ∷ []); allowed = refl }
@@ -94,8 +113,23 @@ location = codes "location"
 
 abbrev hidden_in_a : SiteRules
 hidden_in_a = record {
-  rules = record { name = codes "all-see"; from = every; action = See; kind = None; scopes = None; allow = true; owner = false } ∷ [];
-  hides = record { name = codes "in-a"; from = every; kind = None; scopes = Some (a ∷ []); tags = map Some location ∷ []; spares_owner = true } ∷ [];
+  rules = record {
+    name = codes "all-see";
+    from = every;
+    action = See;
+    kind = None;
+    scopes = None;
+    allow = true;
+    owner = false;
+  } ∷ [];
+  hides = record {
+    name = codes "in-a";
+    from = every;
+    kind = None;
+    scopes = Some (a ∷ []);
+    tags = map Some location ∷ [];
+    spares_owner = true;
+  } ∷ [];
 }
 
 hidden : is_shown hidden_in_a two (a ∷ []) printer location ≡ false

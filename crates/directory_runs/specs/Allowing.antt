@@ -27,7 +27,8 @@ use Rattle.directory_questions.specs.Verdicts.{grounds}
 
 -- the rules let the asker do it with what a registrant has of the type, in each of the scopes
 abbrev pub IsRuledIn : Grounds → Action → List ℕ → ℕ → List (List ℕ) → Type 0
-IsRuledIn g action kind registrant scopes = (s : List ℕ) → Contains scopes s → IsTrue (deciding g.rules (deed g.asker action kind registrant) s).allow
+IsRuledIn g action kind registrant scopes =
+    (s : List ℕ) → Contains scopes s → IsTrue (deciding g.rules (deed g.asker action kind registrant) s).allow
 
 -- ---- registrations and updates
 
@@ -52,15 +53,17 @@ MayFollow false g q named = MayUpdate g q named
 abbrev pub HasRoom : Grounds → Pair → Type 0
 HasRoom g q = fin.get g.live q ≡ None → fin.len g.live < g.site.capacity
 
--- A registration makes its change: all that it names is read, some of its scopes are the site's, the rules allow its type in each of these, what is live of its pair may
--- be replaced or is what it updates, what would stand conforms to the template, and there is room.
+-- A registration makes its change: all that it names is read, some of its scopes are the site's, the rules allow its type in
+-- each of these, what is live of its pair may be replaced or is what it updates, what would stand conforms to the template,
+-- and there is room.
 pub record RegistrationIsAllowed (g : Grounds) (h : Header) (r : Registration) (event : Event) : Type 0 where
   pub named : Particulars
   pub reads : particulars g.site h r ≡ Ok named
   pub in_scope : 0 < length named.scopes
   pub ruled : IsRuledIn g action.Register named.kind g.asker named.scopes
   pub follows : MayFollow h.flags.fresh g (pair_in h r) named
-  pub conforms : ConformsTo g.site.templates named.kind (resulting_attributes h.flags.fresh named (fin.get g.live (pair_in h r)))
+  pub conforms : ConformsTo g.site.templates named.kind
+      (resulting_attributes h.flags.fresh named (fin.get g.live (pair_in h r)))
   pub room : HasRoom g (pair_in h r)
   pub is : event ≡ record { moment = g.now; act = act_of g h r named }
 
@@ -74,7 +77,8 @@ pub record UrlIsReleased (g : Grounds) (url : List ℕ) (scopes : List (List ℕ
   pub is : event ≡ withdrawal_event g url scopes
 
 -- tags are withdrawn: the entry is live, in just these scopes, the rules allow it, and what is left conforms to the template
-pub record TagsAreReleased (g : Grounds) (q : Pair) (tags : List Part) (scopes : List (List ℕ)) (event : Event) : Type 0 where
+pub record TagsAreReleased (g : Grounds) (q : Pair) (tags : List Part) (scopes : List (List ℕ))
+    (event : Event) : Type 0 where
   pub entry : Entry
   pub live : fin.get g.live q ≡ Some entry
   pub same : entry.scopes ≡ scopes

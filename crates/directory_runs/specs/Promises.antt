@@ -41,20 +41,25 @@ is_overflowed reply = (flags_of (fields_of reply).flags).overflow
 
 -- the reply is the site's advert, at the address to which it was asked (RFC 2608, section 8.5)
 abbrev pub IsAdvert : Opening → Call → List ℕ → Type 0
-IsAdvert o c reply = (head : Heading) × (heading_of c.bytes ≡ Some head) × (reply ≡ plain_bytes (advert_of o.site c.own head))
+IsAdvert o c reply =
+    (head : Heading) × (heading_of c.bytes ≡ Some head) × (reply ≡ plain_bytes (advert_of o.site c.own head))
 
--- The reply is the message of exactly the services, the attributes or the types that answer, all of them; what is the same at every history is the site's
--- advert. An acknowledgement holds nothing.
+-- The reply is the message of exactly the services, the attributes or the types that answer, all of them; what is the same
+-- at every history is the site's advert. An acknowledgement holds nothing.
 abbrev pub HoldsExactly : Opening → History → Call → Sense → List ℕ → Type 0
-HoldsExactly o h c (Lists head q) reply = (items : List UrlEntry) × AreServices (standpoint_of o h c) q items × (reply ≡ plain_bytes (services_with head items (length items)))
-HoldsExactly o h c (Describes head q) reply = (a : Attributes) × AreAttributesOf (standpoint_of o h c) q a × (reply ≡ plain_bytes (attributes_with head (attribute_texts a) (length (attribute_texts a))))
-HoldsExactly o h c (Names head q) reply = (types : List (List ℕ)) × AreTypesOf (standpoint_of o h c) q types × (reply ≡ plain_bytes (types_with head types (length types)))
+HoldsExactly o h c (Lists head q) reply = (items : List UrlEntry) × AreServices (standpoint_of o h c) q items
+    × (reply ≡ plain_bytes (services_with head items (length items)))
+HoldsExactly o h c (Describes head q) reply = (a : Attributes) × AreAttributesOf (standpoint_of o h c) q a
+    × (reply ≡ plain_bytes (attributes_with head (attribute_texts a) (length (attribute_texts a))))
+HoldsExactly o h c (Names head q) reply = (types : List (List ℕ)) × AreTypesOf (standpoint_of o h c) q types
+    × (reply ≡ plain_bytes (types_with head types (length types)))
 HoldsExactly o h c (Settled it) reply = IsAdvert o c reply
 HoldsExactly o h c (Changes head sent) reply = Unit {0}
 
 -- ---- a denial
 
--- a rule that decided is the one that decides on what was asked, in the scope that is named, and denies it; by default no rule fits
+-- a rule that decided is the one that decides on what was asked, in the scope that is named, and denies it; by default no
+-- rule fits
 pub record IsRuledOut (rs : SiteRules) (asker : ℕ) (action : Action) (because : Because) : Type 0 where
   pub kind : List ℕ
   pub registrant : ℕ
@@ -80,27 +85,35 @@ asks_for_agents own (Err e) = false
 
 -- the function of a reply: that of what was asked, or an advert to who asks for directory agents
 abbrev pub answering_function : Call → Heading → Option ℕ
-answering_function c head = if asks_for_agents c.own (reading c.bytes) then Some DIRECTORY_ADVERT else reply_function_of head.function
+answering_function c head =
+    if asks_for_agents c.own (reading c.bytes) then Some DIRECTORY_ADVERT else reply_function_of head.function
 
--- A denial has the code of who decided, in the reply, of which none goes out to what was sent to many, and in its line, which names who decided: a rule by its name.
+-- A denial has the code of who decided, in the reply, of which none goes out to what was sent to many, and in its line,
+-- which names who decided: a rule by its name.
 pub record IsDenial (rs : SiteRules) (c : Call) (head : Heading) (r : Outcome) (code : ℕ) (because : Because) : Type 0 where
   pub coded : code ≡ code_by because.decider
-  pub carried : (function : ℕ) × (answering_function c head ≡ Some function) × (r.reply ≡ sent_of head code false (refusal_bytes function code head.xid head.language))
-  pub line : (rest : List ℕ) × (line_of rs c.asker (Some head) r ≡ codes "# deny code=" ++ decimal code ++ codes " by=" ++ decider_text (rule_named rs because.decider) because.decider ++ codes " action=" ++ rest)
+  pub carried : (function : ℕ) × (answering_function c head ≡ Some function)
+      × (r.reply ≡ sent_of head code false (refusal_bytes function code head.xid head.language))
+  pub line : (rest : List ℕ)
+      × (line_of rs c.asker (Some head) r ≡ codes "# deny code=" ++ decimal code ++ codes " by="
+      ++ decider_text (rule_named rs because.decider) because.decider ++ codes " action=" ++ rest)
   pub by_rule : (index : ℕ) → because.decider ≡ decider.Rule index → IsRuledOut rs c.asker (action_of head) because
   pub by_default : because.decider ≡ decider.Default → IsRuledOut rs c.asker (action_of head) because
 
 -- every denial among what may come of bytes is one
 abbrev pub DenialsAreKept : SiteRules → Call → Outcome → Type 0
-DenialsAreKept rs c r = (code : ℕ) (because : Because) → r.verdict ≡ Some (code, because) → code ≢ OK → (head : Heading) × (heading_of c.bytes ≡ Some head) × IsDenial rs c head r code because
+DenialsAreKept rs c r = (code : ℕ) (because : Because) → r.verdict ≡ Some (code, because) → code ≢ OK → (head : Heading)
+    × (heading_of c.bytes ≡ Some head) × IsDenial rs c head r code because
 
 -- ---- what happens
 
--- A loop answers at one published state, which begins with all that the loop had seen and was told. A reply of code 0 without the flag holds exactly what is live, matches and is open to the asker there.
+-- A loop answers at one published state, which begins with all that the loop had seen and was told. A reply of code 0
+-- without the flag holds exactly what is live, matches and is open to the asker there.
 pub record IsReplyKept (o : Opening) (w : World) (loop : ℕ) (c : Call) (r : Outcome) : Type 0 where
   pub legal : IsLegal o w.published
   pub known : IsPast (w.seen loop) w.published
-  pub exact : code_sent r ≡ Some OK → is_overflowed r.reply ≡ false → HoldsExactly o w.published c (sense_of o.site c) r.reply
+  pub exact : code_sent r ≡ Some OK → is_overflowed r.reply ≡ false
+      → HoldsExactly o w.published c (sense_of o.site c) r.reply
   pub denials : DenialsAreKept (rules o.rules w.published) c r
 
 -- what bytes ask for is allowed
@@ -114,7 +127,8 @@ IsAllowedBy from (Names head q) event = ⊥
 -- a change is published exactly where it is allowed, and else what is published stays
 pub record IsChangeKept (o : Opening) (w : World) (c : Call) (r : Outcome) (change : Option Event) : Type 0 where
   pub legal : IsLegal o w.published
-  pub exact : (event : Event) → ((happened w (Publish c r change)).published ≡ event ∷ w.published) ↔ IsAllowedBy (standpoint_of o w.published c) (sense_of o.site c) event
+  pub exact : (event : Event) → ((happened w (Publish c r change)).published ≡ event ∷ w.published)
+      ↔ IsAllowedBy (standpoint_of o w.published c) (sense_of o.site c) event
   pub kept : change ≡ None → (happened w (Publish c r change)).published ≡ w.published
   pub denials : DenialsAreKept (rules o.rules w.published) c r
 

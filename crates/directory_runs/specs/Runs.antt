@@ -52,7 +52,10 @@ abbrev pub happened : World → Happening → World
 happened w (Publish c t change) = record w { published = history_with change w.published }
 happened w (Sweep m) = record w { published = record { moment = now w.published m; act = Swept } ∷ w.published }
 happened w (Reload m rs) = record w { published = record { moment = now w.published m; act = Reloaded rs } ∷ w.published }
-happened w (Entry i c t) = record w { seen = shown i w.published w.seen; replies = record { loop = i; at = w.published; call = c; outcome = t } ∷ w.replies }
+happened w (Entry i c t) = record w {
+  seen = shown i w.published w.seen;
+  replies = record { loop = i; at = w.published; call = c; outcome = t } ∷ w.replies;
+}
 happened w (Look i) = record w { seen = shown i w.published w.seen }
 happened w Tell = record w { notes = w.published ∷ w.notes }
 happened w (Learn i n) = record w { seen = shown i (longer (w.seen i) n) w.seen }

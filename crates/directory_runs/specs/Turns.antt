@@ -26,7 +26,8 @@ pub record Telling : Type 0 where
 
 -- ---- a loop
 
--- what a call of a loop left it to have seen, and what it told; it tells nothing where no memory is found, and where nothing is asked
+-- what a call of a loop left it to have seen, and what it told; it tells nothing where no memory is found, and where nothing
+-- is asked
 pub record Turn : Type 0 where
   pub seen : History
   pub told : Option Telling
@@ -34,7 +35,8 @@ pub record Turn : Type 0 where
 -- the clause of `answer`
 abbrev pub IsTelling : Opening → History → Option Telling → Type 0
 IsTelling o h None = Unit {0}
-IsTelling o h (Some t) = AreBytes t.call.bytes × (is_change_of t.call.bytes ≡ false) × Replies o h t.call t.what t.reply t.line
+IsTelling o h (Some t) =
+    AreBytes t.call.bytes × (is_change_of t.call.bytes ≡ false) × Replies o h t.call t.what t.reply t.line
 
 -- what was seen at the last turn of a loop
 abbrev pub last_turn : List Turn → History
@@ -56,7 +58,8 @@ pub data Deed : Type 0 where
 
 -- the clauses of `change`, `sweep` and `reload`, between the histories before and after
 abbrev pub IsDone : Opening → History → Deed → History → Type 0
-IsDone o h (Changes t) after = AreBytes t.call.bytes × (is_change_of t.call.bytes ≡ true) × IsChanged o h t.call.moment t.call.asker t.call.bytes t.what t.reply t.line after
+IsDone o h (Changes t) after = AreBytes t.call.bytes × (is_change_of t.call.bytes ≡ true)
+    × IsChanged o h t.call.moment t.call.asker t.call.bytes t.what t.reply t.line after
 IsDone o h (Sweeps m) after = after ≡ sweep_at (now h m) ∷ h
 IsDone o h (Reloads m rs) after = after ≡ reload_at (now h m) rs ∷ h
 
@@ -95,7 +98,8 @@ AreWritesOf o (d ∷ ds) [] = ⊥
 AreWritesOf o (d ∷ ds) (e ∷ es) = IsWriteOf o (world es).published d e × AreWritesOf o ds es
 
 -- A run in which the writer did just what it did, and each of so many loops told just what it told, each in its own order.
-pub record IsRunOf (o : Opening) (deeds : List Deed) (number : ℕ) (loops : ℕ → List Turn) (published : History) (run : Run) : Type 0 where
+pub record IsRunOf (o : Opening) (deeds : List Deed) (number : ℕ) (loops : ℕ → List Turn) (published : History)
+    (run : Run) : Type 0 where
   pub is : IsRun o run
   pub leaves : (world run).published ≡ published
   pub written : AreWritesOf o deeds (writes_of run)

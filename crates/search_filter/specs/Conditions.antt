@@ -29,7 +29,8 @@ is_met Present (Some held) = true
 is_met c (Some Keyword) = false
 is_met c (Some (Values vs)) = list_any (meets c) vs
 
--- the tag is not there, or is a keyword, or has some value that does not meet the condition; that it is there is missed only where it is not
+-- the tag is not there, or is a keyword, or has some value that does not meet the condition; that it is there is missed only
+-- where it is not
 abbrev pub is_missed : Condition → Option Held → Bool
 is_missed c None = true
 is_missed Present (Some held) = false

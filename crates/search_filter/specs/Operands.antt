@@ -87,7 +87,8 @@ spelled_operand cs = read_map (λ read. operand_of (value_of_form (squeezed_text
 
 -- an operand is typed as values are
 abbrev pub operand_in : List ℕ → Result Operand FilterFault
-operand_in cs = if has null cs then Err Syntax else option_map_or (λ rest. opaque_by (opaque_bytes rest)) (opaque_rest (trimmed_text cs)) (spelled_operand cs)
+operand_in cs = if has null cs then Err Syntax
+    else option_map_or (λ rest. opaque_by (opaque_bytes rest)) (opaque_rest (trimmed_text cs)) (spelled_operand cs)
 
 -- ---- operands with a raw `*`
 
@@ -103,7 +104,8 @@ pattern_in cs = read_map (λ pieces. Like (pattern_of pieces)) (read_all charact
 abbrev pub starred : List ℕ → Result Condition FilterFault
 starred cs =
     if is_star_alone (trimmed_text cs) then Ok Present
-    else (if has null cs then Err Syntax else option_map_or (λ rest. Err Syntax) (opaque_rest (trimmed_text cs)) (pattern_in cs))
+    else (if has null cs then Err Syntax
+    else option_map_or (λ rest. Err Syntax) (opaque_rest (trimmed_text cs)) (pattern_in cs))
 
 -- the bytes of characters with their escapes read
 abbrev pub spelled_bytes : List ℕ → Result (List ℕ) TextFault

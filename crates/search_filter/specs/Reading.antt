@@ -62,8 +62,8 @@ takes_another Not (more f fs) = false
 abbrev pub connected_or_fault : Connective → Filters → Result Filter FilterFault
 connected_or_fault c fs = ok_or (connected c fs) Syntax
 
--- where reading stands, in which frames, the innermost first: where a filter may come; after its `(`; in an item, with its characters so far;
--- or after the whole filter
+-- where reading stands, in which frames, the innermost first: where a filter may come; after its `(`; in an item, with its
+-- characters so far; or after the whole filter
 pub data Point : Type 0 where
   Between : List Frame → Point
   Begun : List Frame → Point
@@ -99,8 +99,12 @@ read_from (Between []) (c ∷ cs) =
     else Err Syntax)
 read_from (Between (o ∷ frames)) (c ∷ cs) =
     if is_white c then read_from (Between (o ∷ frames)) cs
-    else (if c == left_parenthesis then (if takes_another o.connective o.filters then (if nat_lt (length (o ∷ frames)) deepest then read_from (Begun (o ∷ frames)) cs else Err TooDeep) else Err Syntax)
-    else (if c == right_parenthesis then read_then (λ f. read_from (placed f frames) cs) (connected_or_fault o.connective o.filters)
+    else (if c == left_parenthesis then
+    (if takes_another o.connective o.filters then
+    (if nat_lt (length (o ∷ frames)) deepest then read_from (Begun (o ∷ frames)) cs else Err TooDeep)
+    else Err Syntax)
+    else (if c == right_parenthesis then read_then (λ f. read_from (placed f frames) cs)
+    (connected_or_fault o.connective o.filters)
     else Err Syntax))
 read_from (Begun frames) (c ∷ cs) =
     if c == ampersand then read_from (Between (opened_frame And ∷ frames)) cs

@@ -33,7 +33,8 @@ is_abstract text = is_service text && is_name (drop 8 text)
 
 -- `service:A:C`
 abbrev pub is_concrete : List ℕ → Bool
-is_concrete text = is_service text && is_name (before_first is_colon (drop 8 text)) && is_name (after_first is_colon (drop 8 text))
+is_concrete text =
+    is_service text && is_name (before_first is_colon (drop 8 text)) && is_name (after_first is_colon (drop 8 text))
 
 -- what follows `service:`: a name, or two names with a colon in between
 abbrev pub are_names : List ℕ → Bool

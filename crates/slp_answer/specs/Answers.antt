@@ -30,7 +30,8 @@ pub record Replies (o : Opening) (h : History) (c : Call) (what : Sent) (reply l
 pub record Acknowledges (o : Opening) (h : History) (m asker : ℕ) (bytes : List ℕ) (what : Sent) (change : Option Change) (reply line : List ℕ) : Type 0 where
   pub outcome : Outcome
   pub event : Option Event
-  pub is : (own limit : ℕ) → IsAnswer o h (record { own = own; moment = m; asker = asker; bytes = bytes; limit = limit }) outcome event
+  pub is : (own limit : ℕ)
+      → IsAnswer o h (record { own = own; moment = m; asker = asker; bytes = bytes; limit = limit }) outcome event
   pub told : Tells (rules o.rules h) asker (heading_of bytes) outcome what reply line
   pub handed : HandsOut o h change event
 

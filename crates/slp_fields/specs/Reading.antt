@@ -89,9 +89,11 @@ value_at NoBlock bytes = no_block_at bytes
 value_at NoIndex bytes = no_index_at bytes
 
 -- fields of these kinds, one after the other, and what is made of what they hold and of the bytes after them
-abbrev pub reading_at : {A : Type 0} → (ks : List Kind) → List ℕ → (Values ks → List ℕ → Result A WireFault) → Result A WireFault
+abbrev pub reading_at : {A : Type 0} → (ks : List Kind) → List ℕ → (Values ks → List ℕ → Result A WireFault)
+    → Result A WireFault
 reading_at [] bytes made = made tt bytes
-reading_at (k ∷ ks) bytes made = value_at k bytes >>= λ first. reading_at ks first.1 (λ others rest. made (first.0, others) rest)
+reading_at (k ∷ ks) bytes made =
+    value_at k bytes >>= λ first. reading_at ks first.1 (λ others rest. made (first.0, others) rest)
 
 -- what a layout lays out
 abbrev pub layout_at : {A : Type 0} → Layout A → List ℕ → Result (A × List ℕ) WireFault

@@ -17,7 +17,8 @@ has_flag mask word = not (bit_and word mask == 0)
 
 -- the flags in a word, whatever its other bits are
 abbrev pub flags_of : ℕ → Flags
-flags_of word = record { overflow = has_flag OVERFLOW word; fresh = has_flag FRESH word; multicast = has_flag MULTICAST word }
+flags_of word =
+    record { overflow = has_flag OVERFLOW word; fresh = has_flag FRESH word; multicast = has_flag MULTICAST word }
 
 -- the word of flags that is written: the other bits are 0
 abbrev pub word_of : Flags → ℕ
@@ -41,12 +42,21 @@ pub record Heading : Type 0 where
 
 -- the bytes of a header
 abbrev pub heading_bytes : Heading → List ℕ
-heading_bytes h = h.version ∷ h.function ∷ big_bytes 3 h.length ++ big_bytes 2 h.flags ++ big_bytes 3 h.extension ++ big_bytes 2 h.xid ++ string h.language
+heading_bytes h = h.version ∷ h.function ∷ big_bytes 3 h.length ++ big_bytes 2 h.flags ++ big_bytes 3 h.extension
+    ++ big_bytes 2 h.xid ++ string h.language
 
 -- a message with this body: version 2, no extension, and the length exact
 abbrev pub frame_bytes : ℕ → ℕ → ℕ → List ℕ → List ℕ → List ℕ
 frame_bytes function flags xid language body =
-    heading_bytes (record { version = 2; function = function; length = 14 + length language + length body; flags = flags; extension = 0; xid = xid; language = language }) ++ body
+    heading_bytes (record {
+      version = 2;
+      function = function;
+      length = 14 + length language + length body;
+      flags = flags;
+      extension = 0;
+      xid = xid;
+      language = language;
+    }) ++ body
 
 -- the tag that the length at place 12 marks, as far as it is there
 abbrev pub tag_of : List ℕ → List ℕ
@@ -56,7 +66,8 @@ tag_of bytes = take (big_number 2 (drop offset.TAG_LENGTH bytes)) (drop offset.T
 abbrev pub is_readable : List ℕ → Bool
 is_readable bytes =
     nat_le offset.TAG (length bytes) && nat_le (big_number 2 (drop offset.TAG_LENGTH bytes)) 64
-    && nat_le (offset.TAG + big_number 2 (drop offset.TAG_LENGTH bytes)) (length bytes) && list_all is_tag_byte (tag_of bytes)
+    && nat_le (offset.TAG + big_number 2 (drop offset.TAG_LENGTH bytes)) (length bytes)
+    && list_all is_tag_byte (tag_of bytes)
 
 -- the fields that stand in front of bytes
 abbrev pub fields_of : List ℕ → Heading

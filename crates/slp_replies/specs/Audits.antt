@@ -50,7 +50,8 @@ ending_text scope = codes " scope=" ++ scope_or_dash scope ++ line_feed ∷ []
 
 -- what it says first, where a rule that decided has this name: the code, who decided, and what was asked for
 abbrev pub head_text : List ℕ → Audit → List ℕ
-head_text name a = beginning_text a.code ++ decider_text name a.because.decider ++ codes " action=" ++ action_text a.action ++ codes " asker="
+head_text name a = beginning_text a.code ++ decider_text name a.because.decider ++ codes " action="
+    ++ action_text a.action ++ codes " asker="
 
 -- and then: by whom, and on what
 abbrev pub tail_text : Audit → List ℕ

@@ -49,7 +49,8 @@ code_of (sent.Bytes code) = Some code
 code_of sent.Silence = None
 
 -- what was sent, and written as a reply and as a line, is the outcome
-pub record Tells (rs : SiteRules) (asker : ℕ) (heading : Option Heading) (r : Outcome) (what : Sent) (reply line : List ℕ) : Type 0 where
+pub record Tells (rs : SiteRules) (asker : ℕ) (heading : Option Heading) (r : Outcome) (what : Sent)
+    (reply line : List ℕ) : Type 0 where
   pub replied : reply ≡ r.reply
   pub lined : line ≡ line_of rs asker heading r
   pub sent : code_of what ≡ code_sent r

@@ -13,7 +13,8 @@ use Rattle.slp_text.specs.Lists.{is_comma, is_some_text, comma_list}
 
 -- The scopes that a text names: its parts between commas, unescaped and made keys, without the empty ones, as a set.
 unfoldable pub scopes_of : List ℕ → Result (List (List ℕ)) TextFault
-scopes_of text = read_map (λ parts. set_of (filter is_some_text (map folded_text parts))) (read_all (unescaped_text_at Scope) (slice_split is_comma (chars text)))
+scopes_of text = read_map (λ parts. set_of (filter is_some_text (map folded_text parts)))
+    (read_all (unescaped_text_at Scope) (slice_split is_comma (chars text)))
 
 -- a letter or a digit of ASCII, `-`, `.` or `_`, which are written in lists of scopes as they are
 abbrev pub is_plain_byte : ℕ → Bool

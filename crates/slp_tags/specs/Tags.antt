@@ -48,7 +48,8 @@ pieces_of part = read_all (unescaped_text_at Tag) (slice_split is_star part)
 
 -- The parts of a list of tags, in their order: what stands between commas, unescaped, without the empty parts.
 unfoldable pub tags_of : List ℕ → Result (List Part) TextFault
-tags_of text = read_map (λ parts. filter is_some_text (map part_of parts)) (read_all pieces_of (slice_split is_comma (chars text)))
+tags_of text =
+    read_map (λ parts. filter is_some_text (map part_of parts)) (read_all pieces_of (slice_split is_comma (chars text)))
 
 -- all that a text ends with
 abbrev pub ends_of : List ℕ → List (List ℕ)

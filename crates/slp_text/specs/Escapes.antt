@@ -14,7 +14,8 @@ use Rattle.slp_text.specs.declared.faults.TextFault.TheVariants.{BadEscape, Rese
 -- `(` `)` `,` `\` `!` `<` `=` `>` `~`
 abbrev pub is_mark : ℕ → Bool
 is_mark c =
-    c == left_parenthesis || c == right_parenthesis || c == comma || c == backslash || c == exclamation_mark || c == less_than_sign || c == equals_sign
+    c == left_parenthesis || c == right_parenthesis || c == comma || c == backslash || c == exclamation_mark
+    || c == less_than_sign || c == equals_sign
     || c == greater_than_sign || c == tilde
 
 -- what is written as an escape at a place: in tags `*` and `_` too, in scopes `;`, `*` and `+` too
@@ -38,8 +39,8 @@ digit_of c =
     else (if nat_le upper_a c && nat_le c upper_f then Some (10 + (c - upper_a))
     else (if nat_le lower_a c && nat_le c lower_f then Some (10 + (c - lower_a)) else None))
 
--- What characters, or bytes, stand for with their escapes read: the first fault from the left, if there is one. An escape may stand for what is
--- allowed, and what is refused may not stand raw.
+-- What characters, or bytes, stand for with their escapes read: the first fault from the left, if there is one. An escape
+-- may stand for what is allowed, and what is refused may not stand raw.
 abbrev pub unescaped_text_from : (ℕ → Bool) → (ℕ → Bool) → Stage → List ℕ → Result (List ℕ) TextFault
 unescaped_text_from allowed refused Plain [] = Ok []
 unescaped_text_from allowed refused Slash [] = Err BadEscape
@@ -50,7 +51,8 @@ unescaped_text_from allowed refused Plain (c ∷ cs) =
 unescaped_text_from allowed refused Slash (c ∷ cs) =
     option_map_or (λ d. unescaped_text_from allowed refused (Digit d) cs) (digit_of c) (Err BadEscape)
 unescaped_text_from allowed refused (Digit d) (c ∷ cs) =
-    option_map_or (λ e. if allowed (16 * d + e) then read_map (λ xs. (16 * d + e) ∷ xs) (unescaped_text_from allowed refused Plain cs) else Err BadEscape) (digit_of c) (Err BadEscape)
+    option_map_or (λ e. if allowed (16 * d + e) then read_map (λ xs. (16 * d + e) ∷ xs)
+    (unescaped_text_from allowed refused Plain cs) else Err BadEscape) (digit_of c) (Err BadEscape)
 
 -- with the escapes of lists, whatever stands raw
 abbrev pub unescaped_text : List ℕ → Result (List ℕ) TextFault
@@ -70,7 +72,8 @@ capital_digit d = if nat_lt d 10 then digit_zero + d else upper_a + (d - 10)
 
 -- a character as it is written at a place
 abbrev pub written_character : Place → ℕ → List ℕ
-written_character place c = if is_reserved place c then backslash ∷ capital_digit (c / 16) ∷ capital_digit (c % 16) ∷ [] else c ∷ []
+written_character place c =
+    if is_reserved place c then backslash ∷ capital_digit (c / 16) ∷ capital_digit (c % 16) ∷ [] else c ∷ []
 
 -- characters as they are written at a place
 abbrev pub escaped_text : Place → List ℕ → List ℕ

@@ -34,13 +34,15 @@ abbrev pub begins_at : ℕ → List Extension → ℕ
 begins_at at [] = 0
 begins_at at (x ∷ xs) = at
 
--- The offset of the next extension, if one follows that which begins at this offset: the id is looked at first. Both have at least five bytes.
+-- The offset of the next extension, if one follows that which begins at this offset: the id is looked at first. Both have at
+-- least five bytes.
 abbrev pub next_at : ℕ → List ℕ → Result (Option ℕ) WireFault
 next_at at bytes =
     if nat_lt (length bytes) 5 then Err Parse
     else (if is_required (big_number 2 bytes) then Err fault.Option
     else (if big_number 3 (drop 2 bytes) == 0 then Ok None
-    else (if nat_lt (big_number 3 (drop 2 bytes)) (at + 5) || nat_lt (at + length bytes) (big_number 3 (drop 2 bytes) + 5) then Err Parse
+    else (if nat_lt (big_number 3 (drop 2 bytes)) (at + 5)
+    || nat_lt (at + length bytes) (big_number 3 (drop 2 bytes) + 5) then Err Parse
     else Ok (Some (big_number 3 (drop 2 bytes))))))
 
 -- extensions, at most `most` of them, from this offset of the message to its end

@@ -42,7 +42,8 @@ reading_to_end h read = do
   _ ← ends_at h.extension h.length m.1
   Ok m.0
 
--- the message after its heading: the function is known, the version is 2, and the length is that of the heading at least and no more than there is
+-- the message after its heading: the function is known, the version is 2, and the length is that of the heading at least and
+-- no more than there is
 unfoldable pub reading_after : Heading → List ℕ → Result Message WireFault
 reading_after h bytes =
     if is_known h.function then
@@ -52,8 +53,8 @@ reading_after h bytes =
     else Err Version)
     else Err Unknown
 
--- The message in front of the bytes, as far as its length field marks it, or the first fault: no readable
--- header, a function that there is not, another version, a length that does not fit, then the body from the left, and then the extensions.
+-- The message in front of the bytes, as far as its length field marks it, or the first fault: no readable header, a function
+-- that there is not, another version, a length that does not fit, then the body from the left, and then the extensions.
 unfoldable pub reading : List ℕ → Result Message WireFault
 reading bytes = elim (heading_of bytes) [ None ↦ Err NoHeader | Some h ↦ reading_after h bytes ]
 

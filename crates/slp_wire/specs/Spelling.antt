@@ -77,4 +77,5 @@ body_of (message.ServiceAdvert h a) = layout_bytes service_agent a
 
 -- the bytes of a message without extensions
 abbrev pub plain_bytes : Message → List ℕ
-plain_bytes m = frame_bytes (function_of m) (word_of (header_of m).flags) (header_of m).xid (header_of m).language (body_of m)
+plain_bytes m =
+    frame_bytes (function_of m) (word_of (header_of m).flags) (header_of m).xid (header_of m).language (body_of m)

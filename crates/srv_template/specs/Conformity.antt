@@ -77,7 +77,8 @@ Conforms ds a = AllByRecursion (λ d. fault_on d a ≡ None) ds
 -- the first definition that has one, where the first of these has this number
 abbrev pub first_fault : ℕ → List Definition → Attributes → Option TemplateFault
 first_fault n [] a = None
-first_fault n (d ∷ ds) a = option_map_or (λ k. Some (record { definition = n; kind = k })) (fault_on d a) (first_fault (n + 1) ds a)
+first_fault n (d ∷ ds) a =
+    option_map_or (λ k. Some (record { definition = n; kind = k })) (fault_on d a) (first_fault (n + 1) ds a)
 
 -- ---- the templates of a site
 
