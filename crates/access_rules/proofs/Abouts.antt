@@ -8,7 +8,7 @@ use Rattle.std.proofs.lemmas.List.Folds.{list_any-append}
 use Rattle.std.proofs.lemmas.Option.{slice_get_past}
 use Rattle.slp_tags.specs.Tags.{selects}
 use Rattle.access_rules.specs.Deciding.{Deed, SiteRules, IsPart, SeeAlike, action_eq, allows_kind, allows_scope, deciding, fits, hides_in, is_hide_about, is_hiding, is_own, is_rule_about, rules_in, verdict_at}
-use Rattle.addresses.specs.Addresses.{holds}
+use Rattle.addresses.specs.Addresses.{has_address}
 use Rattle.access_rules.specs.declared.hide.Hide.{Hide}
 use Rattle.access_rules.specs.declared.rule.Action.TheVariants.{See}
 use Rattle.access_rules.specs.declared.rule.Rule.{Rule}
@@ -96,9 +96,9 @@ module _ (d : Deed) (scope : List ℕ) where
   -- what is about nobody who asks, or about something else than what is seen, does not fit
   unfit_rule : d.action ≡ See → (r : Rule) → is_rule_about r d.asker ≡ false → fits d scope r ≡ false
   unfit_rule sees r other =
-      let by_action : fits d scope r ≡ (list_any (λ p. holds p d.asker) r.from && action_eq r.action See && allows_kind r.kind d.kind && allows_scope r.scopes scope && (not r.owner || is_own d)) =
-      ap (λ a. list_any (λ p. holds p d.asker) r.from && action_eq r.action a && allows_kind r.kind d.kind && allows_scope r.scopes scope && (not r.owner || is_own d)) sees in
-      by_action ∙ (elim (list_any (λ p. holds p d.asker) r.from) as (λ b. (action_eq r.action See && b) ≡ false → (b && action_eq r.action See && allows_kind r.kind d.kind && allows_scope r.scopes scope && (not r.owner || is_own d)) ≡ false) [
+      let by_action : fits d scope r ≡ (list_any (λ p. has_address p d.asker) r.from && action_eq r.action See && allows_kind r.kind d.kind && allows_scope r.scopes scope && (not r.owner || is_own d)) =
+      ap (λ a. list_any (λ p. has_address p d.asker) r.from && action_eq r.action a && allows_kind r.kind d.kind && allows_scope r.scopes scope && (not r.owner || is_own d)) sees in
+      by_action ∙ (elim (list_any (λ p. has_address p d.asker) r.from) as (λ b. (action_eq r.action See && b) ≡ false → (b && action_eq r.action See && allows_kind r.kind d.kind && allows_scope r.scopes scope && (not r.owner || is_own d)) ≡ false) [
         | false ↦ λ e. refl
         | true ↦ elim (action_eq r.action See) as (λ a. (a && true) ≡ false → (true && a && allows_kind r.kind d.kind && allows_scope r.scopes scope && (not r.owner || is_own d)) ≡ false) [
           | true ↦ λ e. absurd (let same : true ≡ false = e in cc)

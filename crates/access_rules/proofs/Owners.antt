@@ -4,7 +4,7 @@ use Rattle.std.specs.Prelude.{◌&&◌, ◌||◌, not, nat_lt, position}
 use Rattle.std.specs.List.{list_all, list_any, prefix_len}
 use Rattle.std.proofs.lemmas.Bool.{and_parts}
 use Rattle.access_rules.specs.Deciding.{Deed, SiteRules, action_eq, allows_kind, allows_scope, deciding, deed, fits, is_own, is_owners, is_without_owners, rules_in, verdict_at}
-use Rattle.addresses.specs.Addresses.{holds}
+use Rattle.addresses.specs.Addresses.{has_address}
 use Rattle.access_rules.specs.declared.rule.Action.{Action}
 use Rattle.access_rules.specs.declared.rule.Rule.{Rule}
 use Rattle.access_rules.proofs.DecidingRules.{no_rule_allows}
@@ -26,7 +26,7 @@ true-false false h k = absurd cc
 -- a rule about owners fits no deed of another
 owners-miss : (d : Deed) (scope : List ℕ) (r : Rule) → is_owners d.action r ≡ true → is_own d ≡ false → fits d scope r ≡ false
 owners-miss d scope r owners other =
-    let from = list_any (λ p. holds p d.asker) r.from in
+    let from = list_any (λ p. has_address p d.asker) r.from in
     let kind = allows_kind r.kind d.kind in
     let scoped = allows_scope r.scopes scope in
     elim (action_eq r.action d.action) as (λ b. action_eq r.action d.action ≡ b → (not b || r.owner) ≡ true → ((((from && b) && kind) && scoped) && (not r.owner || is_own d)) ≡ false) [
@@ -47,8 +47,8 @@ owners-alone rules d scope owners other = no_rule_allows rules d scope (none-fit
 
 same-fit : (asker : ℕ) (action : Action) (kind : List ℕ) (one other : ℕ) (scope : List ℕ) (r : Rule) → not r.owner ≡ true → fits (deed asker action kind one) scope r ≡ fits (deed asker action kind other) scope r
 same-fit asker action kind one other scope r plain =
-    ap (λ b. ((((list_any (λ p. holds p asker) r.from && action_eq r.action action) && allows_kind r.kind kind) && allows_scope r.scopes scope) && (b || is_own (deed asker action kind one)))) plain
-    ∙ sym (ap (λ b. ((((list_any (λ p. holds p asker) r.from && action_eq r.action action) && allows_kind r.kind kind) && allows_scope r.scopes scope) && (b || is_own (deed asker action kind other)))) plain)
+    ap (λ b. ((((list_any (λ p. has_address p asker) r.from && action_eq r.action action) && allows_kind r.kind kind) && allows_scope r.scopes scope) && (b || is_own (deed asker action kind one)))) plain
+    ∙ sym (ap (λ b. ((((list_any (λ p. has_address p asker) r.from && action_eq r.action action) && allows_kind r.kind kind) && allows_scope r.scopes scope) && (b || is_own (deed asker action kind other)))) plain)
 
 same-prefix : (p q : Rule → Bool) → ((r : Rule) → not r.owner ≡ true → p r ≡ q r) → (rules : List Rule) → list_all (λ r. not r.owner) rules ≡ true → prefix_len (λ r. not (p r)) rules ≡ prefix_len (λ r. not (q r)) rules
 same-prefix p q same [] plain = refl

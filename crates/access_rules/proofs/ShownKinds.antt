@@ -4,7 +4,7 @@ use Rattle.std.specs.Prelude.{◌&&◌, ◌||◌}
 use mathlib.Core.Bool.{true≢false}
 use Rattle.std.specs.List.{list_any}
 use Rattle.std.proofs.lemmas.Bool.{and_from, and_parts, or_left, or_right}
-use Rattle.addresses.specs.Addresses.{holds}
+use Rattle.addresses.specs.Addresses.{has_address}
 use Rattle.service_url.proofs.Covered.{covers_itself}
 use Rattle.service_url.proofs.Roots.{covered_root, covered_same}
 use Rattle.service_url.specs.Types.{covers, is_abstract}

@@ -11,7 +11,7 @@ use Rattle.access_rules.specs.declared.hide.Hide.{Hide}
 use Rattle.access_rules.specs.declared.rule.Action.{Action}
 use Rattle.access_rules.specs.declared.rule.Action.TheVariants.{Register, Withdraw, See}
 use Rattle.access_rules.specs.declared.rule.Deed as code
-use Rattle.addresses.specs.Addresses.{holds}
+use Rattle.addresses.specs.Addresses.{has_address}
 use Rattle.access_rules.specs.declared.rule.Rule.{Rule}
 use Rattle.access_rules.specs.declared.rules.Verdict.{Verdict}
 
@@ -59,7 +59,7 @@ is_own d = d.asker == d.registrant
 -- a rule fits a deed in a scope; one of owners fits no deed of another
 abbrev pub fits : Deed → List ℕ → Rule → Bool
 fits d scope r =
-    list_any (λ p. holds p d.asker) r.from && action_eq r.action d.action && allows_kind r.kind d.kind
+    list_any (λ p. has_address p d.asker) r.from && action_eq r.action d.action && allows_kind r.kind d.kind
     && allows_scope r.scopes scope
     && (not r.owner || is_own d)
 
@@ -109,7 +109,7 @@ overlaps (Some named) kind = covers named kind || covers kind named
 
 -- the rule may show something to an asker, of the types that one covers, in a scope
 abbrev pub may_show : ℕ → List ℕ → List ℕ → Rule → Bool
-may_show asker kind scope r = r.allow && (action_eq r.action See && (overlaps r.kind kind && (allows_scope r.scopes scope && list_any (λ p. holds p asker) r.from)))
+may_show asker kind scope r = r.allow && (action_eq r.action See && (overlaps r.kind kind && (allows_scope r.scopes scope && list_any (λ p. has_address p asker) r.from)))
 
 -- ---- what is hidden
 
@@ -117,7 +117,7 @@ may_show asker kind scope r = r.allow && (action_eq r.action See && (overlaps r.
 -- registered.
 abbrev pub is_hiding : Deed → List ℕ → Hide → Bool
 is_hiding d scope h =
-    list_any (λ p. holds p d.asker) h.from && allows_kind h.kind d.kind && allows_scope h.scopes scope
+    list_any (λ p. has_address p d.asker) h.from && allows_kind h.kind d.kind && allows_scope h.scopes scope
     && not (h.spares_owner && is_own d)
 
 -- one of some tables fits, and selects a tag
@@ -141,11 +141,11 @@ is_hidden_from (Some f) d scope tag = is_hidden_by f d scope tag
 
 -- the rule is about what this asker sees
 abbrev pub is_rule_about : Rule → ℕ → Bool
-is_rule_about r asker = action_eq r.action See && list_any (λ p. holds p asker) r.from
+is_rule_about r asker = action_eq r.action See && list_any (λ p. has_address p asker) r.from
 
 -- the table hides from this asker
 abbrev pub is_hide_about : Hide → ℕ → Bool
-is_hide_about h asker = list_any (λ p. holds p asker) h.from
+is_hide_about h asker = list_any (λ p. has_address p asker) h.from
 
 -- a part of a list: what is in front of it and behind it is none of these
 pub record IsPart {A : Type 0} (is : A → Bool) (part all : List A) : Type 0 where

@@ -1,6 +1,6 @@
 ghost use Rattle.std.specs.Prelude.{◌≡◌};
 ghost use Rattle.std.specs.List.{list_any};
-ghost use Rattle.addresses.specs.Addresses.{holds};
+ghost use Rattle.addresses.specs.Addresses.{has_address};
 ghost use Rattle.access_rules.specs.Deciding as spec;
 ghost use Rattle.access_rules.specs.Deciding.{action_eq, allows_kind, allows_scope, deed_in};
 
@@ -69,7 +69,7 @@ fn is_same(a: Action, b: Action) -> bool
 
 // Whether an asker is among these.
 pub fn is_from(prefixes: &Row<Prefix>, asker: Addr) -> bool
-    ensures { result ≡ list_any (λ p. holds p asker) prefixes.now }
+    ensures { result ≡ list_any (λ p. has_address p asker) prefixes.now }
 {
     prefixes.as_slice().iter().any(|p| p.holds(asker))
 }

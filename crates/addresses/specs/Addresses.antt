@@ -89,5 +89,5 @@ address_text a =
     decimal (a / 16777216) ++ dot ∷ decimal (a / 65536 % 256) ++ dot ∷ decimal (a / 256 % 256) ++ dot ∷ decimal (a % 256)
 
 -- the first bits of a prefix are those of the address; bits after them are ignored
-abbrev pub holds : Prefix → ℕ → Bool
-holds p addr = nat_le p.bits 32 && (p.addr / 2 ^ (32 - p.bits) == addr / 2 ^ (32 - p.bits))
+abbrev pub has_address : Prefix → ℕ → Bool
+has_address p addr = nat_le p.bits 32 && (p.addr / 2 ^ (32 - p.bits) == addr / 2 ^ (32 - p.bits))

@@ -40,7 +40,7 @@ impl Prefix {
 
     /// Whether an address is one of these. Takes no memory.
     pub fn holds(&self, addr: Addr) -> bool
-        ensures { result ≡ spec.holds self.now addr }
+        ensures { result ≡ spec.has_address self.now addr }
     {
         if self.bits > 32 {
             return false;

@@ -5,13 +5,13 @@ use Rattle.slp_tags.specs.Tags.{selects}
 use Rattle.slp_text.specs.Words.{bytes_eq}
 use Rattle.attr_list.specs.Maps.{kept_attributes}
 use Rattle.access_rules.specs.Deciding.{SiteRules, hides_in}
-use Rattle.addresses.specs.Addresses.{holds}
+use Rattle.addresses.specs.Addresses.{has_address}
 use Rattle.access_rules.specs.declared.hide.Hide.{Hide}
 use Rattle.registry_core.specs.declared.entry.Entry.{Entry}
 
 -- the table hides from every address, of every type and in every scope, and spares owners at most
 pub record IsForOthers (h : Hide) : Type 0 where
-  pub addresses : (asker : ℕ) → list_any (λ p. holds p asker) h.from ≡ true
+  pub addresses : (asker : ℕ) → list_any (λ p. has_address p asker) h.from ≡ true
   pub types : h.kind ≡ None
   pub scopes : h.scopes ≡ None
 

@@ -15,7 +15,7 @@ use Rattle.attr_list.proofs.KeptAttributes.{get-kept, joined-kept, kept-all, kep
 use Rattle.slp_text.proofs.KeySets.{bytes_same, member_cases}
 use Rattle.slp_tags.specs.Tags.{Part, selects}
 use Rattle.slp_text.specs.Words.{bytes_eq, texts_eq, IsAscending}
-use Rattle.addresses.specs.Addresses.{holds}
+use Rattle.addresses.specs.Addresses.{has_address}
 use Rattle.access_rules.specs.Deciding.{Deed, action_eq, allows_kind, allows_scope, deed, hides_in, rules_in, verdict_at, is_hidden, is_hidden_by, is_hidden_from, part_in, some_hides}
 use Rattle.access_rules.specs.declared.hide.FittingHides.{FittingHides}
 use Rattle.access_rules.specs.declared.rule.Action.TheVariants.{See}
@@ -86,7 +86,7 @@ open_in-alike v e f alike =
     let a = v.asker in
     let opens : List ℕ → List (List ℕ) → Bool → List ℕ → Bool =
     λ kind names own s. list_any (λ k. bytes_eq k s) names
-    && (verdict_at v.rules.now (position (λ r. list_any (λ p. holds p a) r.from && action_eq r.action See && allows_kind r.kind kind && allows_scope r.scopes s && (not r.owner || own)) (rules_in v.rules.now))).allow in
+    && (verdict_at v.rules.now (position (λ r. list_any (λ p. has_address p a) r.from && action_eq r.action See && allows_kind r.kind kind && allows_scope r.scopes s && (not r.owner || own)) (rules_in v.rules.now))).allow in
     let scopes = and_parts ((e.owner == f.owner || (not (a == e.owner) && not (a == f.owner))) && bytes_eq e.kind f.kind) (texts_eq e.scopes f.scopes) alike in
     let kinds = and_parts (e.owner == f.owner || (not (a == e.owner) && not (a == f.owner))) (bytes_eq e.kind f.kind) scopes.0 in
     ap (λ kind. opens kind e.scopes (a == e.owner)) (bytes_same e.kind f.kind kinds.1) ∙ ap (λ names. opens f.kind names (a == e.owner)) (texts_same e.scopes f.scopes scopes.1)

@@ -13,7 +13,7 @@ use Rattle.slp_text.specs.Ascii.{colon}
 use Rattle.service_url.specs.Types.{covers, is_abstract}
 use Rattle.service_url.proofs.Roots.{begins}
 use Rattle.access_rules.specs.Deciding.{Deed, action_eq, is_own, allows_kind, allows_scope, fits}
-use Rattle.addresses.specs.Addresses.{holds}
+use Rattle.addresses.specs.Addresses.{has_address}
 use Rattle.access_rules.specs.declared.rule.Action.{Action}
 use Rattle.access_rules.specs.declared.rule.Action.TheVariants.{Register, Withdraw, See}
 use Rattle.addresses.specs.declared.prefix.Prefix.{Prefix}
@@ -58,10 +58,10 @@ same_front : (a b i j : ℕ) → a / 2 ^ i ≡ b / 2 ^ i → a / 2 ^ (i + j) ≡
 same_front a b i j h =
     ap (λ n. a / n) (pow-add 2 i j) ∙ sym (div-div-eq-div-mul a (2 ^ i) (2 ^ j)) ∙ ap (λ n. n / 2 ^ j) h ∙ div-div-eq-div-mul b (2 ^ i) (2 ^ j) ∙ ap (λ n. b / n) (sym (pow-add 2 i j))
 
-inside_holds : (p q : Prefix) (a : ℕ) → is_inside p q ≡ true → holds p a ≡ true → holds q a ≡ true
+inside_holds : (p q : Prefix) (a : ℕ) → is_inside p q ≡ true → has_address p a ≡ true → has_address q a ≡ true
 inside_holds p q a inside held =
-    let more : q.bits ≤ p.bits = leb-true q.bits p.bits (first_of (nat_le q.bits p.bits) (holds q p.addr) inside) in
-    let first = second_of (nat_le q.bits p.bits) (holds q p.addr) inside in
+    let more : q.bits ≤ p.bits = leb-true q.bits p.bits (first_of (nat_le q.bits p.bits) (has_address q p.addr) inside) in
+    let first = second_of (nat_le q.bits p.bits) (has_address q p.addr) inside in
     let q_front = eqb-true (q.addr / 2 ^ (32 - q.bits)) (p.addr / 2 ^ (32 - q.bits)) (second_of (nat_le q.bits 32) (q.addr / 2 ^ (32 - q.bits) == p.addr / 2 ^ (32 - q.bits)) first) in
     let p_few : p.bits ≤ 32 = leb-true p.bits 32 (first_of (nat_le p.bits 32) (p.addr / 2 ^ (32 - p.bits) == a / 2 ^ (32 - p.bits)) held) in
     let p_front = eqb-true (p.addr / 2 ^ (32 - p.bits)) (a / 2 ^ (32 - p.bits)) (second_of (nat_le p.bits 32) (p.addr / 2 ^ (32 - p.bits) == a / 2 ^ (32 - p.bits)) held) in
@@ -71,10 +71,10 @@ inside_holds p q a inside held =
     (first_of (nat_le q.bits 32) (q.addr / 2 ^ (32 - q.bits) == p.addr / 2 ^ (32 - q.bits)) first)
     (eq-eqb (q.addr / 2 ^ (32 - q.bits)) (a / 2 ^ (32 - q.bits)) (q_front ∙ shorter))
 
-asker_kept : (wide narrow : List Prefix) (a : ℕ) → list_all (λ p. list_any (is_inside p) wide) narrow ≡ true → list_any (λ p. holds p a) narrow ≡ true → list_any (λ p. holds p a) wide ≡ true
+asker_kept : (wide narrow : List Prefix) (a : ℕ) → list_all (λ p. list_any (is_inside p) wide) narrow ≡ true → list_any (λ p. has_address p a) narrow ≡ true → list_any (λ p. has_address p a) wide ≡ true
 asker_kept wide narrow a all any =
-    some_of_all (λ (p : Prefix). list_any (is_inside p) wide) (λ (p : Prefix). holds p a) (list_any (λ (p : Prefix). holds p a) wide)
-    (λ p inside held. some_more (is_inside p) (λ (q : Prefix). holds q a) (λ q h. inside_holds p q a h held) wide inside) narrow all any
+    some_of_all (λ (p : Prefix). list_any (is_inside p) wide) (λ (p : Prefix). has_address p a) (list_any (λ (p : Prefix). has_address p a) wide)
+    (λ p inside held. some_more (is_inside p) (λ (q : Prefix). has_address q a) (λ q h. inside_holds p q a h held) wide inside) narrow all any
 
 -- ---- actions, types and scopes
 
@@ -141,7 +141,7 @@ fits_too wide narrow h d scope fit =
     and_from _ _ (and_from _ _ (and_from _ _ (and_from _ _
     (asker_kept wide.from narrow.from d.asker (second_of (action_eq wide.action narrow.action) _ hidden_two) (first_of _ (action_eq narrow.action d.action) two))
     (action_kept wide.action narrow.action d.action (first_of _ (list_all (λ (p : Prefix). list_any (is_inside p) wide.from) narrow.from) hidden_two)
-    (second_of (list_any (λ (p : Prefix). holds p d.asker) narrow.from) _ two)))
+    (second_of (list_any (λ (p : Prefix). has_address p d.asker) narrow.from) _ two)))
     (kind_kept wide.kind narrow.kind d.kind (second_of _ (hides_kind wide.kind narrow.kind) hidden_three) (second_of _ (allows_kind narrow.kind d.kind) three)))
     (scope_kept wide.scopes narrow.scopes scope (second_of _ (hides_scopes wide.scopes narrow.scopes) hidden_four) (second_of _ (allows_scope narrow.scopes scope) four)))
     (owner_kept wide.owner narrow.owner (is_own d) (second_of _ (not wide.owner || narrow.owner) h) (second_of _ (not narrow.owner || is_own d) fit))

@@ -4,13 +4,13 @@ use Rattle.std.specs.List.{list_all, list_any}
 use Rattle.slp_text.specs.Words.{bytes_eq}
 use Rattle.service_url.specs.Types.{covers}
 use Rattle.access_rules.specs.Deciding.{action_eq}
-use Rattle.addresses.specs.Addresses.{holds}
+use Rattle.addresses.specs.Addresses.{has_address}
 use Rattle.addresses.specs.declared.prefix.Prefix.{Prefix}
 use Rattle.access_rules.specs.declared.rule.Rule.{Rule}
 
 -- each address of a prefix is one of another: that has no more bits, and holds the first of them
 abbrev pub is_inside : Prefix → Prefix → Bool
-is_inside p wide = nat_le wide.bits p.bits && holds wide p.addr
+is_inside p wide = nat_le wide.bits p.bits && has_address wide p.addr
 
 -- what is about every type, or about one that covers the other
 abbrev pub hides_kind : Option (List ℕ) → Option (List ℕ) → Bool

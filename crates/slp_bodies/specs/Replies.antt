@@ -2,7 +2,7 @@
 use Rattle.std.specs.Prelude.{ℕ, List, length, ◌≡◌, ◌⊎◌, ◌==◌, [], ◌++◌, if◌then◌else◌, Result, Ok}
 use Rattle.byteorder.specs.Endian.{big_bytes}
 use Rattle.slp_messages.specs.Fields.{Values, AreFit}
-use Rattle.slp_messages.specs.Layouts.{Layout, Reply, Found, Refused}
+use Rattle.slp_messages.specs.Layouts.{Layout, ReplyBody, Found, Refused}
 use Rattle.slp_messages.specs.declared.kind.Kind.{Kind}
 use Rattle.slp_fields.specs.Reading.{number_at, layout_at, rest_of_fields_at}
 use Rattle.slp_fields.specs.Spelling.{SpellsValues, SpellsLayout, layout_bytes}
@@ -10,7 +10,7 @@ use Rattle.slp_fields.specs.Steps.{◌>>=◌}
 use Rattle.slp_fields.specs.declared.fault.WireFault.{WireFault}
 
 -- what is written
-abbrev pub reply_bytes : {A : Type 0} → Layout A → Reply A → List ℕ
+abbrev pub reply_bytes : {A : Type 0} → Layout A → ReplyBody A → List ℕ
 reply_bytes layout (Found a) = big_bytes 2 0 ++ layout_bytes layout a
 reply_bytes layout (Refused code) = big_bytes 2 code
 
@@ -19,7 +19,7 @@ abbrev pub IsRest : List Kind → List ℕ → Type 0
 IsRest kinds rest = (rest ≡ []) ⊎ ((values : Values kinds) × AreFit kinds values × SpellsValues kinds rest values)
 
 -- what spells it
-abbrev pub SpellsReply : {A : Type 0} → Layout A → List ℕ → Reply A → Type 0
+abbrev pub SpellsReply : {A : Type 0} → Layout A → List ℕ → ReplyBody A → Type 0
 SpellsReply layout body (Found a) = (rest : List ℕ) × (body ≡ big_bytes 2 0 ++ rest) × SpellsLayout layout rest a
 SpellsReply layout body (Refused code) = (rest : List ℕ) × (body ≡ big_bytes 2 code ++ rest) × IsRest layout.kinds rest
 

@@ -91,12 +91,12 @@ service_agent = record {
 -- ---- replies: a code, and after the code 0 what was found
 
 -- what a reply has after its error code: a body where that is 0, else nothing
-pub data Reply (A : Type 0) : Type 0 where
-  Found : A → Reply A
-  Refused : ℕ → Reply A
+pub data ReplyBody (A : Type 0) : Type 0 where
+  Found : A → ReplyBody A
+  Refused : ℕ → ReplyBody A
 
 -- each field of what was found holds what its place can, or the code is not 0
-abbrev pub IsReply : {A : Type 0} → Layout A → Reply A → Type 0
+abbrev pub IsReply : {A : Type 0} → Layout A → ReplyBody A → Type 0
 IsReply layout (Found a) = FitsLayout layout a
 IsReply layout (Refused code) = IsRefusal code
 
@@ -133,21 +133,21 @@ types = record {
 }
 
 -- each reply as a code and what was found
-abbrev pub of_services : ServiceReply → Reply (List UrlEntry)
+abbrev pub of_services : ServiceReply → ReplyBody (List UrlEntry)
 of_services (service_reply.Found entries) = Found entries
 of_services (service_reply.Refused code) = Refused code
 
 -- an AttrRply by its body or its code
-abbrev pub of_attributes : AttributeReply → Reply (List ℕ)
+abbrev pub of_attributes : AttributeReply → ReplyBody (List ℕ)
 of_attributes (attribute_reply.Found list) = Found list
 of_attributes (attribute_reply.Refused code) = Refused code
 
 -- a DAAdvert by its body or its code
-abbrev pub of_directory_agent : DirectoryAdvert → Reply DirectoryAgent
+abbrev pub of_directory_agent : DirectoryAdvert → ReplyBody DirectoryAgent
 of_directory_agent (directory_advert.Present agent) = Found agent
 of_directory_agent (directory_advert.Refused code) = Refused code
 
 -- a SrvTypeRply by its body or its code
-abbrev pub of_types : TypeReply → Reply (List ℕ)
+abbrev pub of_types : TypeReply → ReplyBody (List ℕ)
 of_types (type_reply.Found list) = Found list
 of_types (type_reply.Refused code) = Refused code

@@ -1,7 +1,7 @@
 -- Bodies by the functions of their messages, as they are read and as they are spelled.
 use Rattle.std.proofs.Common.{◌≡◌, ℕ, cond, eqb, List, ◌++◌, length, Result, Ok, refl, sym, ap, subst, inl, inr}
 use Rattle.std.proofs.lemmas.Bool.{eqb-true}
-use Rattle.slp_messages.specs.Layouts.{Layout, Reply, IsReply, service_request, registration, withdrawal, acknowledgement, attribute_request, type_request, service_agent, services, attributes, directory_agent, types, of_services, of_attributes, of_directory_agent, of_types}
+use Rattle.slp_messages.specs.Layouts.{Layout, ReplyBody, IsReply, service_request, registration, withdrawal, acknowledgement, attribute_request, type_request, service_agent, services, attributes, directory_agent, types, of_services, of_attributes, of_directory_agent, of_types}
 use Rattle.slp_messages.specs.Messages.{header_of, function_of, IsBody}
 use Rattle.slp_messages.specs.declared.header.Header.{Header}
 use Rattle.slp_messages.specs.declared.message.AttributeReply.TheVariants as attribute_reply
@@ -50,7 +50,7 @@ or_next k function h bytes x this next of_this of_next e =
     ]
 
 -- a reply that was read
-abbrev Answer : {A B : Type 0} → Layout A → (B → Reply A) → List ℕ → B → Type 0
+abbrev Answer : {A B : Type 0} → Layout A → (B → ReplyBody A) → List ℕ → B → Type 0
 Answer layout of text b = SpellsReply layout text (of b) × IsReply layout (of b)
 
 pub body_takes : (function tail : ℕ) (h : Header) (bytes : List ℕ) (x : Message × List ℕ) → IsBytes bytes → body_at function tail h bytes ≡ Ok x → Body function h bytes x.0 x.1

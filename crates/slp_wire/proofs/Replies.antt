@@ -4,7 +4,7 @@ use Rattle.std.proofs.lemmas.Bool.{eqb-true, eqb-false, ne_eqb, eq-eqb}
 use Rattle.std.proofs.lemmas.List.{length-append, append-nil}
 use Rattle.byteorder.specs.Endian.{big_bytes}
 use Rattle.slp_messages.specs.Fields.{Values, IsRefusal}
-use Rattle.slp_messages.specs.Layouts.{Layout, FitsLayout, Reply, Found, Refused}
+use Rattle.slp_messages.specs.Layouts.{Layout, FitsLayout, ReplyBody, Found, Refused}
 use Rattle.slp_messages.specs.declared.kind.Kind.{Kind}
 use Rattle.slp_fields.specs.Reading.{number_at, layout_at}
 use Rattle.slp_fields.specs.Spelling.{SpellsValues}
@@ -81,6 +81,6 @@ refused_again layout found refused lawful tail text code rest size spells sound 
 
 -- ---- what is written is spelled
 
-pub reply_is_spelled : {A : Type 0} (layout : Layout A) (reply : Reply A) → SpellsReply layout (reply_bytes layout reply) reply
+pub reply_is_spelled : {A : Type 0} (layout : Layout A) (reply : ReplyBody A) → SpellsReply layout (reply_bytes layout reply) reply
 reply_is_spelled layout (Found a) = (_, refl, values_are_spelled layout.kinds (layout.held a))
 reply_is_spelled layout (Refused code) = ([], sym (append-nil (big_bytes 2 code)), inl refl)
