@@ -3,9 +3,26 @@ use Rattle.std.specs.Prelude.{ℕ, List, [], codes, length, nat_lt, if◌then◌
 use Rattle.std.specs.Option.{option_map_or}
 use Rattle.std.specs.Str.Lines.{lines}
 use Rattle.srv_template.specs.Parts.{faulty_part_in}
+use Rattle.srv_template.specs.declared.faults.DefinitionFault.{DefinitionFault}
+use Rattle.srv_template.specs.declared.faults.DefinitionFault.TheVariants as fault
 use Rattle.srv_template.specs.declared.parts.Part.{Part}
 use Rattle.srv_template.specs.declared.parts.Part.TheVariants.{ServiceType, Version, Description, Syntax, Definitions}
 use Rattle.site_check.specs.Lines.{File, Line, Template, TooLong, longest_text, problem_line}
+
+-- what is wrong with a definition
+abbrev pub definition_text : DefinitionFault → List ℕ
+definition_text fault.Form = codes "expected TAG = KIND, and flags"
+definition_text fault.Tag = codes "what stands before the = is no tag"
+definition_text fault.Kind = codes "its kind is none of STRING, INTEGER, BOOLEAN, OPAQUE and KEYWORD"
+definition_text fault.Flag = codes "a flag is none of M, O, L and X"
+definition_text fault.FlagTwice = codes "a flag stands twice"
+definition_text fault.KeywordValues = codes "a KEYWORD has no values"
+definition_text fault.NoBlankLine = codes "a value has a raw =, or no blank line stands before the next definition"
+definition_text fault.DefaultUnread = codes "a default value is not read: ( ) , \\ ! < = > ~ are written as \\28 and so on"
+definition_text fault.DefaultKind = codes "a default value is not of its kind"
+definition_text fault.AllowedUnread = codes "an allowed value is not read: ( ) , \\ ! < = > ~ are written as \\28 and so on"
+definition_text fault.AllowedKind = codes "an allowed value is not of its kind"
+definition_text fault.Twice = codes "an earlier definition is of its tag"
 
 -- what is wrong where a template stops at a part
 abbrev pub refusal_text : Part → List ℕ
@@ -13,7 +30,7 @@ refusal_text ServiceType = codes "expected template-type=TYPE"
 refusal_text Version = codes "expected template-version="
 refusal_text Description = codes "expected template-description="
 refusal_text Syntax = codes "expected template-url-syntax="
-refusal_text Definitions = codes "a malformed definition, or a second one of its tag"
+refusal_text (Definitions f) = definition_text f
 
 -- of a text that was refused at a line: that it is too long, else the first part that is at fault
 abbrev pub template_lines : List ℕ → List ℕ → ℕ → List ℕ

@@ -1,13 +1,41 @@
 //! At which line a template is at fault, and with what.
 ghost use Rattle.std.specs.Prelude.{◌≡◌, OnOk};
 ghost use Rattle.std.specs.Io.KnownBytes.{Appends};
-ghost use Rattle.site_check.specs.TemplateFaults.{refusal_text, template_lines};
+ghost use Rattle.site_check.specs.TemplateFaults.{definition_text, refusal_text, template_lines};
 
 use crate::fault::CheckFault;
 use crate::problem::{FileText, LONGEST_TEXT, Place, Problem, report};
-use srv_template::{Part, faulty_part};
+use srv_template::{DefinitionFault, Part, faulty_part};
 use std::alloc::Global;
 use std::io::Write;
+
+// What is wrong with a definition.
+fn definition_refusal(fault: DefinitionFault) -> &'static str
+    ensures { result.now ≡ definition_text fault }
+{
+    match fault {
+        DefinitionFault::Form => "expected TAG = KIND, and flags",
+        DefinitionFault::Tag => "what stands before the = is no tag",
+        DefinitionFault::Kind => {
+            "its kind is none of STRING, INTEGER, BOOLEAN, OPAQUE and KEYWORD"
+        }
+        DefinitionFault::Flag => "a flag is none of M, O, L and X",
+        DefinitionFault::FlagTwice => "a flag stands twice",
+        DefinitionFault::KeywordValues => "a KEYWORD has no values",
+        DefinitionFault::NoBlankLine => {
+            "a value has a raw =, or no blank line stands before the next definition"
+        }
+        DefinitionFault::DefaultUnread => {
+            "a default value is not read: ( ) , \\ ! < = > ~ are written as \\28 and so on"
+        }
+        DefinitionFault::DefaultKind => "a default value is not of its kind",
+        DefinitionFault::AllowedUnread => {
+            "an allowed value is not read: ( ) , \\ ! < = > ~ are written as \\28 and so on"
+        }
+        DefinitionFault::AllowedKind => "an allowed value is not of its kind",
+        DefinitionFault::Twice => "an earlier definition is of its tag",
+    }
+}
 
 // What is wrong where a template stops at a part.
 fn refusal(part: Part) -> &'static str
@@ -18,7 +46,7 @@ fn refusal(part: Part) -> &'static str
         Part::Version => "expected template-version=",
         Part::Description => "expected template-description=",
         Part::Syntax => "expected template-url-syntax=",
-        Part::Definitions => "a malformed definition, or a second one of its tag",
+        Part::Definitions(fault) => definition_refusal(fault),
     }
 }
 

@@ -1,5 +1,6 @@
 pub mod Codes
 pub mod Conformity
+pub mod Faults
 pub mod Joining
 pub mod Meaning
 pub mod Parts

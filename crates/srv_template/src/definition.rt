@@ -46,7 +46,7 @@ impl Drop for Definition {
 }
 
 impl ValueKind {
-    fn is_keyword(self) -> bool
+    pub(crate) fn is_keyword(self) -> bool
         ensures { result ≡ spec.is_keyword self }
     {
         match self {

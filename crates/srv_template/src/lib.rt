@@ -3,6 +3,7 @@
 
 mod definition;
 mod fault;
+mod faults;
 pub mod laws;
 mod lines;
 mod parts;
@@ -13,5 +14,6 @@ mod words;
 
 pub use definition::{Definition, ValueKind};
 pub use fault::{FaultKind, ParseFault, TemplateFault};
+pub use faults::DefinitionFault;
 pub use parts::{Part, faulty_part};
 pub use templates::{Template, Templates};

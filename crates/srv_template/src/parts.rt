@@ -1,9 +1,11 @@
 //! At which part a text stops being a template.
 ghost use Rattle.std.specs.Prelude.{◌≡◌, IfOk};
 ghost use Rattle.std.specs.Str.Lines.{lines};
+ghost use Rattle.srv_template.specs.Parts as spec;
 ghost use Rattle.srv_template.specs.Parts.{faulty_after_type, faulty_part_in};
 ghost use Rattle.srv_template.specs.Stops.{texts_of};
 
+use crate::faults::{DefinitionFault, refusal};
 use crate::lines::{Stop, split_at_blank};
 use crate::reading::{after_part, read_definitions, read_type};
 use slp_text::NoMemory;
@@ -20,8 +22,23 @@ pub enum Part {
     Description,
     /// The line `template-url-syntax=`, and the lines up to a blank one.
     Syntax,
-    /// The definitions of tags.
-    Definitions,
+    /// The definitions of tags, and why the first is refused that is.
+    Definitions(DefinitionFault),
+}
+
+// That definitions are at fault, and why the first is that is refused.
+fn faulty_definitions(alloc: Global, lines: &[&str]) -> Result<Option<Part>, NoMemory>
+    ensures { IfOk result (λ p. p ≡ spec.faulty_definitions (texts_of lines.now)) }
+{
+    match read_definitions(alloc, lines) {
+        Ok(_) => Ok(None),
+        Err(Stop::Left(left)) => {
+            let place = lines.len().saturating_sub(left);
+            let fault = refusal(alloc, &lines[place..])?;
+            Ok(Some(Part::Definitions(fault)))
+        }
+        Err(Stop::NoMemory) => Err(NoMemory),
+    }
 }
 
 // The part that is at fault after the one of the type.
@@ -44,11 +61,7 @@ fn faulty_after(alloc: Global, lines: &[&str]) -> Result<Option<Part>, NoMemory>
         Err(Stop::Left(_)) => return Ok(Some(Part::Syntax)),
         Err(Stop::NoMemory) => return Err(NoMemory),
     };
-    match read_definitions(alloc, split_at_blank(syntax).1) {
-        Ok(_) => Ok(None),
-        Err(Stop::Left(_)) => Ok(Some(Part::Definitions)),
-        Err(Stop::NoMemory) => Err(NoMemory),
-    }
+    faulty_definitions(alloc, split_at_blank(syntax).1)
 }
 
 // The first part of lines that is at fault.

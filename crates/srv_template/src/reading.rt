@@ -77,7 +77,7 @@ fn read_type_line(alloc: Global, line: &str) -> Result<Option<Text>, NoMemory>
 }
 
 // The tag that a text is, if it is one.
-fn read_definition_tag(alloc: Global, text: &str) -> Result<Option<Key>, NoMemory>
+pub(crate) fn read_definition_tag(alloc: Global, text: &str) -> Result<Option<Key>, NoMemory>
     ensures { IfOk result (λ o. o ≡ result_ok (tag_or BadTag (chars text.now))) }
 {
     match read_tag(alloc, text, AttrFault::BadTag) {
@@ -115,7 +115,7 @@ fn read_body(
 }
 
 // The definition that its first line and the others give, if they give one.
-fn read_definition(
+pub(crate) fn read_definition(
     alloc: Global,
     first: &str,
     body: &[&str],

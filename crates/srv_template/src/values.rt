@@ -114,6 +114,14 @@ fn all_fit(kind: ValueKind, values: &[Value]) -> bool
     values.iter().all(|value| kind.takes(value))
 }
 
+/// The values that lines list, if each is one.
+pub(crate) fn listed_values(alloc: Global, lines: &[&str]) -> Result<Option<Vec<Value>>, NoMemory>
+    ensures { IfOk result (λ o. option_map (λ v. v.items) o ≡ result_ok (values_in (spec.joined (spoken (texts_of lines.now))))) }
+{
+    let text = join(alloc, lines)?;
+    read_values(alloc, text.as_str())
+}
+
 /// The values that lines list, if each is one of the kind.
 pub fn values_for(
     alloc: Global,
@@ -122,8 +130,7 @@ pub fn values_for(
 ) -> Result<Option<Vec<Value>>, NoMemory>
     ensures { IfOk result (λ o. option_map (λ v. v.items) o ≡ spec.values_for kind (texts_of lines.now)) }
 {
-    let text = join(alloc, lines)?;
-    let Some(values) = read_values(alloc, text.as_str())? else {
+    let Some(values) = listed_values(alloc, lines)? else {
         return Ok(None);
     };
     if all_fit(kind, &values) {

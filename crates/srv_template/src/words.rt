@@ -1,6 +1,7 @@
 ghost use Rattle.std.specs.Prelude.{◌≡◌, chars, IfOk};
 ghost use Rattle.srv_template.specs.Reading as spec;
-ghost use Rattle.srv_template.specs.Reading.{flags_from, flags_with, no_flags, words_of};
+ghost use Rattle.std.specs.List.{slice_split};
+ghost use Rattle.srv_template.specs.Reading.{flags_from, flags_with, is_space, no_flags, words_of};
 ghost use Rattle.srv_template.specs.Stops.{texts_of};
 
 use crate::definition::ValueKind;
@@ -27,7 +28,7 @@ const NO_FLAGS: Flags = Flags {
     explicit: false,
 };
 
-fn kind_of(word: &str) -> Option<ValueKind>
+pub(crate) fn kind_of(word: &str) -> Option<ValueKind>
     ensures { result ≡ spec.kind_of word.now }
 {
     if word == "string" {
@@ -76,7 +77,7 @@ impl Flags {
     }
 }
 
-fn flags_of(words: &[&str]) -> Option<Flags>
+pub(crate) fn flags_of(words: &[&str]) -> Option<Flags>
     ensures { result ≡ flags_from no_flags (texts_of words.now) }
 {
     let mut flags = NO_FLAGS;
@@ -95,11 +96,19 @@ fn kind_and_flags(words: &[&str]) -> Option<(ValueKind, Flags)>
     Some((kind, flags))
 }
 
+/// The words of a text, with a SPACE between each two.
+pub(crate) fn split_words<'a>(alloc: Global, text: &'a str) -> Result<Vec<&'a str>, NoMemory>
+    ensures { IfOk result (λ v. texts_of v.items ≡ slice_split is_space text.now) }
+{
+    let words: Vec<&str> = text.split(' ').collect(alloc)?;
+    Ok(words)
+}
+
 /// The kind and the flags that a text names, in whatever case, with white space between them.
 pub fn read_words(alloc: Global, text: &str) -> Result<Option<(ValueKind, Flags)>, NoMemory>
     ensures { IfOk result (λ o. o ≡ spec.kind_and_flags (words_of (chars text.now))) }
 {
     let folded = Key::of(alloc, text)?;
-    let words: Vec<&str> = folded.as_str().split(' ').collect(alloc)?;
+    let words = split_words(alloc, folded.as_str())?;
     Ok(kind_and_flags(&words))
 }

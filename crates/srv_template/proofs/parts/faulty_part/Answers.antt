@@ -1,8 +1,7 @@
-use Rattle.std.proofs.Common.{◌≡◌, IfOk}
+use Rattle.std.proofs.Common.{◌≡◌}
 use Rattle.std.specs.Str.Lines.{lines}
 use Rattle.std.proofs.lemmas.Iterator.Consumers.{map_from_collect}
 use Rattle.std.proofs.lemmas.Iterator.Splits.{YieldsList-from_lines}
-use Rattle.srv_template.specs.Parts.{faulty_part_in}
 use Rattle.srv_template.specs.Stops.{texts_of}
 use Rattle.srv_template.proofs.parts.faulty_part.Goals as goal
 
