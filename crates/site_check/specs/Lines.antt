@@ -125,6 +125,8 @@ pub data Warning : Type 0 where
   MoreBits : ℕ → Warning
   -- a type that rules about every type alone let be registered
   AnyType : List ℕ → Warning
+  -- a tag whose definition refuses its own default values
+  RefusedDefault : List ℕ → Warning
   -- an element of listen, by its number, that is every address; or one that is not of one machine
   AnyAddress : ℕ → Warning
   NoMachine : ℕ → Warning
@@ -141,6 +143,7 @@ warning_in (lent_warning.NoService kind) = NoService kind.now
 warning_in lent_warning.NoSight = NoSight
 warning_in (lent_warning.MoreBits number) = MoreBits number
 warning_in (lent_warning.AnyType kind) = AnyType kind.now
+warning_in (lent_warning.RefusedDefault tag) = RefusedDefault tag.now
 warning_in (lent_warning.AnyAddress number) = AnyAddress number
 warning_in (lent_warning.NoMachine number) = NoMachine number
 warning_in (lent_warning.FewDescriptors most need) = FewDescriptors most need
@@ -155,6 +158,7 @@ warning_text (NoService kind) = codes "it is about URLs that begin with " ++ sho
 warning_text NoSight = codes "no rule lets anyone see anything"
 warning_text (MoreBits number) = codes "element " ++ decimal number ++ codes " of from has bits behind its prefix, which do not count"
 warning_text (AnyType kind) = codes "only rules of type * let anyone register " ++ shown kind
+warning_text (RefusedDefault tag) = codes "its own definition refuses the default of " ++ shown tag
 warning_text (AnyAddress number) = codes "element " ++ decimal number ++ codes " of listen is 0.0.0.0, which is told to clients as the address of the directory"
 warning_text (NoMachine number) = codes "element " ++ decimal number ++ codes " of listen is no address of one machine"
 warning_text (FewDescriptors most need) = codes "a process may have " ++ decimal most ++ codes " descriptors here, and slpda can need " ++ decimal need

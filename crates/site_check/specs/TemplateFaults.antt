@@ -1,13 +1,15 @@
 -- What is wrong with a text as a template.
 use Rattle.std.specs.Prelude.{ℕ, List, [], codes, length, nat_lt, if◌then◌else◌}
+use Rattle.std.specs.List.{flat_map}
 use Rattle.std.specs.Option.{option_map_or}
 use Rattle.std.specs.Str.Lines.{lines}
+use Rattle.srv_template.specs.Defaults.{refused_defaults}
 use Rattle.srv_template.specs.Parts.{faulty_part_in}
 use Rattle.srv_template.specs.declared.faults.DefinitionFault.{DefinitionFault}
 use Rattle.srv_template.specs.declared.faults.DefinitionFault.TheVariants as fault
 use Rattle.srv_template.specs.declared.parts.Part.{Part}
 use Rattle.srv_template.specs.declared.parts.Part.TheVariants.{ServiceType, Version, Description, Syntax, Definitions}
-use Rattle.site_check.specs.Lines.{File, Line, Template, TooLong, longest_text, problem_line}
+use Rattle.site_check.specs.Lines.{File, Line, RefusedDefault, Template, TooLong, longest_text, problem_line, warning_line}
 
 -- what is wrong with a definition
 abbrev pub definition_text : DefinitionFault → List ℕ
@@ -31,6 +33,14 @@ refusal_text Version = codes "expected template-version="
 refusal_text Description = codes "expected template-description="
 refusal_text Syntax = codes "expected template-url-syntax="
 refusal_text (Definitions f) = definition_text f
+
+-- a tag of a template whose definition refuses its own default values
+abbrev pub default_line : List ℕ → List ℕ → List ℕ
+default_line path tag = warning_line (File path) (RefusedDefault tag)
+
+-- each such tag of the template that a text is
+abbrev pub default_lines : List ℕ → List ℕ → List ℕ
+default_lines path text = flat_map (default_line path) (refused_defaults (lines text))
 
 -- of a text that was refused at a line: that it is too long, else the first part that is at fault
 abbrev pub template_lines : List ℕ → List ℕ → ℕ → List ℕ

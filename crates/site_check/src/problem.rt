@@ -141,6 +141,8 @@ pub(crate) enum Warning<'a> {
     MoreBits(usize),
     /// A type that rules about every type alone let be registered.
     AnyType(&'a str),
+    /// A tag whose definition refuses its own default values.
+    RefusedDefault(&'a str),
     /// An element of `listen`, by its number, that is every address.
     AnyAddress(usize),
     /// One that is not of one machine.
@@ -182,6 +184,10 @@ fn print_warning<W: Write>(warning: Warning<'_>, writer: &mut W) -> io::Result<(
         Warning::AnyType(kind) => {
             write!(writer, "only rules of type * let anyone register ")?;
             print_text(kind, writer)
+        }
+        Warning::RefusedDefault(tag) => {
+            write!(writer, "its own definition refuses the default of ")?;
+            print_text(tag, writer)
         }
         Warning::AnyAddress(number) => write!(
             writer,

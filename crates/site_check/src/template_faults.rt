@@ -1,13 +1,14 @@
-//! At which line a template is at fault, and with what.
-ghost use Rattle.std.specs.Prelude.{◌≡◌, OnOk};
+//! At which line a template is at fault, and with what; and which default values it refuses itself.
+ghost use Rattle.std.specs.Prelude.{◌≡◌, flat_map, OnOk};
 ghost use Rattle.std.specs.Io.KnownBytes.{Appends};
-ghost use Rattle.site_check.specs.TemplateFaults.{definition_text, refusal_text, template_lines};
+ghost use Rattle.site_check.specs.TemplateFaults.{default_line, default_lines, definition_text, refusal_text, template_lines};
 
 use crate::fault::CheckFault;
-use crate::problem::{FileText, LONGEST_TEXT, Place, Problem, report};
-use srv_template::{DefinitionFault, Part, faulty_part};
+use crate::problem::{FileText, LONGEST_TEXT, Place, Problem, Warning, report, warn};
+use slp_text::Key;
+use srv_template::{DefinitionFault, Part, faulty_part, refused_defaults};
 use std::alloc::Global;
-use std::io::Write;
+use std::io::{self, Write};
 
 // What is wrong with a definition.
 fn definition_refusal(fault: DefinitionFault) -> &'static str
@@ -65,5 +66,34 @@ pub(crate) fn explain_template<W: Write>(
         let problem = Problem::Template(refusal(part));
         report(Place::Line(file.path, line), problem, writer)?;
     }
+    Ok(())
+}
+
+// Writes that the definitions of some tags refuse their own default values.
+fn warn_of_tags<W: Write>(path: &str, tags: &[Key], writer: &mut W) -> io::Result<()>
+    ensures { OnOk result (Appends (W.contents writer.old) (W.contents writer.new) (flat_map (default_line path.now) tags.now)) }
+{
+    for tag in tags {
+        warn(
+            Place::File(path),
+            Warning::RefusedDefault(tag.as_str()),
+            writer,
+        )?;
+    }
+    Ok(())
+}
+
+/// Writes which definitions of the template that a text is refuse their own default values.
+pub(crate) fn warn_of_defaults<W: Write>(
+    alloc: Global,
+    file: FileText<'_>,
+    writer: &mut W,
+) -> Result<(), CheckFault>
+    ensures { OnOk result (Appends (W.contents writer.old) (W.contents writer.new) (default_lines file.entry.path.now file.entry.text.now)) }
+{
+    let tags = refused_defaults(alloc, file.text)?;
+    let told = warn_of_tags(file.path, &tags, writer);
+    drop(tags);
+    told?;
     Ok(())
 }

@@ -6,6 +6,7 @@ pub mod FaultLines
 pub mod ListedValues
 pub mod MeantTemplates
 pub mod ParsedTemplates
+pub mod RefusedDefaults
 pub mod RefusedValues
 pub mod SplitLines
 pub mod StoredTemplates

@@ -1,5 +1,6 @@
 pub mod Codes
 pub mod Conformity
+pub mod Defaults
 pub mod Faults
 pub mod Joining
 pub mod Meaning

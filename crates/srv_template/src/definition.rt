@@ -96,7 +96,7 @@ impl Definition {
     }
 
     // What is wrong with the values of the tag.
-    fn values_fault(&self, values: &[Value]) -> Option<FaultKind>
+    pub(crate) fn values_fault(&self, values: &[Value]) -> Option<FaultKind>
         ensures { result ≡ fault_of_values self.now values.now }
     {
         if !self.takes_all(values) {

@@ -1,6 +1,7 @@
 //! Service templates (RFC 2609): what the text of one means, and which attributes conform to it.
 #![tactic(auto)]
 
+mod defaults;
 mod definition;
 mod fault;
 mod faults;
@@ -12,6 +13,7 @@ mod templates;
 mod values;
 mod words;
 
+pub use defaults::refused_defaults;
 pub use definition::{Definition, ValueKind};
 pub use fault::{FaultKind, ParseFault, TemplateFault};
 pub use faults::DefinitionFault;

@@ -32,3 +32,7 @@ returns-in-MoreBits g c = rw c.in-MoreBits.is c.write-in-MoreBits.ensures.bytes
 
 pub returns-in_ok-write-in-AnyType : goal.returns-in_ok-write-in-AnyType
 returns-in_ok-write-in-AnyType g c = rw c.in-AnyType.is (written_after c.print_text-in-AnyType.result _ _ _ _ _ c.in_ok-write-in-AnyType.ensures.bytes c.print_text-in-AnyType.ensures)
+
+pub returns-in_ok-write-in-RefusedDefault : goal.returns-in_ok-write-in-RefusedDefault
+returns-in_ok-write-in-RefusedDefault g c =
+    rw c.in-RefusedDefault.is (written_after c.print_text-in-RefusedDefault.result _ _ _ _ _ c.in_ok-write-in-RefusedDefault.ensures.bytes c.print_text-in-RefusedDefault.ensures)
