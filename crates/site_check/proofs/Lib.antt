@@ -1,3 +1,4 @@
+pub mod Begun
 pub mod HiddenRules
 pub mod Sites
 pub mod Stops

@@ -10,4 +10,5 @@ pub mod RuleFaults
 pub mod RuleKeys
 pub mod RuleWarnings
 pub mod SiteLines
+pub mod SiteStatus
 pub mod TemplateFaults

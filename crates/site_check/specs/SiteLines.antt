@@ -2,7 +2,6 @@
 use Rattle.std.specs.Prelude.{◌≡◌, ℕ, ◌≤◌, List, [], ◌∷◌, ◌++◌, codes, length, map, Option, Some, None, Result, Ok, Err, IfOk, option_and_then, ◌==◌, if◌then◌else◌}
 use Rattle.std.specs.FinMap as fin
 use Rattle.std.specs.Fmt.{decimal}
-use Rattle.std.specs.Io.KnownBytes.{Appends}
 use Rattle.std.specs.Result.{result_ok, result_unwrap_or}
 use Rattle.access_rules.specs.Deciding.{SiteRules, rules_in}
 use Rattle.rule_files.specs.RuleFiles.{rules_in_text}
@@ -159,10 +158,6 @@ pub record AreNamed (s : SiteReads) (config : Config) : Type 0 where
 pub record AreRead (s : SiteReads) : Type 0 where
   pub config : StopsWithin s.config
   pub named : IfOk s.config.read (λ text. IfOk (config_of text) (AreNamed s))
-
--- known bytes grow by these lines, for some reading of the files
-abbrev pub AppendsSite : Option (List ℕ) → Option (List ℕ) → (SiteReads → List ℕ) → Type 0
-AppendsSite old new lines = (s : SiteReads) × AreRead s × Appends old new (lines s)
 
 -- ---- the last line
 

@@ -6,12 +6,11 @@ ghost use Rattle.site_opening.specs.Openings.{SiteTexts, start_of};
 ghost use Rattle.site_opening.specs.Words.{path_in};
 ghost use Rattle.site_check.specs.Checks.{AppendsCheck, IsChecked, usage_text};
 ghost use Rattle.site_check.specs.SiteLines.{status_ending, status_line};
-ghost use Rattle.site_opening.specs.Statuses.{opening_status};
 
 use crate::fault::CheckFault;
 use crate::site::look_at_site;
 use shown_text::print_text;
-use site_opening::{SiteFiles, StartFault, config_path, open_site};
+use site_opening::config_path;
 use std::alloc::Global;
 use std::io::{self, ErrorKind, Write};
 use std::rt::Files;
@@ -24,26 +23,6 @@ const USAGE_TEXT: &str = "usage: slpcheck CONFIG (slpda 0.9.0)\n";
 
 /// The status where memory ran out.
 const NO_MEMORY: u8 = 3;
-
-// The status of a server that opens a site so.
-fn status_of(told: &Result<SiteFiles, StartFault>) -> u8
-    ensures { result ≡ opening_status told.now }
-{
-    match told {
-        Ok(_) => 0,
-        Err(fault) => fault.status(),
-    }
-}
-
-// The status with which a server would not start on the files of a site, else 0.
-fn status_at<R: Files>(rt: &R, alloc: Global, path: &str) -> u8
-    ensures { IsChecked result }
-{
-    let told = open_site(rt, alloc, path);
-    let status = status_of(&told);
-    drop(told);
-    status
-}
 
 // Writes what a server would do, by its status.
 fn print_ending<W: Write>(status: u8, writer: &mut W) -> io::Result<()>
@@ -77,8 +56,7 @@ fn check<R: Files, W: Write>(
     ensures status { IfOk result IsChecked }
     ensures written { IfOk result (AppendsCheck (W.contents writer.old) (W.contents writer.new) path.now) }
 {
-    let status = status_at(rt, alloc, path);
-    look_at_site(rt, alloc, path, writer)?;
+    let status = look_at_site(rt, alloc, path, writer)?;
     print_status(path, status, writer)?;
     writer.flush()?;
     Ok(status)
@@ -122,6 +100,10 @@ pub fn check_run<R: Files, W: Write>(rt: &R, alloc: Global, words: &[String], wr
     match check(rt, alloc, path, writer) {
         Ok(status) => status,
         Err(CheckFault::Output) => 1,
-        Err(CheckFault::NoMemory) => 3,
+        Err(CheckFault::NoMemory) => {
+            let _ = print_status(path, NO_MEMORY, writer);
+            let _ = writer.flush();
+            NO_MEMORY
+        }
     }
 }

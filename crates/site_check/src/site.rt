@@ -1,16 +1,19 @@
 //! A look at each file of a site.
-ghost use Rattle.std.specs.Prelude.{◌≡◌, ◌≢◌, ◌++◌, IfOk, List, Ok, OnOk, Some, codes, map, string_bytes};
+ghost use Rattle.std.specs.Prelude.{◌≡◌, ◌≢◌, ◌++◌, IfOk, List, Ok, OnOk, Some, codes, map, option_and_then, option_map, string_bytes};
 ghost use Rattle.std.specs.FinMap as fin;
 ghost use Rattle.std.specs.Io.KnownBytes.{Appends};
-ghost use Rattle.std.specs.Option.{option_copied};
-ghost use Rattle.std.specs.Result.{result_ok, result_unwrap_or};
-ghost use Rattle.rule_files.specs.RuleFiles.{rules_in_text};
+ghost use Rattle.std.specs.Option.{option_copied, option_map_or};
+ghost use Rattle.std.specs.Result.{result_and, result_ok, result_unwrap_or};
 ghost use Rattle.service_url.specs.Types.{type_of};
 ghost use Rattle.srv_template.specs.Templates.{added_to};
 ghost use Rattle.site_config.specs.Configurations.{IsWithin};
+ghost use Rattle.site_opening.specs.Openings.{rules_start_of, started, templates_and};
+ghost use Rattle.site_opening.specs.Statuses.{config_start, file_start, opening_status, start_status, template_start};
+ghost use Rattle.slp_text.specs.Reading.{read_map};
 ghost use Rattle.site_check.specs.ConfigFaults.{config_lines};
 ghost use Rattle.site_check.specs.NotToml.{AppendsStopped};
-ghost use Rattle.site_check.specs.SiteLines.{AppendsSite, AreNamed, AreRead, ReadTemplate, ReadToml, SiteReads, StopsWithin, addition_line, each_template_lines, fault_text, file_lines, named_file_lines, named_lines, named_rule_lines, named_rules, rule_text_lines, rules_read, site_lines, template_kind, template_text_lines, template_warning, templates_with, unread_line};
+ghost use Rattle.site_check.specs.SiteLines.{AreNamed, AreRead, ReadTemplate, ReadToml, SiteReads, StopsWithin, addition_line, each_template_lines, fault_text, file_lines, named_file_lines, named_lines, named_rule_lines, rule_text_lines, site_lines, template_kind, template_text_lines, template_warning, templates_with, unread_line};
+ghost use Rattle.site_check.specs.SiteStatus.{named_begun, rule_file_begun, site_begun, templates_begun};
 
 use crate::config_faults::explain_config;
 use crate::descriptors::tell_descriptors;
@@ -25,7 +28,7 @@ use rule_files::{RuleFault, rules_of_text};
 use service_url::{ServiceType, UrlFault};
 use shown_text::print_text;
 use site_config::{Config, ConfigFault};
-use site_opening::{FileFault, read};
+use site_opening::{FileFault, StartFault, read};
 use slp_scopes::ScopeList;
 use slp_text::{NoMemory, Text};
 use srv_template::{ParseFault, Template, Templates};
@@ -45,9 +48,14 @@ fn fault_words(fault: FileFault) -> &'static str
     }
 }
 
-// Writes why a file has no text. Want of memory says nothing of the file.
-fn report_unread<W: Write>(file: &str, fault: FileFault, writer: &mut W) -> Result<(), CheckFault>
-    ensures { OnOk result (Appends (W.contents writer.old) (W.contents writer.new) (unread_line file.now fault)) }
+// Writes why a file has no text, and answers why a server would not start on it. Want of memory says nothing of the file.
+fn report_unread<W: Write>(
+    file: &str,
+    fault: FileFault,
+    writer: &mut W,
+) -> Result<StartFault, CheckFault>
+    ensures { IfOk result (λ told. (told ≡ file_start fault)
+        × Appends (W.contents writer.old) (W.contents writer.new) (unread_line file.now fault)) }
 {
     if matches!(fault, FileFault::NoMemory) {
         return Err(CheckFault::NoMemory);
@@ -55,31 +63,31 @@ fn report_unread<W: Write>(file: &str, fault: FileFault, writer: &mut W) -> Resu
     print_text(file, writer)?;
     let words = fault_words(fault);
     writeln!(writer, ": {words}")?;
-    Ok(())
+    Ok(StartFault::from(fault))
 }
 
-// The rules that a text is. What is wrong with them, and what is surely not meant, is written.
+// The rules that a text is, or why a server would not start on it. What is wrong with them, and what is surely not meant, is written.
 fn look_at_rule_text<W: Write>(
     alloc: Global,
     file: FileText<'_>,
     scopes: &ScopeList,
     writer: &mut W,
-) -> Result<Option<Rules>, CheckFault>
-    ensures { IfOk result (λ rules. (rules ≡ result_ok (rules_in_text file.entry.text.now))
+) -> Result<Result<Rules, StartFault>, CheckFault>
+    ensures { IfOk result (λ rules. (rules ≡ rules_start_of (Some file.entry.text.now))
         × AppendsStopped (W.contents writer.old) (W.contents writer.new) file.entry.text.now (rule_text_lines file.entry.path.now scopes.now file.entry.text.now)) }
 {
     match rules_of_text(alloc, file.text) {
         Ok(rules) => match warn_of_rules(file.path, &rules, scopes, writer) {
-            Ok(()) => Ok(Some(rules)),
+            Ok(()) => Ok(Ok(rules)),
             Err(fault) => {
                 drop(rules);
                 Err(fault)
             }
         },
         Err(RuleFault::NoMemory) => Err(CheckFault::NoMemory),
-        Err(_) => {
+        Err(fault) => {
             explain_rules(alloc, file, writer)?;
-            Ok(None)
+            Ok(Err(StartFault::from(fault)))
         }
     }
 }
@@ -91,8 +99,8 @@ fn look_at_rule_file<R: Files, W: Write>(
     path: &str,
     scopes: &ScopeList,
     writer: &mut W,
-) -> Result<Option<Rules>, CheckFault>
-    ensures { IfOk result (λ rules. (r : ReadToml) × StopsWithin r × (rules ≡ rules_read r.read)
+) -> Result<Result<Rules, StartFault>, CheckFault>
+    ensures { IfOk result (λ rules. (r : ReadToml) × StopsWithin r × (rules ≡ rule_file_begun r)
         × Appends (W.contents writer.old) (W.contents writer.new) (file_lines path.now (λ text. rule_text_lines path.now scopes.now text r.stop) r.read)) }
 {
     match read(rt, alloc, path) {
@@ -104,25 +112,28 @@ fn look_at_rule_file<R: Files, W: Write>(
             look_at_rule_text(alloc, file, scopes, writer)
         }
         Err(fault) => {
-            report_unread(path, fault, writer)?;
-            Ok(None)
+            let told = report_unread(path, fault, writer)?;
+            Ok(Err(told))
         }
     }
 }
 
-// The rules in the file that a configuration names, if it names one.
+// The rules in the file that a configuration names, the same way, if it names one.
 fn look_at_rules<R: Files, W: Write>(
     rt: &R,
     alloc: Global,
     path: &str,
     config: &Config,
     writer: &mut W,
-) -> Result<Option<Rules>, CheckFault>
-    ensures { IfOk result (λ rules. (r : ReadToml) × StopsWithin r × (rules ≡ named_rules config.now.rules r)
+) -> Result<Option<Result<Rules, StartFault>>, CheckFault>
+    ensures { IfOk result (λ rules. (r : ReadToml) × StopsWithin r × (rules ≡ option_map (λ file. rule_file_begun r) config.now.rules)
         × Appends (W.contents writer.old) (W.contents writer.new) (named_rule_lines path.now config.now.scopes config.now.rules r)) }
 {
     match &config.rules {
-        Some(file) => look_at_rule_file(rt, alloc, file.as_str(), &config.scopes, writer),
+        Some(file) => {
+            let rules = look_at_rule_file(rt, alloc, file.as_str(), &config.scopes, writer)?;
+            Ok(Some(rules))
+        }
         None => {
             warn(Place::File(path), Warning::NoRuleFile, writer)?;
             Ok(None)
@@ -176,35 +187,37 @@ fn warn_of_template<W: Write>(
     Ok(())
 }
 
-// Adds a template to others. That one is of its type is written.
+// Adds a template to others, or answers why a server would not start. That one is of its type is written.
 fn add_template<W: Write>(
     file: &str,
     template: Template,
     templates: &mut Templates,
     writer: &mut W,
-) -> Result<(), CheckFault>
-    ensures { OnOk result ((templates.new ≡ result_unwrap_or (added_to templates.old template) templates.old)
+) -> Result<Result<(), StartFault>, CheckFault>
+    ensures { IfOk result (λ told. (templates.new ≡ result_unwrap_or (added_to templates.old template) templates.old)
+        × (read_map (λ added. templates.new) told ≡ started template_start (added_to templates.old template))
         × Appends (W.contents writer.old) (W.contents writer.new) (addition_line file.now (added_to templates.old template))) }
 {
     match templates.add(template) {
-        Ok(()) => Ok(()),
+        Ok(()) => Ok(Ok(())),
         Err(ParseFault::TwiceType) => {
             report(Place::File(file), Problem::SameType, writer)?;
-            Ok(())
+            Ok(Err(StartFault::from(ParseFault::TwiceType)))
         }
         Err(_) => Err(CheckFault::NoMemory),
     }
 }
 
-// Adds the template that a text is to others. What is wrong with it, and what is surely not meant, is written.
+// Adds the template that a text is to others, or answers why a server would not start. What is wrong with it, and what is surely not meant, is written.
 fn look_at_template<W: Write>(
     alloc: Global,
     file: FileText<'_>,
     rules: Option<&Rules>,
     templates: &mut Templates,
     writer: &mut W,
-) -> Result<(), CheckFault>
-    ensures { OnOk result ((templates.new ≡ templates_with templates.old file.entry.text.now)
+) -> Result<Result<(), StartFault>, CheckFault>
+    ensures { IfOk result (λ told. (templates.new ≡ templates_with templates.old file.entry.text.now)
+        × (read_map (λ added. templates.new) told ≡ templates_and templates.old file.entry.text.now)
         × Appends (W.contents writer.old) (W.contents writer.new) (template_text_lines file.entry.path.now (option_copied rules.entry) templates.old file.entry.text.now)) }
 {
     match Template::parse(alloc, file.text) {
@@ -212,70 +225,102 @@ fn look_at_template<W: Write>(
             warn_of_template(alloc, file.path, &template, rules, writer)?;
             add_template(file.path, template, templates, writer)
         }
-        Err(ParseFault::Line(line)) => explain_template(alloc, file, line, writer),
+        Err(ParseFault::Line(line)) => {
+            explain_template(alloc, file, line, writer)?;
+            Ok(Err(StartFault::from(ParseFault::Line(line))))
+        }
         Err(_) => Err(CheckFault::NoMemory),
     }
 }
 
-// Looks at the templates in files.
+// Looks at the templates in files, and answers the first reason why a server would not start on them.
 fn look_at_templates<R: Files, W: Write>(
     rt: &R,
     alloc: Global,
     paths: &[Text],
     rules: Option<&Rules>,
     writer: &mut W,
-) -> Result<(), CheckFault>
-    ensures { OnOk result ((read : List ReadTemplate) × (map (λ t. t.path) read ≡ paths.now)
+) -> Result<Result<(), StartFault>, CheckFault>
+    ensures { IfOk result (λ told. (read : List ReadTemplate) × (map (λ t. t.path) read ≡ paths.now)
+        × (opening_status told ≡ opening_status (templates_begun fin.empty read))
         × Appends (W.contents writer.old) (W.contents writer.new) (each_template_lines (option_copied rules.entry) fin.empty read)) }
 {
     let mut templates = Templates::new(alloc);
+    let mut told = Ok(());
     for path in paths {
         let path = path.as_str();
-        match read(rt, alloc, path) {
+        let added = match read(rt, alloc, path) {
             Ok(text) => {
                 let file = FileText {
                     path,
                     text: text.as_str(),
                 };
-                look_at_template(alloc, file, rules, &mut templates, writer)?;
+                look_at_template(alloc, file, rules, &mut templates, writer)?
             }
-            Err(fault) => report_unread(path, fault, writer)?,
-        }
+            Err(fault) => Err(report_unread(path, fault, writer)?),
+        };
+        told = told.and(added);
     }
-    Ok(())
+    Ok(told)
 }
 
-// Looks at the files that the configuration in a file names.
+// The rules in the file that is named, where it is read and taken.
+fn taken_rules(rules: &Option<Result<Rules, StartFault>>) -> Option<&Rules>
+    ensures { option_copied result ≡ option_and_then result_ok rules.now }
+{
+    match rules {
+        Some(Ok(rules)) => Some(rules),
+        _ => None,
+    }
+}
+
+// The status with which a server would not start on rules, if a file of them is named, and then on templates, else 0.
+fn named_status(rules: &Option<Result<Rules, StartFault>>, templates: Result<(), StartFault>) -> u8
+    ensures { result ≡ option_map_or (λ told. opening_status (result_and told templates)) rules.now (opening_status templates) }
+{
+    if let Some(Err(fault)) = rules {
+        return fault.status();
+    }
+    match templates {
+        Ok(()) => 0,
+        Err(fault) => fault.status(),
+    }
+}
+
+// Looks at the files that the configuration in a file names, and answers the status with which a server would not start on them, else 0.
 fn look_at_files<R: Files, W: Write>(
     rt: &R,
     alloc: Global,
     path: &str,
     config: &Config,
     writer: &mut W,
-) -> Result<(), CheckFault>
-    ensures { OnOk result ((s : SiteReads) × AreNamed s config.now
+) -> Result<u8, CheckFault>
+    ensures { IfOk result (λ status. (s : SiteReads) × AreNamed s config.now
+        × (status ≡ opening_status (named_begun s config.now))
         × Appends (W.contents writer.old) (W.contents writer.new) (named_file_lines path.now s config.now)) }
 {
     let rules = look_at_rules(rt, alloc, path, config, writer)?;
-    look_at_templates(
+    let templates = look_at_templates(
         rt,
         alloc,
         config.templates.as_slice(),
-        rules.as_ref(),
+        taken_rules(&rules),
         writer,
-    )
+    )?;
+    Ok(named_status(&rules, templates))
 }
 
-// Looks at what a configuration says: its addresses, how many descriptors it needs, and the files that it names.
+// Looks at what a configuration says: its addresses, how many descriptors it needs, and the files that it names; with the same answer.
 fn look_at_named<R: Files, W: Write>(
     rt: &R,
     alloc: Global,
     path: &str,
     config: &Config,
     writer: &mut W,
-) -> Result<(), CheckFault>
+) -> Result<u8, CheckFault>
     requires { IsWithin config.now }
-    ensures { OnOk result ((s : SiteReads) × AreNamed s config.now
+    ensures { IfOk result (λ status. (s : SiteReads) × AreNamed s config.now
+        × (status ≡ opening_status (named_begun s config.now))
         × Appends (W.contents writer.old) (W.contents writer.new) (named_lines path.now s config.now)) }
 {
     warn_of_listen(path, config.listen.as_slice(), writer)?;
@@ -283,30 +328,35 @@ fn look_at_named<R: Files, W: Write>(
     look_at_files(rt, alloc, path, config, writer)
 }
 
-// Writes what is wrong with a text that is refused as a configuration. Want of memory says nothing of the text.
+// Writes what is wrong with a text that is refused as a configuration, and answers the status. Want of memory says nothing of the text.
 fn explain_refused<W: Write>(
     alloc: Global,
     fault: ConfigFault,
     file: FileText<'_>,
     writer: &mut W,
-) -> Result<(), CheckFault>
+) -> Result<u8, CheckFault>
+    ensures status { IfOk result (λ status. status ≡ start_status (config_start fault)) }
     ensures written { OnOk result (AppendsStopped (W.contents writer.old) (W.contents writer.new) file.entry.text.now (config_lines file.entry.path.now file.entry.text.now)) }
     ensures text { OnOk result (fault ≢ ConfigFault.NoMemory) }
 {
     match fault {
         ConfigFault::NoMemory => Err(CheckFault::NoMemory),
-        _ => explain_config(alloc, file, writer),
+        _ => {
+            explain_config(alloc, file, writer)?;
+            Ok(StartFault::from(fault).status())
+        }
     }
 }
 
-// Looks at the text of a configuration and at the files that it names.
+// Looks at the text of a configuration and at the files that it names, and answers the status with which a server would not start.
 fn look_at_config<R: Files, W: Write>(
     rt: &R,
     alloc: Global,
     file: FileText<'_>,
     writer: &mut W,
-) -> Result<(), CheckFault>
-    ensures { OnOk result ((s : SiteReads) × (s.config.read ≡ Ok file.entry.text.now) × AreRead s
+) -> Result<u8, CheckFault>
+    ensures { IfOk result (λ status. (s : SiteReads) × (s.config.read ≡ Ok file.entry.text.now) × AreRead s
+        × (status ≡ opening_status (site_begun s))
         × Appends (W.contents writer.old) (W.contents writer.new) (site_lines file.entry.path.now s)) }
 {
     match Config::from_text(alloc, file.text) {
@@ -320,14 +370,16 @@ fn look_at_config<R: Files, W: Write>(
 }
 
 /// Looks at the configuration in a file and at the files that it names, and writes what is wrong with each, and what is lawful and
-/// surely not meant. Where the configuration is refused that is all.
+/// surely not meant. Where the configuration is refused that is all. It answers the status with which a server would not start on
+/// what was read, else 0. Each file is read once.
 pub(crate) fn look_at_site<R: Files, W: Write>(
     rt: &R,
     alloc: Global,
     path: &str,
     writer: &mut W,
-) -> Result<(), CheckFault>
-    ensures { OnOk result (AppendsSite (W.contents writer.old) (W.contents writer.new) (site_lines path.now)) }
+) -> Result<u8, CheckFault>
+    ensures { IfOk result (λ status. (s : SiteReads) × AreRead s × (status ≡ opening_status (site_begun s))
+        × Appends (W.contents writer.old) (W.contents writer.new) (site_lines path.now s)) }
 {
     match read(rt, alloc, path) {
         Ok(text) => {
@@ -337,6 +389,9 @@ pub(crate) fn look_at_site<R: Files, W: Write>(
             };
             look_at_config(rt, alloc, file, writer)
         }
-        Err(fault) => report_unread(path, fault, writer),
+        Err(fault) => {
+            let told = report_unread(path, fault, writer)?;
+            Ok(told.status())
+        }
     }
 }

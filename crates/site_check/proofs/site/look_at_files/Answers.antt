@@ -3,4 +3,5 @@ use Rattle.site_check.proofs.site.look_at_files.Goals as goal
 
 pub returns : goal.returns
 returns g c =
-    named_told _ c.args.path.now c.args.config.now c.in_ok-rules.rules _ _ _ c.in_ok-rules.ensures (rw (c.as_ref.ensures.value, c.as_slice.ensures) at c.look_at_templates.ensures)
+    rw c.named_status.ensures
+    (named_told c.args.path.now c.args.config.now c.in_ok-rules.rules c.in_ok-templates.templates _ _ _ c.in_ok-rules.ensures (rw (c.taken_rules.ensures, c.as_slice.ensures) at c.in_ok-templates.ensures))
