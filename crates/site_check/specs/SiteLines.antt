@@ -27,7 +27,7 @@ use Rattle.site_check.specs.ListenWarnings.{listen_lines}
 use Rattle.site_check.specs.NotToml.{Stop}
 use Rattle.site_check.specs.RuleFaults.{rule_file_lines}
 use Rattle.site_check.specs.RuleWarnings.{stand_line, warnings_of_rules}
-use Rattle.site_check.specs.TemplateFaults.{template_lines}
+use Rattle.site_check.specs.TemplateFaults.{default_lines, template_lines}
 
 -- ---- a file that has no text
 
@@ -77,7 +77,7 @@ addition_line file _ = []
 
 -- what is said of a template that a text is, beside those that were added before; or at which line it is none
 abbrev pub told_template : List ℕ → List ℕ → Option SiteRules → SiteTemplates → Result Template ParseFault → List ℕ
-told_template file text rules templates (Ok t) = template_warning file rules t ++ addition_line file (added_to templates t)
+told_template file text rules templates (Ok t) = template_warning file rules t ++ default_lines file text ++ addition_line file (added_to templates t)
 told_template file text rules templates (Err (parse_fault.Line n)) = template_lines file text n
 told_template file text rules templates _ = []
 

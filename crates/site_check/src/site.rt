@@ -21,7 +21,7 @@ use crate::fault::CheckFault;
 use crate::listening::warn_of_listen;
 use crate::problem::{FileText, Place, Problem, Warning, report, warn};
 use crate::rule_faults::explain_rules;
-use crate::template_faults::explain_template;
+use crate::template_faults::{explain_template, warn_of_defaults};
 use crate::warnings::{warn_of_rules, warn_of_stand};
 use access_rules::Rules;
 use rule_files::{RuleFault, rules_of_text};
@@ -223,6 +223,7 @@ fn look_at_template<W: Write>(
     match Template::parse(alloc, file.text) {
         Ok(template) => {
             warn_of_template(alloc, file.path, &template, rules, writer)?;
+            warn_of_defaults(alloc, file, writer)?;
             add_template(file.path, template, templates, writer)
         }
         Err(ParseFault::Line(line)) => {
