@@ -1,4 +1,5 @@
--- How registrations and withdrawals are judged: the first step whose fault is there, else they are accepted (RFC 2608, sections 7, 9.3 and 10.6).
+-- How registrations and withdrawals are judged: the first step whose fault is there, else they are accepted (RFC 2608,
+-- sections 7, 9.3 and 10.6).
 use Rattle.std.specs.Prelude.{◌≡◌, ℕ, ◌≤◌, Bool, not, ◌==◌, ◌&&◌, ◌||◌, List, [], ◌∷◌, ◌++◌, codes, map, filter, find, length, slice_get, Option, Some, None, is_none, is_some, nat_le, unwrap_or, Result, Ok, Err, if◌then◌else◌, refl}
 use Rattle.std.specs.Coded as coded
 use Rattle.std.specs.Coded.{Coded, coded×, coded_ℕ}
@@ -145,12 +146,14 @@ denial because = Denies (code_by because.decider) because
 abbrev pub denial_of : SiteRules → Deed → List (List ℕ) → Option Because
 denial_of rules d scopes = option_map (by_rule rules d) (find (is_denied rules d) scopes)
 
--- the same as a judgement, for a deed of the asker
+-- the denial of what the asker does to services of a type and a registrant, in the first of these scopes in which there is
+-- one
 abbrev pub denial_in : Grounds → Action → List ℕ → ℕ → List (List ℕ) → Option Judgement
 denial_in g action kind registrant scopes =
     option_map denial (denial_of g.rules (deed g.asker action kind registrant) scopes)
 
--- what decides on a deed in some scopes, if there are any: what denies it in the first of them in which it is denied, else what allows it in the first of all
+-- what decides on a deed in some scopes, if there are any: what denies it in the first of them in which it is denied, else
+-- what allows it in the first of all
 abbrev pub ruling_on : SiteRules → Deed → List (List ℕ) → Option (Result Because Because)
 ruling_on rules d scopes = option_or (option_map Err (denial_of rules d scopes)) (option_map (λ s. Ok (by_rule rules d s)) (slice_get scopes 0))
 
@@ -223,7 +226,8 @@ denial_of_scopes t = if length t.scopes == 0 then Some (denial (by_step decider.
 abbrev pub denial_of_new : Grounds → Particulars → Option Judgement
 denial_of_new g t = denial_in g Register t.kind g.asker t.scopes
 
--- nor may what it would replace or update, which its own registrant registered
+-- the type of what it would replace or update may not be registered by its asker in some scope of that, whose registrant is
+-- who registered it
 abbrev pub denial_of_old : Grounds → Option Entry → Option Judgement
 denial_of_old g None = None
 denial_of_old g (Some e) = denial_in g Register e.kind e.owner e.scopes

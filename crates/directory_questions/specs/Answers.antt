@@ -219,6 +219,6 @@ scopes_in (Describes h q) = q.scopes
 scopes_in (Names h q) = q.scopes
 scopes_in (Changes h m) = []
 
--- the entry is live, and open to who asks in the scopes that are asked for
+-- who asks sees this of an entry that is live, and open to it in the scopes that are asked for
 abbrev pub IsOpenTo : Opening → History → Call → Entry → Type 0
 IsOpenTo o h c e = IsOpenNow (standpoint_of o h c) (scopes_in (sense_of o.site c)) e

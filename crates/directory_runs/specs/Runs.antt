@@ -27,12 +27,15 @@ pub record World : Type 0 where
 pub data Happening : Type 0 where
   -- bytes are judged, and their change is published
   Publish : Call → Outcome → Option Event → Happening
+  -- what has expired is dropped
   Sweep : ℕ → Happening
+  -- other rules decide from now on
   Reload : ℕ → SiteRules → Happening
   -- a loop answers bytes
   Entry : ℕ → Call → Outcome → Happening
   -- a loop has no memory for its answer
   Look : ℕ → Happening
+  -- a note is made of what is published
   Tell : Happening
   -- a loop learns a note
   Learn : ℕ → History → Happening
