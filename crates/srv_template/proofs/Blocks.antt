@@ -3,9 +3,12 @@ use Rattle.std.proofs.Common.{◌≡◌, ◌≤◌, ℕ, Bool, true, false, cond
 use Rattle.std.specs.Prelude.{not, ◌||◌}
 use Rattle.std.proofs.lemmas.Bool.{true≢false}
 use Rattle.std.specs.Option.{option_map_or}
+use denote.Ref.{Bor}
+use Rattle.std.proofs.lemmas.List.{length-map}
 use Rattle.std.proofs.lemmas.List.Folds.{list_any-append}
 use Rattle.slp_text.specs.Words.{bytes_eq, is_blank}
 use Rattle.srv_template.specs.Reading.{after_blanks, blocks_of, definition_at, definitions_from, from_blank, is_defined, to_blank}
+use Rattle.srv_template.specs.Stops.{texts_of}
 use Rattle.srv_template.specs.declared.definition.Definition.{Definition}
 use Rattle.attr_list.proofs.CutTexts.{by_test}
 use Rattle.srv_template.proofs.BlankLines.{block_at}
@@ -26,6 +29,11 @@ after_blanks-shorter (l ∷ ls) = by_test (is_blank l) (λ t. rw t (omega (arith
 pub from_blank-shorter : (ls : List (List ℕ)) → length (from_blank ls) ≤ length ls
 from_blank-shorter [] = omega arith
 from_blank-shorter (l ∷ ls) = by_test (is_blank l) (λ t. rw t (omega arith)) (λ f. rw f (omega (arith, from_blank-shorter ls)))
+
+-- what is left behind a block is no longer than what follows its first line
+pub rest-shorter : (more after rest : List (Bor (List ℕ))) → texts_of after ≡ from_blank (texts_of more) → texts_of rest ≡ after_blanks (texts_of after) → length rest ≤ length more
+rest-shorter more after rest behind left =
+    omega (arith, after_blanks-shorter (texts_of after), from_blank-shorter (texts_of more), ap length left, ap length behind, length-map rest (λ l. l.now), length-map more (λ l. l.now))
 
 -- the first of lines that no blank one precedes
 pub first-filled : (l : List ℕ) (ls : List (List ℕ)) → after_blanks (l ∷ ls) ≡ l ∷ ls → is_blank l ≡ false

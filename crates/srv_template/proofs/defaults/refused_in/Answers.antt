@@ -1,11 +1,10 @@
-use Rattle.std.proofs.Common.{◌≡◌, ◌∷◌, ◌≤◌, false, ap, length, sym, ◌∙◌, ◌++◌, append_assoc, arith}
+use Rattle.std.proofs.Common.{◌≡◌, ◌∷◌, false, ap, sym, ◌∙◌, ◌++◌, append_assoc, arith}
 use Rattle.std.specs.Prelude.{option_to_list}
-use Rattle.std.proofs.lemmas.List.{length-map}
 use Rattle.slp_text.specs.Words.{is_blank}
 use Rattle.srv_template.specs.Defaults.{refused_among, refused_default}
 use Rattle.srv_template.specs.Reading.{after_blanks, from_blank}
 use Rattle.srv_template.specs.Stops.{texts_of}
-use Rattle.srv_template.proofs.Blocks.{after_blanks-shorter, after_blanks-twice, first-filled, from_blank-shorter}
+use Rattle.srv_template.proofs.Blocks.{after_blanks-twice, first-filled, rest-shorter}
 use Rattle.srv_template.proofs.RefusedDefaults.{refused-after, refused-first}
 use Rattle.srv_template.proofs.defaults.refused_in.Goals as goal
 
@@ -17,9 +16,7 @@ loop-first-init c = record {
 
 pub loop-first-smaller : goal.loop-first-smaller
 loop-first-smaller c =
-    let shorter : length (texts_of c.after_blanks-rest-in-Some.result.now) ≤ length (texts_of c.in-Some.more.now) =
-    omega (arith, after_blanks-shorter (texts_of c.split_at_blank.result.1.now), from_blank-shorter (texts_of c.in-Some.more.now), ap length c.after_blanks-rest-in-Some.ensures, ap length c.split_at_blank.ensures.after) in
-    omega (arith, shorter, length-map c.after_blanks-rest-in-Some.result.now (λ l. l.now), length-map c.in-Some.more.now (λ l. l.now), c.in-Some.ensures.cases.1)
+    omega (arith, rest-shorter c.in-Some.more.now c.split_at_blank.result.1.now c.after_blanks-rest-in-Some.result.now c.split_at_blank.ensures.after c.after_blanks-rest-in-Some.ensures, c.in-Some.ensures.cases.1)
 
 pub loop-first-preserved : goal.loop-first-preserved
 loop-first-preserved c =

@@ -1,4 +1,4 @@
-use Rattle.std.proofs.Common.{◌≡◌, ◌≤◌, false, true, cond, ap, length, sym, ◌∙◌, ◌∷◌, ◌++◌, [], Err, arith}
+use Rattle.std.proofs.Common.{◌≡◌, false, true, cond, ap, length, sym, ◌∙◌, ◌∷◌, ◌++◌, [], Err, arith}
 use Rattle.std.specs.List.{list_any}
 use Rattle.std.specs.Ordering.{is_eq}
 use Rattle.std.proofs.lemmas.List.{length-map}
@@ -6,7 +6,7 @@ use Rattle.std.proofs.lemmas.Map.Text.{is_eq-slice_cmp}
 use Rattle.slp_text.specs.Words.{bytes_cmp, bytes_eq, is_blank}
 use Rattle.srv_template.specs.Reading.{after_blanks, blocks_of, definition_at, definitions_from, from_blank, is_defined}
 use Rattle.srv_template.specs.Stops.{texts_of}
-use Rattle.srv_template.proofs.Blocks.{after_blanks-shorter, after_blanks-twice, block-more, block-none, block-twice, blocks_of-after, first-filled, from_blank-shorter, is_defined-push, not_false, not_true}
+use Rattle.srv_template.proofs.Blocks.{after_blanks-twice, block-more, block-none, block-twice, blocks_of-after, first-filled, rest-shorter, is_defined-push, not_false, not_true}
 use Rattle.srv_template.proofs.reading.read_definitions.Goals as goal
 
 pub loop-first-init : goal.loop-first-init
@@ -40,9 +40,7 @@ returns-then-not-branch c =
 
 pub loop-first-smaller : goal.loop-first-smaller
 loop-first-smaller c =
-    let shorter : length (texts_of c.after_blanks-rest-in-Some.result.now) ≤ length (texts_of c.in-Some.more.now) =
-    omega (arith, after_blanks-shorter (texts_of c.split_at_blank.result.1.now), from_blank-shorter (texts_of c.in-Some.more.now), ap length c.after_blanks-rest-in-Some.ensures, ap length c.split_at_blank.ensures.after) in
-    omega (arith, shorter, length-map c.after_blanks-rest-in-Some.result.now (λ l. l.now), length-map c.in-Some.more.now (λ l. l.now), c.in-Some.ensures.cases.1)
+    omega (arith, rest-shorter c.in-Some.more.now c.split_at_blank.result.1.now c.after_blanks-rest-in-Some.result.now c.split_at_blank.ensures.after c.after_blanks-rest-in-Some.ensures, c.in-Some.ensures.cases.1)
 
 pub loop-first-preserved : goal.loop-first-preserved
 loop-first-preserved c =
