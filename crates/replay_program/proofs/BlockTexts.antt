@@ -10,9 +10,9 @@ use Rattle.rule_files.specs.RuleFiles.{rules_in_text}
 use Rattle.rule_files.specs.declared.fault.RuleFault.TheVariants as rule_fault
 use Rattle.site_config.specs.Configurations.{config_of, longest_text}
 use Rattle.site_config.specs.declared.fault.ConfigFault.TheVariants.{Range}
-use Rattle.srv_template.specs.Reading.{template_in}
+use Rattle.template_files.specs.Reading.{template_in}
 use Rattle.srv_template.specs.declared.fault.ParseFault.TheVariants as template
-use Rattle.srv_template.proofs.ParsedTemplates.{parsed-long}
+use Rattle.template_files.proofs.ParsedTemplates.{parsed-long}
 use Rattle.slp_script.specs.Lines.{Line, line_bytes}
 use Rattle.replay_program.specs.Worlds.{text_of}
 use Rattle.replay_program.specs.Turns.{block_text, block_text_with}

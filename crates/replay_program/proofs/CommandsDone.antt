@@ -27,7 +27,7 @@ use Rattle.site_config.specs.declared.fault.ConfigFault.{ConfigFault}
 use Rattle.site_config.specs.declared.fault.ConfigFault.TheVariants.{Range}
 use Rattle.slp_text.specs.Ascii.{line_feed}
 use Rattle.srv_template.specs.Conformity.{SiteTemplates}
-use Rattle.srv_template.specs.Reading.{template_in}
+use Rattle.template_files.specs.Reading.{template_in}
 use Rattle.srv_template.specs.declared.fault.ParseFault.{ParseFault}
 use Rattle.srv_template.specs.declared.fault.ParseFault.TheVariants as template
 

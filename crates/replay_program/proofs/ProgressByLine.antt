@@ -26,7 +26,7 @@ use Rattle.replay_program.specs.declared.session.Session.{Session}
 use Rattle.replay_program.proofs.BlockTexts.{block_text_with-kept, kept-config, kept-rules, kept-template}
 use Rattle.slp_script.specs.declared.command.Block.{Block}
 use Rattle.slp_script.specs.declared.command.Block.TheVariants as block
-use Rattle.srv_template.specs.Reading.{template_in}
+use Rattle.template_files.specs.Reading.{template_in}
 use Rattle.srv_template.specs.Templates.{Template}
 use Rattle.srv_template.specs.declared.fault.ParseFault.{ParseFault}
 use Rattle.srv_template.specs.declared.fault.ParseFault.TheVariants as template

@@ -13,7 +13,7 @@ use Rattle.slp_script.specs.declared.command.Order.{Order}
 use Rattle.slp_script.specs.declared.command.Order.TheVariants as order
 use Rattle.replay_program.specs.Sessions.{Holds, Acts}
 use Rattle.slp_script.specs.Lines.{Line, line_bytes}
-use Rattle.srv_template.specs.Reading.{template_in}
+use Rattle.template_files.specs.Reading.{template_in}
 use Rattle.srv_template.specs.declared.fault.ParseFault.TheVariants as template
 use Rattle.replay_program.specs.Worlds.{World, Prints, Configures, Adds, Reloads, is_loop, opening_world, templates_with, text_of}
 use Rattle.replay_program.specs.declared.progress.OpenBlock.{OpenBlock}

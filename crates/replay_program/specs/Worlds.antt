@@ -25,7 +25,7 @@ use Rattle.slp_script.specs.declared.command.Block.TheVariants as block
 use Rattle.slp_script.specs.declared.command.Order.TheVariants as order
 use Rattle.slp_text.specs.Reading.{read_then}
 use Rattle.srv_template.specs.Conformity.{SiteTemplates}
-use Rattle.srv_template.specs.Reading.{template_in}
+use Rattle.template_files.specs.Reading.{template_in}
 use Rattle.srv_template.specs.Templates.{Template, added_to}
 use Rattle.srv_template.specs.declared.fault.ParseFault.{ParseFault}
 use Rattle.slp_script.specs.Lines.{Line, lines_of, line_bytes, HasNoLf}

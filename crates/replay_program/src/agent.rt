@@ -12,7 +12,7 @@ ghost use Rattle.site_config.specs.declared.fault.ConfigFault.TheVariants.{Range
 ghost use Rattle.replay_program.specs.OpeningRules.{opening_rules};
 ghost use Rattle.replay_program.specs.Sites.{first_site};
 ghost use Rattle.slp_text.specs.Reading.{read_then};
-ghost use Rattle.srv_template.specs.Reading.{template_in};
+ghost use Rattle.template_files.specs.Reading.{template_in};
 ghost use Rattle.srv_template.specs.Templates.{added_to, IsReading};
 ghost use Rattle.srv_template.specs.declared.fault.ParseFault.TheVariants as template;
 
@@ -27,10 +27,11 @@ use site_config::{Config, ConfigFault};
 use slp_answer::{Answer, Call, Sent, step};
 use slp_scopes::ScopeList;
 use slp_text::{NoMemory, Row, TextFault};
-use srv_template::{ParseFault, Template, Templates};
+use srv_template::{ParseFault, Templates};
 use std::alloc::Global;
 use std::sync::Arc;
 use table_registry::SiteRegistry;
+use template_files::template_of_text;
 
 /// The entries of the opening site.
 const CAPACITY: usize = 16;
@@ -113,7 +114,7 @@ fn templates_and(
     let Some(text) = text else {
         return Err(ParseFault::Line(1));
     };
-    let template = Template::parse(alloc, text)?;
+    let template = template_of_text(alloc, text)?;
     let mut all = templates.share(alloc)?;
     all.add(template)?;
     Ok(all)

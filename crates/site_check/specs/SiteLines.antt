@@ -16,7 +16,7 @@ use Rattle.shown_text.specs.Shown.{shown}
 use Rattle.slp_text.specs.Ascii.{line_feed}
 use Rattle.slp_text.specs.Reading.{read_then}
 use Rattle.srv_template.specs.Conformity.{SiteTemplates}
-use Rattle.srv_template.specs.Reading.{template_in}
+use Rattle.template_files.specs.Reading.{template_in}
 use Rattle.srv_template.specs.Templates.{Template, added_to}
 use Rattle.srv_template.specs.declared.fault.ParseFault.{ParseFault}
 use Rattle.srv_template.specs.declared.fault.ParseFault.TheVariants as parse_fault

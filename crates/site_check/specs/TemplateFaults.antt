@@ -3,12 +3,12 @@ use Rattle.std.specs.Prelude.{ℕ, List, [], codes, length, nat_lt, if◌then◌
 use Rattle.std.specs.List.{flat_map}
 use Rattle.std.specs.Option.{option_map_or}
 use Rattle.std.specs.Str.Lines.{lines}
-use Rattle.srv_template.specs.Defaults.{refused_defaults}
-use Rattle.srv_template.specs.Parts.{faulty_part_in}
-use Rattle.srv_template.specs.declared.faults.DefinitionFault.{DefinitionFault}
-use Rattle.srv_template.specs.declared.faults.DefinitionFault.TheVariants as fault
-use Rattle.srv_template.specs.declared.parts.Part.{Part}
-use Rattle.srv_template.specs.declared.parts.Part.TheVariants.{ServiceType, Version, Description, Syntax, Definitions}
+use Rattle.template_files.specs.Defaults.{refused_defaults}
+use Rattle.template_files.specs.Parts.{faulty_part_in}
+use Rattle.template_files.specs.declared.faults.DefinitionFault.{DefinitionFault}
+use Rattle.template_files.specs.declared.faults.DefinitionFault.TheVariants as fault
+use Rattle.template_files.specs.declared.parts.Part.{Part}
+use Rattle.template_files.specs.declared.parts.Part.TheVariants.{ServiceType, Version, Description, Syntax, Definitions}
 use Rattle.site_check.specs.Lines.{File, Line, RefusedDefault, Template, TooLong, longest_text, problem_line, warning_line}
 
 -- what is wrong with a definition

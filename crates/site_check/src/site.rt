@@ -35,6 +35,7 @@ use srv_template::{ParseFault, Template, Templates};
 use std::alloc::Global;
 use std::io::Write;
 use std::rt::Files;
+use template_files::template_of_text;
 
 // Why a file has no text.
 fn fault_words(fault: FileFault) -> &'static str
@@ -220,7 +221,7 @@ fn look_at_template<W: Write>(
         × (read_map (λ added. templates.new) told ≡ templates_and templates.old file.entry.text.now)
         × Appends (W.contents writer.old) (W.contents writer.new) (template_text_lines file.entry.path.now (option_copied rules.entry) templates.old file.entry.text.now)) }
 {
-    match Template::parse(alloc, file.text) {
+    match template_of_text(alloc, file.text) {
         Ok(template) => {
             warn_of_template(alloc, file.path, &template, rules, writer)?;
             warn_of_defaults(alloc, file, writer)?;

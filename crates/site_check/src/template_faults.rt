@@ -6,9 +6,9 @@ ghost use Rattle.site_check.specs.TemplateFaults.{default_line, default_lines, d
 use crate::fault::CheckFault;
 use crate::problem::{FileText, LONGEST_TEXT, Place, Problem, Warning, report, warn};
 use slp_text::Key;
-use srv_template::{DefinitionFault, Part, faulty_part, refused_defaults};
 use std::alloc::Global;
 use std::io::{self, Write};
+use template_files::{DefinitionFault, Part, faulty_part, refused_defaults};
 
 // What is wrong with a definition.
 fn definition_refusal(fault: DefinitionFault) -> &'static str

@@ -13,7 +13,7 @@ use Rattle.site_config.specs.declared.fault.ConfigFault.{ConfigFault}
 use Rattle.site_config.specs.declared.fault.ConfigFault.TheVariants as config_fault
 use Rattle.slp_text.specs.Reading.{read_then}
 use Rattle.srv_template.specs.Conformity.{SiteTemplates}
-use Rattle.srv_template.specs.Reading.{template_in}
+use Rattle.template_files.specs.Reading.{template_in}
 use Rattle.srv_template.specs.Templates.{added_to}
 use Rattle.srv_template.specs.Templates as templates
 use Rattle.srv_template.specs.declared.fault.ParseFault.{ParseFault}

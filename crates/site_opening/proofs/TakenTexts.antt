@@ -1,5 +1,5 @@
 -- Each text of a site is taken exactly where a server starts on them.
-use Rattle.std.proofs.Common.{◌≡◌, ℕ, false, true, List, Option, Result, Ok, Err, refl, arith}
+use Rattle.std.proofs.Common.{◌≡◌, ℕ, false, true, Result, Ok, Err, refl, arith}
 use Rattle.std.specs.Prelude.{◌↔◌, IsOk}
 use Rattle.access_rules.specs.Deciding.{SiteRules}
 use Rattle.site_config.specs.declared.config.Config as config

@@ -7,7 +7,7 @@ use Rattle.site_config.specs.Configurations.{config_of}
 use Rattle.site_config.specs.declared.config.Config.{Config}
 use Rattle.slp_text.specs.Reading.{read_map, read_then}
 use Rattle.srv_template.specs.Conformity.{SiteTemplates}
-use Rattle.srv_template.specs.Reading.{template_in}
+use Rattle.template_files.specs.Reading.{template_in}
 use Rattle.srv_template.specs.Templates.{added_to}
 use Rattle.site_opening.specs.Statuses.{config_start, rules_start, template_start}
 use Rattle.site_opening.specs.declared.fault.StartFault.{StartFault}

@@ -11,9 +11,10 @@ use access_rules::Rules;
 use rule_files::rules_of_text;
 use site_config::Config;
 use slp_text::Text;
-use srv_template::{Template, Templates};
+use srv_template::Templates;
 use std::alloc::Global;
 use std::rt::Files;
+use template_files::template_of_text;
 
 /// What the files of a site say.
 #[derive(Drop)]
@@ -60,7 +61,7 @@ pub fn rules_at<R: Files>(rt: &R, alloc: Global, path: Option<&Text>) -> Result<
 fn add_template(alloc: Global, templates: &mut Templates, text: &str) -> Result<(), StartFault>
     ensures { IsReadAs (λ t added. t ≡ text.now) (templates_and templates.old) (read_map (λ x. templates.new) result) }
 {
-    match Template::parse(alloc, text) {
+    match template_of_text(alloc, text) {
         Ok(template) => match templates.add(template) {
             Ok(()) => Ok(()),
             Err(fault) => Err(StartFault::from(fault)),

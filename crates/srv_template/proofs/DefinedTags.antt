@@ -4,8 +4,7 @@ use Rattle.std.specs.FinMap as fin
 use Rattle.std.specs.List.{AllByRecursion}
 use Rattle.std.specs.Option.{option_and_then, option_map_or}
 use Rattle.attr_list.specs.Lists.{Attributes}
-use Rattle.srv_template.specs.Conformity.{definitions_for, fault_of_held, fault_on, first_fault, template_fault, SiteTemplates}
-use Rattle.srv_template.specs.Meaning.{AgreeOn}
+use Rattle.srv_template.specs.Conformity.{definitions_for, fault_of_held, fault_on, first_fault, template_fault, AgreeOn, SiteTemplates}
 use Rattle.srv_template.specs.declared.definition.Definition.{Definition}
 
 -- attributes that hold the same at each tag of some definitions

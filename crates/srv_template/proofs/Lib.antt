@@ -1,13 +1,3 @@
-pub mod BlankLines
-pub mod Blocks
 pub mod Conformities
 pub mod DefinedTags
-pub mod FaultLines
-pub mod ListedValues
-pub mod MeantTemplates
-pub mod ParsedTemplates
-pub mod RefusedDefaults
-pub mod RefusedValues
-pub mod SplitLines
 pub mod StoredTemplates
-pub mod TypeNames

@@ -97,3 +97,7 @@ ConformsTo templates type a = (ds : List Definition) → definitions_for templat
 -- what is wrong with the attributes of a type by its template, if it has one
 abbrev pub template_fault : SiteTemplates → List ℕ → Attributes → Option TemplateFault
 template_fault templates type a = option_and_then (λ ds. first_fault 0 ds a) (definitions_for templates type)
+
+-- attributes that hold the same at each tag that is defined for a type
+abbrev pub AgreeOn : SiteTemplates → List ℕ → Attributes → Attributes → Type 0
+AgreeOn templates type a b = (ds : List Definition) → definitions_for templates type ≡ Some ds → AllByRecursion (λ d. fin.get a d.tag ≡ fin.get b d.tag) ds

@@ -1,10 +1,3 @@
 pub mod Codes
 pub mod Conformity
-pub mod Defaults
-pub mod Faults
-pub mod Joining
-pub mod Meaning
-pub mod Parts
-pub mod Reading
-pub mod Stops
 pub mod Templates

@@ -46,7 +46,8 @@ impl Drop for Definition {
 }
 
 impl ValueKind {
-    pub(crate) fn is_keyword(self) -> bool
+    /// Whether it is of a tag without values. Takes no memory.
+    pub fn is_keyword(self) -> bool
         ensures { result ≡ spec.is_keyword self }
     {
         match self {
@@ -56,7 +57,7 @@ impl ValueKind {
     }
 
     /// Whether a value is of the kind. Takes no memory.
-    pub(crate) fn takes(self, value: &Value) -> bool
+    pub fn takes(self, value: &Value) -> bool
         ensures { result ≡ spec.takes self value.now }
     {
         match self {
@@ -95,8 +96,8 @@ impl Definition {
         values.iter().all(|value| is_allowed(allowed, value))
     }
 
-    // What is wrong with the values of the tag.
-    pub(crate) fn values_fault(&self, values: &[Value]) -> Option<FaultKind>
+    /// What is wrong with the values of the tag. Takes no memory.
+    pub fn values_fault(&self, values: &[Value]) -> Option<FaultKind>
         ensures { result ≡ fault_of_values self.now values.now }
     {
         if !self.takes_all(values) {

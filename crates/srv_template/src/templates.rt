@@ -6,17 +6,12 @@ ghost use Rattle.srv_template.specs.Templates.{added_to, templates_stored, IsFau
 
 use crate::definition::Definition;
 use crate::fault::{ParseFault, TemplateFault};
-use crate::lines::Stop;
-use crate::reading::read_template;
 use attr_list::Attrs;
 use service_url::ServiceType;
 use slp_text::{NoMemory, Row, Text};
 use std::alloc::Global;
 use std::marker::Model;
 use std::sync::Arc;
-
-/// The bytes of the longest template.
-const LONGEST_TEMPLATE: usize = 1_048_576;
 
 /// The most templates.
 const MOST_TEMPLATES: usize = 256;
@@ -88,28 +83,8 @@ fn first_fault(definitions: &[Definition], attributes: &Attrs) -> Option<Templat
 }
 
 impl Template {
-    ghost use Rattle.srv_template.specs.Reading.{template_in};
-    ghost use Rattle.srv_template.specs.Templates.{IsReading};
-
-    /// The template that a text is (RFC 2609, section 4). Another text is refused by its first line that
-    /// does not fit, and one of more than 1,048,576 bytes, which is asked first, by line 1. It takes time
-    /// for the length of the text, and for the number of definitions and its logarithm.
-    pub fn parse(alloc: Global, text: &str) -> Result<Template, ParseFault>
-        ensures { IsReading result (template_in text.now) }
-    {
-        if text.len() > LONGEST_TEMPLATE {
-            return Err(ParseFault::Line(1));
-        }
-        let lines: Vec<&str> = text.lines().collect(alloc)?;
-        match read_template(alloc, &lines) {
-            Ok(template) => Ok(template),
-            Err(Stop::Left(left)) => Err(ParseFault::Line((lines.len() + 1).saturating_sub(left))),
-            Err(Stop::NoMemory) => Err(ParseFault::NoMemory),
-        }
-    }
-
-    // A template of the type `service:A`, by the name A.
-    pub(crate) fn new(
+    /// A template of the type `service:A`, by the name A.
+    pub fn new(
         alloc: Global,
         name: Text,
         definitions: Vec<Definition>,

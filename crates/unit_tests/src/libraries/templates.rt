@@ -4,8 +4,9 @@ use crate::tables::{Asking, Question, assert_table, found, lines};
 use attr_list::Attrs;
 use rows::{BOTH, TABLE};
 use service_url::ServiceType;
-use srv_template::{ParseFault, Template, Templates};
+use srv_template::{ParseFault, Templates};
 use std::alloc::Global;
+use template_files::template_of_text;
 
 #[derive(Clone, Copy)]
 struct SiteTemplates;
@@ -14,7 +15,7 @@ struct SiteTemplates;
 fn templates_of(alloc: Global, texts: &str) -> Result<Templates, ParseFault> {
     let mut templates = Templates::new(alloc);
     for text in texts.split(';') {
-        templates.add(Template::parse(alloc, text)?)?;
+        templates.add(template_of_text(alloc, text)?)?;
     }
     Ok(templates.share(alloc)?)
 }
@@ -53,7 +54,7 @@ impl Asking for SiteTemplates {
         let text = lines(alloc, row.text, &[])?;
         match row.word {
             "template" => {
-                let _template = Template::parse(alloc, text.as_str())?;
+                let _template = template_of_text(alloc, text.as_str())?;
                 Ok(())
             }
             "site" => print_checked(alloc, text.as_str(), "", row.beside, out),

@@ -14,8 +14,9 @@ use slp_scopes::ScopeList;
 use slp_stream::Framer;
 use slp_tags::TagList;
 use slp_text::{Key, NoMemory};
-use srv_template::{Template, Templates};
+use srv_template::Templates;
 use std::alloc::Global;
+use template_files::template_of_text;
 
 // A type with a key too long to lie in the key itself.
 const KIND: &str = "service:printer-of-the-office.example";
@@ -124,7 +125,7 @@ fn rules_answer(alloc: Global, hoard: &mut Hoard) -> Result<bool, NoMemory> {
 
 fn templates_answer(alloc: Global, hoard: &mut Hoard) -> Result<bool, NoMemory> {
     let mut templates = Templates::new(alloc);
-    found(templates.add(found(Template::parse(alloc, TEMPLATE))?))?;
+    found(templates.add(found(template_of_text(alloc, TEMPLATE))?))?;
     let kind = found(ServiceType::parse(alloc, CONCRETE))?;
     let fits = found(Attrs::parse(alloc, "(color=true),(location=The Stairs)"))?;
     let lacks = found(Attrs::parse(alloc, "(color=true),(location=the roof)"))?;

@@ -1,8 +1,6 @@
-use Rattle.std.proofs.Common.{◌≡◌, [], None, refl, ap, ◌∙◌}
-use Rattle.access_rules.specs.Deciding.{SiteRules}
+use Rattle.std.proofs.Common.{[], None, ap, ◌∙◌}
 use Rattle.site_config.specs.declared.config.Config.{Config}
 use Rattle.slp_text.specs.Reading.{read_map, read_then}
-use Rattle.srv_template.specs.Conformity.{SiteTemplates}
 use Rattle.site_opening.specs.Openings.{config_start_of, files_with, named_start_of, start_of, AreNamed, AreOf}
 use Rattle.site_opening.proofs.Readings.{refused_as, refused_by_one}
 use Rattle.site_opening.proofs.opening.open_site.Goals as goal

@@ -1,6 +1,0 @@
-use Rattle.srv_template.proofs.SplitLines.{is_filled, NonePasses}
-use Rattle.srv_template.proofs.lines.after_blanks.Given as goal
-
--- no line so far passes
-abbrev pub invariant-loop-i : goal.invariant-loop-i
-invariant-loop-i l = NonePasses is_filled l.lines l.i

@@ -1,7 +1,0 @@
-use Rattle.slp_text.specs.Words.{is_blank}
-use Rattle.srv_template.proofs.SplitLines.{NonePasses}
-use Rattle.srv_template.proofs.lines.split_at_blank.Given as goal
-
--- no line so far passes
-abbrev pub invariant-loop-i : goal.invariant-loop-i
-invariant-loop-i l = NonePasses is_blank l.lines l.i

@@ -1,0 +1,10 @@
+pub mod BlankLines
+pub mod Blocks
+pub mod FaultLines
+pub mod ListedValues
+pub mod MeantTemplates
+pub mod ParsedTemplates
+pub mod RefusedDefaults
+pub mod RefusedValues
+pub mod SplitLines
+pub mod TypeNames
