@@ -2,7 +2,7 @@
 # make try         replays a small script with the program as it stands, unproved: a minute or two
 # make build       proves what the programs need, and what they promise, on every processor, and leaves them in bin/: half an hour to an hour the first time
 # make bin/slptool proves the client alone, with what it needs, and leaves it in bin/: some ten minutes the first time, on 4 processors
-# make demo        starts the server on an example site, and asks it with the client; checks templates, recipes, mistakes in files, units and how descriptors are shared: as make build, and two minutes
+# make demo        starts the server on an example site, and asks it with the client; runs the commands of the pages; checks templates, recipes, mistakes in files, units and how descriptors are shared: as make build, and two minutes
 # make run         replays the script of make try, or script=FILE, with the proved program: half an hour the first time
 # make day         replays a day of a small site, which examples/day.md explains: as make run
 # make install     puts the programs of bin/, tools and pages below prefix=/usr/local: seconds, once make build is done
@@ -39,6 +39,7 @@ build:
 demo:
 	@make/build slpda slpcheck slptool
 	@examples/site/demo
+	@contrib/tests/commands
 	@contrib/tests/templates
 	@contrib/tests/mistakes
 	@contrib/tests/recipes
