@@ -1,14 +1,17 @@
 pub mod Combined
 pub mod CutTexts
 pub mod DistinctValues
+pub mod FirstValues
 pub mod Gathered
 pub mod InnerCharacters
 pub mod JoinedElements
 pub mod KeptAttributes
+pub mod KeptInOrder
 pub mod ListedTexts
 pub mod Meaning
 pub mod Merged
 pub mod OrderedValues
+pub mod PlacesInOrder
 pub mod PrintedAttributes
 pub mod ReadElements
 pub mod ReadLists

@@ -1,14 +1,18 @@
 -- How elements are gathered by their tags.
-use Rattle.std.specs.Prelude.{◌≡◌, ℕ, ◌++◌, ◌∷◌, List, [], Option, Some, None, vec_items, if◌then◌else◌}
-use Rattle.std.specs.List.{list_any, AllByRecursion}
+use Rattle.std.specs.Prelude.{◌≡◌, ◌<◌, ℕ, ◌++◌, ◌∷◌, Bool, true, not, List, [], Option, Some, None, length, map, slice_index_or, take, vec_items, if◌then◌else◌}
+use Rattle.std.specs.List.{list_any, range_with_len, AllByRecursion}
+use Rattle.std.specs.List.Sorted.{IsPermutation, IsSorted}
+use Rattle.std.specs.Ordering.{nat_cmp, ordering_then}
+use Rattle.std.specs.declared.cmp.Ordering.{Ordering}
 use Rattle.slp_text.specs.Keys.{key_of}
 use Rattle.slp_text.specs.Words.{bytes_eq}
+use Rattle.attr_values.specs.Ranks.{value_cmp}
 use Rattle.attr_values.specs.declared.value.Value.{Value}
 use Rattle.attr_values.specs.declared.value.Value.TheVariants as value
 use Rattle.attr_list.specs.Elements.{Element}
 use Rattle.attr_list.specs.Orders.{value_at}
 use Rattle.attr_list.specs.declared.order.Ranked.{Ranked}
-use Rattle.attr_list.specs.Lists.{distinct_values, held_of, values_named}
+use Rattle.attr_list.specs.Lists.{distinct_values, held_of, is_same, values_named}
 use Rattle.attr_list.specs.declared.distinct.Identity.{Identity}
 use Rattle.attr_list.specs.declared.distinct.Identity.TheVariants as identity
 use Rattle.attr_list.specs.declared.held.Held.{Held}
@@ -33,6 +37,26 @@ IsIdentity i v = identity_value i ≡ common_value v
 -- each is of the value at its place
 abbrev pub AreRanked : List Value → List Ranked → Type 0
 AreRanked vs = AllByRecursion (λ r. IsIdentity r.identity (value_at vs r.place))
+
+-- the order of places: by their values, and where these are the same by where they stand
+abbrev pub place_cmp : List Value → ℕ → ℕ → Ordering
+place_cmp vs p q = ordering_then (value_cmp (value_at vs p) (value_at vs q)) (nat_cmp p q)
+
+-- each value has one, and they go by that order
+pub record AreInOrder (vs : List Value) (rs : List Ranked) : Type 0 where
+  pub ranked : AreRanked vs rs
+  pub each : IsPermutation (range_with_len 0 (length vs)) (map (λ r. r.place) rs)
+  pub sorted : IsSorted (place_cmp vs) (map (λ r. r.place) rs)
+
+-- of each place, whether no earlier value is the same
+pub record AreFirsts (vs : List Value) (firsts : List Bool) : Type 0 where
+  pub count : length firsts ≡ length vs
+  pub told : (p : ℕ) → p < length vs → slice_index_or firsts p true ≡ not (list_any (λ v. is_same v (value_at vs p)) (take p vs))
+
+-- of each place, how many values before it are not the same as an earlier one
+pub record AreNewPlaces (vs : List Value) (places : List ℕ) : Type 0 where
+  pub count : length places ≡ length vs
+  pub told : (p : ℕ) → p < length vs → slice_index_or places p 0 ≡ length (distinct_values (take p vs))
 
 -- elements with one more, whose values are added to those of the last, where both have one tag
 abbrev pub joined_with : List Element → Element → List Element

@@ -31,8 +31,8 @@ pub fn identity_of(alloc: Global, value: &Value) -> Result<Identity, NoMemory>
     }
 }
 
-// Appends a value, if it is wanted.
-fn keep_if(wanted: bool, value: Value, kept: &mut Vec<Value>) -> Result<(), NoMemory>
+/// Appends a value, if it is wanted.
+pub fn keep_if(wanted: bool, value: Value, kept: &mut Vec<Value>) -> Result<(), NoMemory>
     ensures { IfOk result (λ _. kept.new.items ≡ (if wanted then kept.old.items ++ value ∷ [] else kept.old.items)) }
 {
     if wanted {

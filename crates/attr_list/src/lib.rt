@@ -5,6 +5,7 @@ mod attrs;
 mod combining;
 mod distinct;
 mod elements;
+mod firsts;
 mod gathering;
 mod held;
 pub mod laws;

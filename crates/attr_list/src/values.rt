@@ -10,6 +10,7 @@ ghost use Rattle.attr_list.specs.Orders.{value_at, IsOrder};
 ghost use Rattle.attr_list.specs.Tests.{StandsAs};
 
 use crate::distinct::distinct;
+use crate::firsts::distinct_in_order;
 use crate::order::order_of;
 use attr_values::Value;
 use slp_text::NoMemory;
@@ -84,11 +85,8 @@ impl Values {
         ensures { IfOk result (λ v. v ≡ distinct_values items.items) }
     {
         if has_order(&items) {
-            let (order, are_apart) = order_of(alloc, &items)?;
-            if are_apart {
-                return Values::with_order(alloc, items, order);
-            }
-            drop(order);
+            let (firsts, order) = distinct_in_order(alloc, items)?;
+            return Values::with_order(alloc, firsts, order);
         }
         Values::of(alloc, distinct(alloc, items)?)
     }
@@ -100,15 +98,18 @@ impl Values {
         if !has_order(&items) {
             return Ok(Values { items, order: None });
         }
-        let (order, _) = order_of(alloc, &items)?;
+        let order = order_of(alloc, &items)?;
         Values::with_order(alloc, items, order)
     }
 
-    // These values, with their order.
+    // These values, with their order, unless they are few.
     fn with_order(alloc: Global, items: Vec<Value>, order: Vec<u16>) -> Result<Values, NoMemory>
         requires { IsOrder items.items order.items }
         ensures { IfOk result (λ v. v ≡ items.items) }
     {
+        if !has_order(&items) {
+            return Ok(Values { items, order: None });
+        }
         let order = Box::new(alloc, order)?;
         Ok(Values {
             items,
