@@ -17,7 +17,7 @@
 # make refusals    refuses each request for memory of the programs in turn: minutes, once make build is done; needs python3
 # make hostile     sends the server ten million broken messages, or count=N, and asks whether anyone else noticed: minutes; needs make build, python3, and cc for plant=KIND
 # make faults      has each system call of the server fail in turn, or those of call=NAME: a quarter of an hour or so, once make build is done; needs python3, cc
-# What is proved is kept in crates/*/out: a second call proves what changed since, and what stands on it. All that builds needs python3.
+# What is proved is kept in crates/*/out: a second call proves what changed since, and what stands on it; a program that was made of the same files is not made again. All that builds needs python3.
 .PHONY: help try build demo run day install dist deb uninstall test wrong scripts spec bench refusals hostile faults
 .DEFAULT_GOAL := help
 
