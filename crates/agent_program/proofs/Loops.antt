@@ -3,8 +3,8 @@ use Rattle.std.proofs.Common.{◌≡◌, ◌<◌, ◌≤◌, ℕ, ◌+◌, List,
 use Rattle.std.specs.Prelude.{is_some, IfSome, MatchOption}
 use Rattle.std.proofs.lemmas.Bool.{cases_lt}
 use Rattle.std.proofs.lemmas.List.{length-append, take_more}
-use Rattle.agent_program.specs.Jobs.{AreLoops, IsLoop}
-use Rattle.agent_program.specs.declared.threads.Job.{Job}
+use Rattle.agent_parts.specs.Jobs.{AreLoops, IsLoop}
+use Rattle.agent_parts.specs.declared.threads.Job.{Job}
 
 module _ {S T : Type 0} (own : S → ℕ) where
   pub loops_more : (js : List (Job S T)) (ps : List (ℕ × ℕ)) (j : Job S T) (p : ℕ × ℕ) → AreLoops own js ps → IsLoop own j p → AreLoops own (js ++ j ∷ []) (ps ++ p ∷ [])

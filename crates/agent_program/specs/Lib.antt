@@ -1,5 +1,1 @@
-pub mod Consoles
-pub mod Jobs
-pub mod Openings
-pub mod Statuses
-pub mod Turns
+pub mod Usage

@@ -2,7 +2,7 @@ ghost use Rattle.std.specs.Prelude.{◌≡◌, ◌≢◌, [], map, string_bytes,
 ghost use Rattle.std.specs.IoError.{error_kind};
 ghost use Rattle.std.specs.Io.KnownBytes.{Appends};
 ghost use Rattle.std.specs.declared.io.ErrorKind.TheVariants.{InvalidData};
-ghost use Rattle.agent_program.specs.Statuses.{usage_text};
+ghost use Rattle.agent_program.specs.Usage.{usage_text};
 ghost use Rattle.site_opening.specs.Words.{path_in};
 
 use crate::starting::{Ends, start_loops};

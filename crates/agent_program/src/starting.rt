@@ -2,14 +2,11 @@
 ghost use Rattle.std.specs.Prelude.{◌≡◌, ◌<◌, ◌≤◌, ◌++◌, ◌∷◌, [], false, is_some, length, min, vec_len, slice_get, slice_index_or, Some, IfOk, IfSome, MatchOption, OnOk};
 ghost use Rattle.std.specs.Arc.{arc_value};
 ghost use Rattle.std.specs.Option.{option_map};
-ghost use Rattle.agent_program.specs.Jobs.{AreJobs, IsLoop};
+ghost use Rattle.agent_parts.specs.Jobs.{AreJobs, IsLoop};
 
-use crate::console::{Console, Operator, opened};
-use crate::fault::loop_fault;
-use crate::logging::serve_logged;
-use crate::opening::{Beginning, begun};
-use crate::sweeping::Sweeping;
-use crate::threads::Job;
+use agent_parts::{
+    Beginning, Console, Job, Operator, Sweeping, begun, loop_fault, opened, serve_logged,
+};
 use agent_watch::SharedInput;
 use published_view::{Gate, LoopView, MOST_LOOPS, Naming, Opened, open};
 use site_config::Config;

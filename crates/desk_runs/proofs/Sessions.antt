@@ -15,7 +15,7 @@ use Rattle.directory_runs.specs.Turns.{Telling, Turn, Deed, AreDone, AreTurns, I
 use Rattle.directory_runs.proofs.Turns.{is_a_run}
 use Rattle.published_view.specs.Traces.{Trace, last_at}
 use Rattle.slp_loops.specs.Desks.{DeskSteps, Standing}
-use Rattle.slp_loops.specs.Logging.{Logs}
+use Rattle.loop_log.specs.Logging.{Logs}
 use Rattle.slp_sockets.specs.Serving.{Ticks}
 use Rattle.desk_runs.specs.Sessions.{DeskStep, asked_by, call_at, telling_of, AreDeskSteps, AreTurnsOf, HasSeen, IsTurnOf}
 

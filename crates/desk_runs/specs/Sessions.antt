@@ -11,7 +11,7 @@ use Rattle.history_log.specs.Pasts.{IsPast}
 use Rattle.directory_runs.specs.Turns.{Telling, Turn}
 use Rattle.published_view.specs.Traces.{Trace, last_at}
 use Rattle.slp_loops.specs.Desks.{DeskSteps, Standing}
-use Rattle.slp_loops.specs.Logging.{Logs}
+use Rattle.loop_log.specs.Logging.{Logs}
 use Rattle.slp_sockets.specs.Serving.{Ticks}
 
 -- a call of `serve`

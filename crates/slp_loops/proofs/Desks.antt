@@ -15,7 +15,7 @@ use Rattle.history_log.specs.Pasts.{IsPast}
 use Rattle.published_view.specs.Traces.{last_at, IsAsked}
 use Rattle.published_view.specs.declared.fault.ViewFault.{ViewFault}
 use Rattle.slp_loops.specs.Desks.{line_told, told_line, DeskSteps, IsOutcomeOf, IsServedChange, Standing}
-use Rattle.slp_loops.specs.Logging.{Lined, Logs}
+use Rattle.loop_log.specs.Logging.{Lined, Logs}
 use Rattle.slp_sockets.specs.Serving.{Ticks}
 
 module _ (told : Result Sent ViewFault) (outcome : Result Sent NoMemory) where

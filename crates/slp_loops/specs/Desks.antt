@@ -19,7 +19,7 @@ use Rattle.history_log.specs.Pasts.{IsPast}
 use Rattle.directory_runs.specs.Changes.{IsChanged}
 use Rattle.published_view.specs.declared.fault.ViewFault.{ViewFault}
 use Rattle.published_view.specs.Traces.{Trace, last_at, IsAsked}
-use Rattle.slp_loops.specs.Logging.{Logging, Logs, Lined}
+use Rattle.loop_log.specs.Logging.{Logging, Logs, Lined}
 use Rattle.slp_sockets.specs.Serving.{Ticks}
 
 -- a desk between two messages: the address to which they come, its clock, what it was asked and where, the newest first, whether it sees what its last change published, and its lines

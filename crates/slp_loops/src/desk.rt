@@ -8,11 +8,10 @@ ghost use Rattle.directory_runs.specs.Changes.{IsChanged};
 ghost use Rattle.slp_answer.specs.AskedChanges.{IsAskedAt};
 ghost use Rattle.published_view.specs.Traces.{last_at, IsAsked};
 ghost use Rattle.slp_loops.specs.Desks.{AsksForChange, heard_lent, line_told, IsOutcomeOf, IsServedChange};
-ghost use Rattle.slp_loops.specs.Logging.{Lined};
+ghost use Rattle.loop_log.specs.Logging.{Lined};
 
-use crate::log::{Lines, Log, SharedOutput};
-use crate::queue::{Queue, QueuedOutput};
 use addresses::Addr;
+use loop_log::{Lines, Log, Queue, QueuedOutput, SharedOutput};
 use published_view::{DirectoryWriter, Gate, LoopView, Naming, Note, ViewFault};
 use slp_answer::{Answer, AskedChange, Call, Heard, Sent, refused_line_of};
 use slp_messages::function::{ATTRIBUTE_REQUEST, REGISTRATION, WITHDRAWAL};
@@ -220,7 +219,7 @@ impl<'r, 's, J: Naming, R: Wait, M: Moments + Drop, G: Gate, L: Log + Drop> Serv
     for Desk<'r, 's, J, R, M, G, L> {
     ghost use Rattle.std.specs.Prelude.{◌≡◌};
     ghost use Rattle.slp_loops.specs.Desks.{AsksForChange, DeskSteps, MayLast};
-    ghost use Rattle.slp_loops.specs.Logging.{IsOut};
+    ghost use Rattle.loop_log.specs.Logging.{IsOut};
 
     ghost manner = { record {
       steps = λ before asker message limit outcome answer after. DeskSteps J.opening M.may L.writes

@@ -1,8 +1,8 @@
 use Rattle.std.proofs.Common.{◌≡◌, ◌++◌, ◌∷◌, [], length, get_or, ap, ◌∙◌, subst, vec_len, arith}
 use Rattle.std.specs.Prelude.{IfSome}
 use Rattle.std.proofs.lemmas.List.{take_all}
-use Rattle.agent_program.specs.Jobs.{AreLoops, IsLoop}
-use Rattle.agent_program.specs.declared.threads.Job.TheVariants.{Other}
+use Rattle.agent_parts.specs.Jobs.{AreLoops, IsLoop}
+use Rattle.agent_parts.specs.declared.threads.Job.TheVariants.{Other}
 use Rattle.agent_program.proofs.Loops.{Beside, loop_more, beside_next, beside_all}
 use Rattle.agent_program.proofs.starting.jobs_at.Goals as goal
 

@@ -1,5 +1,5 @@
 use Rattle.std.proofs.Common.{◌≡◌, ◌+◌, take, vec_len}
-use Rattle.agent_program.specs.Jobs.{AreLoops}
+use Rattle.agent_parts.specs.Jobs.{AreLoops}
 use Rattle.agent_program.proofs.Loops.{Beside}
 use Rattle.agent_program.proofs.starting.jobs_at.Given as goal
 

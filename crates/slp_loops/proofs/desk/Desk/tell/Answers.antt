@@ -5,7 +5,7 @@ use Rattle.directory_questions.specs.declared.heard.Heard.{Heard}
 use Rattle.slp_replies.specs.declared.answer.Sent.{Sent}
 use Rattle.published_view.specs.declared.fault.ViewFault.{ViewFault}
 use Rattle.slp_loops.specs.Desks.{heard_lent, line_told}
-use Rattle.slp_loops.specs.Logging.{Lined}
+use Rattle.loop_log.specs.Logging.{Lined}
 use Rattle.slp_loops.proofs.desk.Desk.tell.Goals as goal
 
 pub returns-in_default-clause-lined : goal.returns-in_default-clause-lined

@@ -1,7 +1,7 @@
 -- What the threads of a server do.
 use Rattle.std.specs.Prelude.{◌≡◌, ℕ, ⊤, List, [], ◌∷◌, ◌++◌, take}
-use Rattle.agent_program.specs.declared.threads.Job.{Job}
-use Rattle.agent_program.specs.declared.threads.Job.TheVariants.{Serve, Other}
+use Rattle.agent_parts.specs.declared.threads.Job.{Job}
+use Rattle.agent_parts.specs.declared.threads.Job.TheVariants.{Serve, Other}
 
 module _ {S T : Type 0} where
   -- a loop serves by a desk that has the address at which it listens

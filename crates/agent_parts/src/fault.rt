@@ -1,11 +1,11 @@
 //! Why a server does not start where a loop is not opened, and why its rules stay at a reload.
 ghost use Rattle.std.specs.Prelude.{◌≡◌};
-ghost use Rattle.agent_program.specs.Statuses.{loop_start, reload_refused, unread};
+ghost use Rattle.agent_parts.specs.Statuses.{loop_start, reload_refused, unread};
 
 use published_view::ViewFault;
 use rule_files::RuleFault;
 use site_opening::{ReadFault, StartFault};
-use slp_loops::LoopFault;
+use slp_sockets::LoopFault;
 
 /// Why the rules that decided before a reload stay.
 #[derive(Clone, Copy, Debug, PartialEq, Eq)]
@@ -19,7 +19,7 @@ pub(crate) enum ReloadFault {
 }
 
 /// Why an agent does not start where a loop is not opened.
-pub(crate) fn loop_fault(fault: LoopFault) -> StartFault
+pub fn loop_fault(fault: LoopFault) -> StartFault
     ensures { result ≡ loop_start fault }
 {
     match fault {

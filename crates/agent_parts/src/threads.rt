@@ -1,10 +1,10 @@
 //! The threads of a server: one for each loop, one for what is done beside them, and the one that started these, which reads the
 //! words.
 ghost use Rattle.std.specs.Prelude.{◌≡◌};
-ghost use Rattle.agent_program.specs.Statuses as spec;
+ghost use Rattle.agent_parts.specs.Statuses as spec;
 
 use site_opening::StartFault;
-use slp_loops::{AgentLoop, LoopFault, Serve};
+use slp_sockets::{AgentLoop, LoopFault, Serve};
 use std::alloc::Global;
 use std::sync::atomic::{AtomicBool, Ordering};
 use std::sync::{Mutex, Wait};
@@ -13,13 +13,13 @@ use std::thread::{JoinHandle, Scope, Threads};
 use std::time::Clock;
 
 /// Work that ends soon after a flag is set, well or with a fault.
-pub(crate) trait Task {
+pub trait Task {
     fn run(&mut self, stop: &AtomicBool) -> Result<(), LoopFault>;
 }
 
 /// What one thread does.
 #[derive(Drop)]
-pub(crate) enum Job<S: Serve + Drop, T: Task + Drop> {
+pub enum Job<S: Serve + Drop, T: Task + Drop> {
     Serve(AgentLoop<S>),
     Other(T),
 }

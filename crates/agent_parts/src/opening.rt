@@ -1,7 +1,7 @@
 //! What an agent starts with: what the files of its site say, as a site and rules that can be shared.
 ghost use Rattle.std.specs.Prelude.{◌≡◌, IfOk};
 ghost use Rattle.std.specs.Arc.{arc_value};
-ghost use Rattle.agent_program.specs.Openings.{IsBegun, site_with};
+ghost use Rattle.agent_parts.specs.Openings.{IsBegun, site_with};
 ghost use Rattle.site_config.specs.Configurations.{IsWithin};
 
 use access_rules::Rules;
@@ -25,14 +25,14 @@ fn site(alloc: Global, config: &Config, templates: Templates, boot: u32) -> Resu
 
 /// What a server begins with: its configuration, and what the files say that it names.
 #[derive(Drop)]
-pub(crate) struct Beginning {
+pub struct Beginning {
     pub config: Config,
     pub site: Site,
     pub rules: Arc<Rules>,
 }
 
 /// What the configuration in a file and the files that it names say. `boot` is the stamp of the site.
-pub(crate) fn begun<R: Files>(
+pub fn begun<R: Files>(
     rt: &R,
     alloc: Global,
     path: &str,

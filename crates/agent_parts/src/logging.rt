@@ -1,8 +1,9 @@
 //! The thread that writes the lines of the others.
 
 use crate::threads::{Job, Task, serve};
+use loop_log::{LineWriter, Queue};
 use site_opening::StartFault;
-use slp_loops::{LineWriter, Queue, Serve};
+use slp_sockets::Serve;
 use std::alloc::Global;
 use std::io::Write;
 use std::sync::Wait;
@@ -38,7 +39,7 @@ where
 }
 
 /// Runs each job and the console as `serve` does, while one more thread writes the lines of a queue. All lines are out when it answers.
-pub(crate) fn serve_logged<'s, R, S, T, C, W>(
+pub fn serve_logged<'s, R, S, T, C, W>(
     rt: &'s R,
     log: (&'s Queue, LineWriter<'s, 's, R, W>),
     jobs: (Global, Vec<Job<S, T>>),

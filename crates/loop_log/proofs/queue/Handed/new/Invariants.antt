@@ -1,5 +1,5 @@
 use Rattle.std.proofs.Common.{◌≡◌, All}
-use Rattle.slp_loops.proofs.queue.Handed.new.Given as goal
+use Rattle.loop_log.proofs.queue.Handed.new.Given as goal
 
 abbrev pub invariant-loop : goal.invariant-loop
 invariant-loop l = All (λ share. share ≡ 0) l.shares.items

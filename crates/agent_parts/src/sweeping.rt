@@ -6,7 +6,7 @@ use crate::threads::Task;
 use agent_watch::{Watch, sweep_on};
 use expiry_sweep::{Schedule, Sweeper};
 use published_view::{DirectoryWriter, Gate, Naming};
-use slp_loops::{LoopFault, Moments, WallClock};
+use slp_sockets::{LoopFault, Moments, WallClock};
 use std::sync::atomic::{AtomicBool, Ordering};
 use std::sync::{Mutex, Wait};
 use std::thread;
@@ -27,17 +27,17 @@ pub(crate) fn wait_for_loops<R: Wait + Clock, G: Gate>(rt: &R, gate: &G) {
 
 /// Turns a sweeper once a second.
 #[derive(Drop)]
-pub(crate) struct Sweeping<'r, 's, J: Naming, R: Wait + Clock, G: Gate> {
+pub struct Sweeping<'r, 's, J: Naming, R: Wait + Clock, G: Gate> {
     rt: &'r R,
     writer: &'s Mutex<DirectoryWriter<J, &'r R>>,
     gate: &'s G,
     clock: WallClock<'r, R>,
-    sweeper: Sweeper,
+    pub sweeper: Sweeper,
 }
 
 impl<'r, 's, J: Naming, R: Wait + Clock, G: Gate> Sweeping<'r, 's, J, R, G> {
     /// Sweeps first when so many seconds have passed.
-    pub(crate) fn new(
+    pub fn new(
         rt: &'r R,
         writer: &'s Mutex<DirectoryWriter<J, &'r R>>,
         gate: &'s G,
@@ -72,7 +72,7 @@ impl<'r, 's, J: Naming, R: Wait + Clock, G: Gate> Sweeping<'r, 's, J, R, G> {
 }
 
 impl<'r, 's, J: Naming, R: Wait + Clock, G: Gate> Watch for Sweeping<'r, 's, J, R, G> {
-    ghost use Rattle.agent_program.specs.Turns.{Moves};
+    ghost use Rattle.agent_parts.specs.Turns.{Moves};
 
     // Nothing is said of the flag, of how long a nap lasts, or of what lies under the lock.
     ghost may = { λ before deed after. Moves deed before.sweeper after.sweeper after.clock };

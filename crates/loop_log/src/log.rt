@@ -1,7 +1,7 @@
 //! Where the lines of served messages go.
 ghost use Rattle.std.specs.Prelude.{◌≡◌, [], ◌++◌, IsTrue, IsFalse, OnOk};
 ghost use Rattle.std.specs.Io.KnownBytes.{Appends};
-ghost use Rattle.slp_loops.specs.Logging.{IsOut, Lined};
+ghost use Rattle.loop_log.specs.Logging.{IsOut, Lined};
 
 use std::alloc::Global;
 use std::io::{self, Write};
@@ -13,7 +13,7 @@ const MOST_WAITING: usize = 65_536;
 
 /// Takes lines. Each implementation says by `writes` what one call may do.
 pub trait Log {
-    ghost use Rattle.slp_loops.specs.Logging.{Logs};
+    ghost use Rattle.loop_log.specs.Logging.{Logs};
 
     // Holds of the log before, the bytes of a call, and the log after.
     ghost writes: { Logs Self };
@@ -65,7 +65,7 @@ impl<L: Log + Drop> Drop for Lines<L> {
 
 impl<L: Log + Drop> Model for Lines<L> {
     ghost use Rattle.std.specs.Prelude.{◌≤◌, length};
-    ghost use Rattle.slp_loops.specs.Logging.{Logging};
+    ghost use Rattle.loop_log.specs.Logging.{Logging};
 
     ghost Value = { Logging L };
 

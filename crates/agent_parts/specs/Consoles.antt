@@ -1,10 +1,10 @@
 -- What a console does with a word.
 use Rattle.std.specs.Prelude.{◌≡◌, ◌⊎◌, ℕ, Bool, true, false, ◌∷◌, ◌++◌, [], codes, Result}
 use Rattle.published_view.specs.declared.fault.ViewFault.{ViewFault}
-use Rattle.slp_loops.specs.Logging.{Logs}
+use Rattle.loop_log.specs.Logging.{Logs}
 use Rattle.slp_text.specs.Ascii.{line_feed}
-use Rattle.agent_program.specs.Statuses.{reload_text, sweep_text}
-use Rattle.agent_program.specs.declared.fault.ReloadFault.{ReloadFault}
+use Rattle.agent_parts.specs.Statuses.{reload_text, sweep_text}
+use Rattle.agent_parts.specs.declared.fault.ReloadFault.{ReloadFault}
 use Rattle.agent_watch.specs.declared.words.Word.{Word}
 use Rattle.agent_watch.specs.declared.words.Word.TheVariants.{Reload, Sweep, Stop, Unknown}
 

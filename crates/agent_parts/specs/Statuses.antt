@@ -13,8 +13,8 @@ use Rattle.site_opening.specs.declared.fault.StartFault.{StartFault}
 use Rattle.site_opening.specs.declared.fault.StartFault.TheVariants.{Failed, NoMemory}
 use Rattle.agent_watch.specs.declared.words.End.{End}
 use Rattle.agent_watch.specs.declared.words.End.TheVariants.{Well, Badly}
-use Rattle.agent_program.specs.declared.fault.ReloadFault.{ReloadFault}
-use Rattle.agent_program.specs.declared.fault.ReloadFault.TheVariants.{File, Rules, Shut}
+use Rattle.agent_parts.specs.declared.fault.ReloadFault.{ReloadFault}
+use Rattle.agent_parts.specs.declared.fault.ReloadFault.TheVariants.{File, Rules, Shut}
 
 -- why the rules stay where a file of rules is not read, and where the writer refuses others
 abbrev pub unread : ReadFault → ReloadFault
@@ -57,7 +57,3 @@ end_status before (Err loop_fault.NoMemory) = 3
 abbrev pub loop_start : LoopFault → StartFault
 loop_start loop_fault.Io = Failed
 loop_start loop_fault.NoMemory = NoMemory
-
--- how the program is called
-abbrev pub usage_text : List ℕ
-usage_text = codes "usage: slpda CONFIG" ++ line_feed ∷ []

@@ -1,6 +1,6 @@
 //! Lines on their way to the thread that writes them.
 ghost use Rattle.std.specs.Prelude.{◌≡◌, ◌+◌, ◌≤◌, ◌↔◌, ◌++◌, [], length, slice_get, slice_set, Some, IsTrue, IsFalse, IfOk};
-ghost use Rattle.slp_loops.specs.Queues.{most_waiting, share_of, HasNone, IsOpen};
+ghost use Rattle.loop_log.specs.Queues.{most_waiting, share_of, HasNone, IsOpen};
 
 use crate::log::{Log, SharedOutput, write_out};
 use std::alloc::{AllocError, Global};
@@ -25,7 +25,7 @@ struct Handed {
 }
 
 impl Model for Handed {
-    ghost use Rattle.slp_loops.specs.Queues.{Waiting};
+    ghost use Rattle.loop_log.specs.Queues.{Waiting};
 
     ghost Value = { Waiting };
 

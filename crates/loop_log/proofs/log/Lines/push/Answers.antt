@@ -1,6 +1,6 @@
 use Rattle.std.proofs.Common.{◌∙◌, refl, subst, inr}
-use Rattle.slp_loops.specs.Logging.{IsOut}
-use Rattle.slp_loops.proofs.log.Lines.push.Goals as goal
+use Rattle.loop_log.specs.Logging.{IsOut}
+use Rattle.loop_log.proofs.log.Lines.push.Goals as goal
 
 pub returns-then-not-add : goal.returns-then-not-add
 returns-then-not-add g c =

@@ -2,7 +2,7 @@
 ghost use Rattle.std.specs.Prelude.{◌≡◌, ◌⊎◌, ◌∷◌, ⊤, Result, IfOk, IfErr, OnOk, OnErr};
 ghost use Rattle.std.specs.Io.KnownBytes.{Appends};
 ghost use Rattle.access_rules.specs.Deciding.{number};
-ghost use Rattle.agent_program.specs.Statuses.{IsRefused, input_told, reload_text, sweep_text};
+ghost use Rattle.agent_parts.specs.Statuses.{IsRefused, input_told, reload_text, sweep_text};
 ghost use Rattle.directory_judge.specs.History.{now};
 ghost use Rattle.directory_runs.specs.Changes.{reload_at, sweep_at};
 ghost use Rattle.published_view.specs.Changes.{written_at};
@@ -14,11 +14,12 @@ use crate::threads::Task;
 use access_rules::Rules;
 use agent_watch::{Act, End, Input, Word, hear};
 use arrayvec::ArrayVec;
+use loop_log::Log;
 use published_view::{DirectoryWriter, Gate, Naming, ViewFault};
 use rule_files::RuleFault;
 use site_opening::rules_at;
 use site_reports::print_rules;
-use slp_loops::{Log, LoopFault, Moments, WallClock};
+use slp_sockets::{LoopFault, Moments, WallClock};
 use slp_text::Text;
 use std::alloc::Global;
 use std::fs;
@@ -33,7 +34,7 @@ const LONGEST_TEXT: usize = 64;
 
 /// What acts on words: the writer and the gate, which it shares with the loops, the output, the rule file and the clock. Contracts see the output.
 #[derive(Drop)]
-pub(crate) struct Console<'r, 's, J: Naming, R: Files + Wait + Clock, G: Gate, L: Log + Drop> {
+pub struct Console<'r, 's, J: Naming, R: Files + Wait + Clock, G: Gate, L: Log + Drop> {
     pub rt: &'r R,
     pub alloc: Global,
     pub writer: &'s Mutex<DirectoryWriter<J, &'r R>>,
@@ -86,7 +87,7 @@ fn may_open<R: Files>(rt: &R, path: &Text) -> bool {
 }
 
 /// A rule file, opened and unread, where there is one.
-pub(crate) fn opened<R: Files>(rt: &R, path: Option<&Text>) -> Option<R::File> {
+pub fn opened<R: Files>(rt: &R, path: Option<&Text>) -> Option<R::File> {
     let path = path?;
     if !may_open(rt, path) {
         return None;
@@ -199,7 +200,7 @@ where
     L: Log + Drop,
 {
     ghost use Rattle.std.specs.Prelude.{◌≡◌};
-    ghost use Rattle.agent_program.specs.Consoles.{Prints, goes_on};
+    ghost use Rattle.agent_parts.specs.Consoles.{Prints, goes_on};
 
     ghost acts = { λ before word told after. (told ≡ goes_on word) × Prints L.writes word before.output after.output };
 
@@ -226,7 +227,7 @@ where
 
 /// A console and the input of its words.
 #[derive(Drop)]
-pub(crate) struct Operator<
+pub struct Operator<
     'r,
     's,
     J: Naming,

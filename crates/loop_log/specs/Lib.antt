@@ -1,0 +1,2 @@
+pub mod Logging
+pub mod Queues
