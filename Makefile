@@ -9,7 +9,7 @@
 # make dist        makes an archive of what make install installs, and its checksum, in dist/: seconds, once make build is done
 # make deb         makes a package of Debian of the same, with /etc/slpda, in dist/: seconds, once make build is done; needs dpkg-deb
 # make uninstall   takes away what make install put, and leaves /etc/slpda alone: seconds
-# make test        the gate, which proves and tries all from nothing: an hour or so, on 4 processors
+# make test        the gate, which compares docs/SPEC.md with the definitions, and proves and tries all from nothing: an hour or so, on 4 processors; needs python3
 # make wrong       tries the wrong bodies beside the gate, or CRATE=slp_text those of one crate: 90 minutes or more, on 4 processors; needs python3
 # make scripts     tries the tools of contrib/, make install, make deb and make/build over files and stand-ins alone, and compares pages with the code: a minute or so; needs python3
 # make spec        writes docs/SPEC.md, all that is promised, from the definitions, and says how long it is: a second; needs python3
@@ -115,7 +115,9 @@ uninstall:
 	@rmdir $(shared) $(examples)/templates $(examples) $(doc)/docs $(doc)/contrib $(doc) 2> /dev/null || true
 	@echo "$(etc) is left as it is."
 
+# What is promised changes only where the document of it does.
 test:
+	@contrib/tests/spec
 	rt ci
 
 wrong:

@@ -1,7 +1,8 @@
 //! What is said of a file: where something is wrong, and what.
-ghost use Rattle.std.specs.Prelude.{◌≡◌, ◌≤◌, count_by, length, OnOk};
+ghost use Rattle.std.specs.Prelude.{◌≡◌, ◌≤◌, ◌++◌, count_by, length, OnOk};
 ghost use Rattle.std.specs.Io.KnownBytes.{Appends};
 ghost use Rattle.site_check.specs.Lines.{is_line_feed, line_of_place, place_in, place_text, problem_in, problem_line, problem_text, warning_in, warning_line, warning_text};
+ghost use Rattle.shown_text.specs.Shown.{shown};
 
 use shown_text::print_text;
 use std::fmt;
@@ -151,6 +152,14 @@ pub(crate) enum Warning<'a> {
     FewDescriptors(u32, usize),
 }
 
+// Writes words, and a name as it is shown.
+fn print_named<W: Write>(words: &str, named: &str, writer: &mut W) -> io::Result<()>
+    ensures { OnOk result (Appends (W.contents writer.old) (W.contents writer.new) (words.now ++ shown named.now)) }
+{
+    writer.write_all(words.as_bytes())?;
+    print_text(named, writer)
+}
+
 // Writes what is surely not meant.
 fn print_warning<W: Write>(warning: Warning<'_>, writer: &mut W) -> io::Result<()>
     ensures { OnOk result (Appends (W.contents writer.old) (W.contents writer.new) (warning_text (warning_in warning.entry))) }
@@ -163,17 +172,10 @@ fn print_warning<W: Write>(warning: Warning<'_>, writer: &mut W) -> io::Result<(
             print_text(name, writer)?;
             write!(writer, ") fits whatever it fits")
         }
-        Warning::NoScope(scope) => {
-            write!(writer, "the site has no scope ")?;
-            print_text(scope, writer)
-        }
-        Warning::NoType(kind) => {
-            write!(writer, "no rule lets anyone register ")?;
-            print_text(kind, writer)
-        }
+        Warning::NoScope(scope) => print_named("the site has no scope ", scope, writer),
+        Warning::NoType(kind) => print_named("no rule lets anyone register ", kind, writer),
         Warning::NoService(kind) => {
-            write!(writer, "it is about URLs that begin with ")?;
-            print_text(kind, writer)?;
+            print_named("it is about URLs that begin with ", kind, writer)?;
             write!(writer, ": and about no type that begins with service:")
         }
         Warning::NoSight => write!(writer, "no rule lets anyone see anything"),
@@ -182,12 +184,10 @@ fn print_warning<W: Write>(warning: Warning<'_>, writer: &mut W) -> io::Result<(
             "element {number} of from has bits behind its prefix, which do not count"
         ),
         Warning::AnyType(kind) => {
-            write!(writer, "only rules of type * let anyone register ")?;
-            print_text(kind, writer)
+            print_named("only rules of type * let anyone register ", kind, writer)
         }
         Warning::RefusedDefault(tag) => {
-            write!(writer, "its own definition refuses the default of ")?;
-            print_text(tag, writer)
+            print_named("its own definition refuses the default of ", tag, writer)
         }
         Warning::AnyAddress(number) => write!(
             writer,

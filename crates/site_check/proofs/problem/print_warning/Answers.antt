@@ -10,16 +10,16 @@ returns-in_ok-print_text-in-Hidden g c =
     rw c.in-Hidden.is (subst (λ bs. OnOk c.write-in-Hidden-2.result (Appends (g.W.Write.contents c.args.writer.now) (g.W.Write.contents c.write-in-Hidden-2.new.self) bs)) (simp append_assoc)
     (written_after c.write-in-Hidden-2.result _ _ _ _ _ (Appends-trans _ _ _ _ _ c.in_ok-write-in-Hidden.ensures.bytes c.in_ok-print_text-in-Hidden.ensures) c.write-in-Hidden-2.ensures.bytes))
 
-pub returns-in_ok-write-in-NoScope : goal.returns-in_ok-write-in-NoScope
-returns-in_ok-write-in-NoScope g c = rw c.in-NoScope.is (written_after c.print_text-in-NoScope.result _ _ _ _ _ c.in_ok-write-in-NoScope.ensures.bytes c.print_text-in-NoScope.ensures)
+pub returns-in-NoScope : goal.returns-in-NoScope
+returns-in-NoScope g c = rw c.in-NoScope.is c.print_named.ensures
 
-pub returns-in_ok-write-in-NoType : goal.returns-in_ok-write-in-NoType
-returns-in_ok-write-in-NoType g c = rw c.in-NoType.is (written_after c.print_text-in-NoType.result _ _ _ _ _ c.in_ok-write-in-NoType.ensures.bytes c.print_text-in-NoType.ensures)
+pub returns-in-NoType : goal.returns-in-NoType
+returns-in-NoType g c = rw c.in-NoType.is c.print_named-in-NoType.ensures
 
-pub returns-in_ok-print_text-in-NoService : goal.returns-in_ok-print_text-in-NoService
-returns-in_ok-print_text-in-NoService g c =
-    rw c.in-NoService.is (subst (λ bs. OnOk c.write-in-NoService-2.result (Appends (g.W.Write.contents c.args.writer.now) (g.W.Write.contents c.write-in-NoService-2.new.self) bs)) (simp append_assoc)
-    (written_after c.write-in-NoService-2.result _ _ _ _ _ (Appends-trans _ _ _ _ _ c.in_ok-write-in-NoService.ensures.bytes c.in_ok-print_text-in-NoService.ensures) c.write-in-NoService-2.ensures.bytes))
+pub returns-in_ok-print_named-in-NoService : goal.returns-in_ok-print_named-in-NoService
+returns-in_ok-print_named-in-NoService g c =
+    rw c.in-NoService.is (subst (λ bs. OnOk c.write-in-NoService.result (Appends (g.W.Write.contents c.args.writer.now) (g.W.Write.contents c.write-in-NoService.new.self) bs)) (simp append_assoc)
+    (written_after c.write-in-NoService.result _ _ _ _ _ c.in_ok-print_named-in-NoService.ensures c.write-in-NoService.ensures.bytes))
 
 pub returns-in-NoSight : goal.returns-in-NoSight
 returns-in-NoSight g c = rw c.in-NoSight.is c.write-in-NoSight.ensures.bytes
@@ -30,9 +30,8 @@ returns-in-FewDescriptors g c = rw c.in-FewDescriptors.is (simp append_assoc c.w
 pub returns-in-MoreBits : goal.returns-in-MoreBits
 returns-in-MoreBits g c = rw c.in-MoreBits.is c.write-in-MoreBits.ensures.bytes
 
-pub returns-in_ok-write-in-AnyType : goal.returns-in_ok-write-in-AnyType
-returns-in_ok-write-in-AnyType g c = rw c.in-AnyType.is (written_after c.print_text-in-AnyType.result _ _ _ _ _ c.in_ok-write-in-AnyType.ensures.bytes c.print_text-in-AnyType.ensures)
+pub returns-in-AnyType : goal.returns-in-AnyType
+returns-in-AnyType g c = rw c.in-AnyType.is c.print_named-in-AnyType.ensures
 
-pub returns-in_ok-write-in-RefusedDefault : goal.returns-in_ok-write-in-RefusedDefault
-returns-in_ok-write-in-RefusedDefault g c =
-    rw c.in-RefusedDefault.is (written_after c.print_text-in-RefusedDefault.result _ _ _ _ _ c.in_ok-write-in-RefusedDefault.ensures.bytes c.print_text-in-RefusedDefault.ensures)
+pub returns-in-RefusedDefault : goal.returns-in-RefusedDefault
+returns-in-RefusedDefault g c = rw c.in-RefusedDefault.is c.print_named-in-RefusedDefault.ensures
