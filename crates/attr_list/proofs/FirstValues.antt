@@ -1,13 +1,13 @@
 -- The first of values that are the same: which they are, and their order.
-use Rattle.std.proofs.Common.{◌≡◌, true≢false, ◌<◌, ◌≤◌, ◌+◌, ◌-◌, ℕ, Bool, true, false, List, map, take, length, get_or, set, refl, sym, ap, ap₂, subst, ◌∙◌, arith, inl, inr}
-use Rattle.std.specs.Prelude.{not}
+use Rattle.std.proofs.Common.{◌≡◌, true≢false, ◌<◌, ◌≤◌, ◌+◌, ◌-◌, ℕ, Bool, true, false, List, [], ◌∷◌, map, take, length, get_or, set, refl, sym, ap, ap₂, subst, ◌∙◌, arith, inl, inr}
+use Rattle.std.specs.Prelude.{◌⊎◌, not}
 use Rattle.std.specs.Cmp.{ranks}
-use Rattle.std.specs.List.{list_any, range_with_len, All, AllAdjacentBelow, Contains, IsDistinct}
+use Rattle.std.specs.List.{list_any, range_with_len, All, Contains, IsDistinct}
 use Rattle.std.specs.List.Sorted.{IsPermutation, IsSorted}
-use Rattle.std.specs.Ordering.{eq_by_cmp, is_eq, is_lt, nat_cmp, ordering_reverse, ordering_then, MatchOrdering}
+use Rattle.std.specs.Ordering.{eq_by_cmp, is_eq, is_lt, nat_cmp, ordering_reverse, MatchOrdering}
 use Rattle.std.specs.declared.cmp.Ordering.{Ordering}
 use Rattle.std.specs.declared.cmp.Ordering.TheVariants.{Less, Equal, Greater}
-use Rattle.std.proofs.lemmas.Bool.{cases_eq, cases_lt}
+use Rattle.std.proofs.lemmas.Bool.{cases_eq}
 use Rattle.std.proofs.lemmas.Cmp.{eq_by_cmp_equiv, nat_cmp_total}
 use Rattle.std.proofs.lemmas.List.{get_or-map, get_or-set_other, get_or-set_same, get_or-take, get_or_default, length-map, length-take-le}
 use Rattle.std.proofs.lemmas.List.Elements.{All-from_recursion}
@@ -25,22 +25,17 @@ use Rattle.attr_list.specs.Orders.{value_at}
 use Rattle.attr_list.specs.declared.order.Ranked.{Ranked}
 use Rattle.attr_list.proofs.DistinctValues.{identity_cmp, identity_ties}
 use Rattle.attr_list.proofs.OrderedValues.{named_by}
-use Rattle.attr_list.proofs.PlacesInOrder.{at_cmp, at_order, place_order, same-ties, then-lt}
+use Rattle.attr_list.proofs.PlacesInOrder.{place_order, same-ties}
 
 -- ---- what comparisons say
 
-must-rise : (o n : Ordering) → is_lt (ordering_reverse (ordering_then o n)) ≡ false → is_eq n ≡ false → ordering_then o n ≡ Less
-must-rise Less n h d = refl
-must-rise Equal Less h d = refl
-must-rise Equal Equal h d = absurd (true≢false d)
-must-rise Equal Greater h d = absurd (true≢false h)
-must-rise Greater n h d = absurd (true≢false h)
-
-less-then : (o n : Ordering) → ordering_then o n ≡ Less → o ≡ Equal → n ≡ Less
-less-then o n h e = sym (ap (λ o. ordering_then o n) e) ∙ h
-
-nat-less : (p q : ℕ) → nat_cmp p q ≡ Less → p < q
-nat-less p q e = subst (λ o. MatchOrdering o (p < q) (p ≡ q) (q < p)) e (ranks p q)
+nat-itself : (p q : ℕ) → p ≡ q → is_eq (nat_cmp p q) ≡ true
+nat-itself p q e = by (nat_cmp p q) (ranks p q)
+  where
+    by : (o : Ordering) → MatchOrdering o (p < q) (p ≡ q) (q < p) → is_eq o ≡ true
+    by Less m = absurd (omega (arith, e, m))
+    by Equal m = refl
+    by Greater m = absurd (omega (arith, e, m))
 
 is-equal : (o : Ordering) → is_eq o ≡ true → o ≡ Equal
 is-equal Less h = absurd (true≢false (sym h))
@@ -69,7 +64,7 @@ module _ (vs : List Value) (ps : List ℕ) (each : IsPermutation (range_with_len
       let is = length-range_with_len 0 (length vs) in
       omega (arith, b, is, get_or-range_with_len 0 (length vs) i d (omega (arith, b, is))))
 
-  there : (p : ℕ) → p < length vs → Contains ps p
+  pub there : (p : ℕ) → p < length vs → Contains ps p
   there p b = Contains-permutation all ps p each (p, omega (arith, b, length-range_with_len 0 (length vs)), omega (arith, get_or-range_with_len 0 (length vs) p p b))
 
   apart : IsDistinct (eq_by_cmp nat_cmp) ps
@@ -78,64 +73,16 @@ module _ (vs : List Value) (ps : List ℕ) (each : IsPermutation (range_with_len
       let is = length-range_with_len 0 (length vs) in
       omega (arith, get_or-range_with_len 0 (length vs) k 0 (omega (arith, b, is)), get_or-range_with_len 0 (length vs) (k + 1) 0 (omega (arith, b, is))))))
 
-  module _ (sorted : IsSorted (place_cmp vs) ps) where
-    rises : (i j d : ℕ) → i < j → j < length ps → place_cmp vs (get_or ps i d) (get_or ps j d) ≡ Less
-    rises i j d l b =
-        let p = get_or ps i d in
-        let q = get_or ps j d in
-        must-rise (at_cmp vs p q) (nat_cmp p q)
-        (ap is_lt (sym ((place_order vs).antisymm q p)) ∙ sorted_far (λ p q. is_lt (place_cmp vs p q)) (ranks_by (place_order vs) (λ p. p)) ps sorted i j d (omega (arith, l)) b)
-        (apart_from_distinct (eq_by_cmp nat_cmp) ps i j d apart l b)
+  -- no place stands twice
+  pub elsewhere : (i j : ℕ) → i < j → j < length ps → (get_or ps i 0 ≡ get_or ps j 0 → ⊥)
+  elsewhere i j l b e = absurd (true≢false (sym (nat-itself (get_or ps i 0) (get_or ps j 0) e) ∙ apart_from_distinct (eq_by_cmp nat_cmp) ps i j 0 apart l b))
 
-    value-far : (i j d : ℕ) → i ≤ j → j < length ps → is_lt (at_cmp vs (get_or ps j d) (get_or ps i d)) ≡ false
-    value-far i j d l b = sorted_far (λ p q. is_lt (at_cmp vs p q)) (ranks_by (at_order vs) (λ p. p)) ps (λ k d a b. then-lt _ _ (sorted k d a b)) i j d l b
-
-    -- a place whose value ties with that of the place before it is not the first
-    pub repeats-before : (i d : ℕ) → i + 1 < length ps → is_same (value_at vs (get_or ps i d)) (value_at vs (get_or ps (i + 1) d)) ≡ true
-        → list_any (λ v. is_same v (value_at vs (get_or ps (i + 1) d))) (take (get_or ps (i + 1) d) vs) ≡ true
-    repeats-before i d b tie =
-        let p = get_or ps i d in
-        let q = get_or ps (i + 1) d in
-        let equal : at_cmp vs p q ≡ Equal = is-equal (at_cmp vs p q) (sym (same-ties (value_at vs p) (value_at vs q)) ∙ tie) in
-        let less : p < q = nat-less p q (less-then (at_cmp vs p q) (nat_cmp p q) (rises i (i + 1) d (omega arith) b) equal) in
-        let long = length-take-le q vs (omega (arith, below (i + 1) d b)) in
-        list_any_at (λ v. is_same v (value_at vs q)) (take q vs) p (value.Bool false) (omega (arith, less, long)) (ap (λ v. is_same v (value_at vs q)) (get_or-take q vs p (value.Bool false) less) ∙ tie)
-
-    -- one that is not the first ties with the place before it
-    pub ties-before : (j p : ℕ) → j < p → p < length vs → is_same (value_at vs j) (value_at vs p) ≡ true
-        → (k : ℕ) × (k + 1 < length ps) × (get_or ps (k + 1) p ≡ p) × (is_same (value_at vs (get_or ps k p)) (value_at vs p) ≡ true)
-    ties-before j p l b tie = elim (cases_lt A.0 B.0) [
-      | inl less ↦ (
-        B.0 - 1,
-        omega (arith, B.1, less),
-        ap (λ n. get_or ps n p) {x = B.0 - 1 + 1} {y = B.0} (omega (arith, less)) ∙ B.2,
-        same-ties (value_at vs (get_or ps (B.0 - 1) p)) (value_at vs p) ∙ ap is_eq (squeeze (value_at vs j) (value_at vs (get_or ps (B.0 - 1) p)) (value_at vs p)
-            (subst (λ q. is_lt (at_cmp vs (get_or ps (B.0 - 1) p) q) ≡ false) at-a (value-far A.0 (B.0 - 1) p (omega (arith, less)) (omega (arith, B.1, less))))
-            (subst (λ q. is_lt (at_cmp vs q (get_or ps (B.0 - 1) p)) ≡ false) B.2 (value-far (B.0 - 1) B.0 p (omega (arith, less)) B.1)) equal),
-      )
-      | inr most ↦ elim (cases_eq A.0 B.0) [
-        | inl same ↦ absurd (omega (arith, l, sym at-a ∙ ap (λ n. get_or ps n p) same ∙ B.2))
-        | inr other ↦ absurd (omega (
-          arith,
-          l,
-          nat-less p j (less-then (at_cmp vs p j) (nat_cmp p j)
-              (ap₂ (place_cmp vs) (sym B.2) (sym at-a) ∙ rises B.0 A.0 p (omega (arith, most, λ (e : A.0 ≡ B.0). other e)) A.1)
-              (value_order.antisymm (value_at vs p) (value_at vs j) ∙ ap ordering_reverse equal)),
-        ))
-      ]
-    ]
-      where
-        A : Contains ps j
-        A = there j (omega (arith, l, b))
-
-        B : Contains ps p
-        B = there p b
-
-        at-a : get_or ps A.0 p ≡ j
-        at-a = get_or_default ps A.0 p j A.1 ∙ A.2
-
-        equal : at_cmp vs j p ≡ Equal
-        equal = is-equal (at_cmp vs j p) (sym (same-ties (value_at vs j) (value_at vs p)) ∙ tie)
+  -- what ties with an earlier one ties with the one before it
+  pub between : IsSorted (place_cmp vs) ps → (i j k : ℕ) → i ≤ j → j ≤ k → k < length ps → place_cmp vs (get_or ps i 0) (get_or ps k 0) ≡ Equal → place_cmp vs (get_or ps j 0) (get_or ps k 0) ≡ Equal
+  between sorted i j k l m b = squeeze (value_at vs (get_or ps i 0)) (value_at vs (get_or ps j 0)) (value_at vs (get_or ps k 0)) (far i j l (omega (arith, m, b))) (far j k m b)
+    where
+      far : (i j : ℕ) → i ≤ j → j < length ps → is_lt (place_cmp vs (get_or ps j 0) (get_or ps i 0)) ≡ false
+      far i j l b = sorted_far (λ p q. is_lt (place_cmp vs p q)) (ranks_by (place_order vs) (λ p. p)) ps sorted i j 0 l b
 
 -- ---- what is noted of each place
 
@@ -144,9 +91,17 @@ module _ (vs : List Value) where
   abbrev pub Repeats : List Bool → Type 0
   Repeats noted = (p : ℕ) → p < length vs → get_or noted p true ≡ false → list_any (λ v. is_same v (value_at vs p)) (take p vs) ≡ true
 
-  -- of the places up to one, those whose values tie with that of the place before are noted not to be
+  -- of two of the first so many places whose values tie, the later is noted
   abbrev pub Found : List Bool → List ℕ → ℕ → Type 0
-  Found noted = AllAdjacentBelow (λ p q. is_same (value_at vs p) (value_at vs q) ≡ true → get_or noted q true ≡ false)
+  Found noted ps n = (a b : ℕ) → a < n → b < n → get_or ps a 0 < get_or ps b 0 → place_cmp vs (get_or ps a 0) (get_or ps b 0) ≡ Equal → get_or noted (get_or ps b 0) true ≡ false
+
+  -- the least of those places that tie with the last of them
+  pub record IsEarliest (ps : List ℕ) (i first : ℕ) : Type 0 where
+    pub at : ℕ
+    pub within : at ≤ i
+    pub is : first ≡ get_or ps at 0
+    pub ties : place_cmp vs first (get_or ps i 0) ≡ Equal
+    pub least : (a : ℕ) → a ≤ i → place_cmp vs (get_or ps a 0) (get_or ps i 0) ≡ Equal → first ≤ get_or ps a 0
 
   pub repeats-more : (noted : List Bool) (q : ℕ) → Repeats noted → list_any (λ v. is_same v (value_at vs q)) (take q vs) ≡ true → Repeats (set noted q false)
   repeats-more noted q h k p b f = elim (cases_eq p q) [
@@ -154,25 +109,9 @@ module _ (vs : List Value) where
     | inr n ↦ h p b (sym (get_or-set_other noted q p false true n) ∙ f)
   ]
 
-  pub found-more : (noted : List Bool) (ps : List ℕ) (i q : ℕ) → Found noted ps (i + 1) → q < length noted → q ≡ get_or ps (i + 1) q → i + 1 < length ps → Found (set noted q false) ps (i + 2)
-  found-more noted ps i q h b is l k d m tie = elim (cases_eq (get_or ps (k + 1) d) q) [
-    | inl e ↦ ap (λ n. get_or (set noted q false) n true) e ∙ get_or-set_same noted q false true b
-    | inr n ↦ elim (cases_eq k i) [
-      | inl e ↦ absurd (n (ap (λ n. get_or ps (n + 1) d) e ∙ get_or_default ps (i + 1) d q l ∙ sym is))
-      | inr o ↦ get_or-set_other noted q (get_or ps (k + 1) d) false true n ∙ h k d (omega (arith, m, λ (e : k ≡ i). o e)) tie
-    ]
-  ]
-
-  pub found-else : (noted : List Bool) (ps : List ℕ) (i : ℕ) → Found noted ps (i + 1) → ((d : ℕ) → is_same (value_at vs (get_or ps i d)) (value_at vs (get_or ps (i + 1) d)) ≡ false) → Found noted ps (i + 2)
-  found-else noted ps i h apart k d m tie = elim (cases_eq k i) [
-    | inl e ↦ absurd (true≢false (sym tie ∙ ap (λ n. is_same (value_at vs (get_or ps n d)) (value_at vs (get_or ps (n + 1) d))) e ∙ apart d))
-    | inr o ↦ h k d (omega (arith, m, λ (e : k ≡ i). o e)) tie
-  ]
-
   -- once all places were looked at, it is told of each
-  pub are-firsts : (ps : List ℕ) (noted : List Bool) (n : ℕ) → IsPermutation (range_with_len 0 (length vs)) ps → IsSorted (place_cmp vs) ps → length noted ≡ length vs → Repeats noted → Found noted ps n → length ps ≤ n
-      → AreFirsts vs noted
-  are-firsts ps noted n each sorted long h found all-seen = record {
+  pub are-firsts : (ps : List ℕ) (noted : List Bool) (n : ℕ) → IsPermutation (range_with_len 0 (length vs)) ps → length noted ≡ length vs → Repeats noted → Found noted ps n → length ps ≤ n → AreFirsts vs noted
+  are-firsts ps noted n each long h found all-seen = record {
     count = long;
     told = λ p b. by p b (get_or noted p true) (list_any (λ v. is_same v (value_at vs p)) (take p vs)) refl refl;
   }
@@ -186,9 +125,153 @@ module _ (vs : List Value) where
           let long : length (take p vs) ≡ p = length-take-le p vs (omega (arith, b)) in
           let less : any.0 < p = omega (arith, any.2, long) in
           let is : any.1 ≡ value_at vs any.0 = sym any.3 ∙ get_or-take p vs any.0 any.1 less ∙ get_or_default vs any.0 any.1 (value.Bool false) (omega (arith, less, b)) in
-          let tie = ties-before vs ps each sorted any.0 p less b (ap (λ v. is_same v (value_at vs p)) (sym is) ∙ any.4) in
-          let seen = found tie.0 p (omega (arith, tie.1, all-seen)) (ap (λ q. is_same (value_at vs (get_or ps tie.0 p)) (value_at vs q)) tie.2 ∙ tie.3) in
-          absurd (true≢false (sym e ∙ ap (λ q. get_or noted q true) (sym tie.2) ∙ seen))
+          let A = there vs ps each any.0 (omega (arith, less, b)) in
+          let B = there vs ps each p b in
+          let at-a : get_or ps A.0 0 ≡ any.0 = get_or_default ps A.0 0 any.0 A.1 ∙ A.2 in
+          let at-b : get_or ps B.0 0 ≡ p = get_or_default ps B.0 0 p B.1 ∙ B.2 in
+          let tie : place_cmp vs any.0 p ≡ Equal = is-equal (place_cmp vs any.0 p) (sym (same-ties (value_at vs any.0) (value_at vs p)) ∙ ap (λ v. is_same v (value_at vs p)) (sym is) ∙ any.4) in
+          let seen = found A.0 B.0 (omega (arith, A.1, all-seen)) (omega (arith, B.1, all-seen)) (omega (arith, at-a, at-b, less)) (ap₂ (place_cmp vs) at-a at-b ∙ tie) in
+          absurd (true≢false (sym e ∙ ap (λ q. get_or noted q true) (sym at-b) ∙ seen))
+
+-- ---- ties
+
+module _ (vs : List Value) where
+  tie-back : (p q : ℕ) → place_cmp vs p q ≡ Equal → place_cmp vs q p ≡ Equal
+  tie-back p q e = (place_order vs).antisymm q p ∙ ap ordering_reverse e
+
+  tie-on : (p q r : ℕ) → place_cmp vs p q ≡ Equal → place_cmp vs q r ≡ Equal → place_cmp vs p r ≡ Equal
+  tie-on p q r e f = (place_order vs).congr p q r e ∙ f
+
+  tie-self : (p : ℕ) → place_cmp vs p p ≡ Equal
+  tie-self p = even (place_cmp vs p p) ((place_order vs).antisymm p p)
+    where
+      even : (o : Ordering) → o ≡ ordering_reverse o → o ≡ Equal
+      even Less e = absurd (true≢false (ap is_lt e))
+      even Equal e = refl
+      even Greater e = absurd (true≢false (sym (ap is_lt e)))
+
+  seen-before : (p q : ℕ) → p < q → q < length vs → place_cmp vs p q ≡ Equal → list_any (λ v. is_same v (value_at vs q)) (take q vs) ≡ true
+  seen-before p q l b tie =
+      let long = length-take-le q vs (omega (arith, b)) in
+      list_any_at (λ v. is_same v (value_at vs q)) (take q vs) p (value.Bool false) (omega (arith, l, long))
+      (ap (λ v. is_same v (value_at vs q)) (get_or-take q vs p (value.Bool false) l) ∙ same-ties (value_at vs p) (value_at vs q) ∙ ap is_eq tie)
+
+-- ---- one place more
+
+module _ (vs : List Value) (ps : List ℕ) (each : IsPermutation (range_with_len 0 (length vs)) ps) (sorted : IsSorted (place_cmp vs) ps) (noted : List Bool) (i first : ℕ) (b : i + 1 < length ps)
+    (found : Found vs noted ps (i + 1)) (earliest : IsEarliest vs ps i first) where
+  abbrev at : ℕ → ℕ
+  at k = get_or ps k 0
+
+  abbrev tie : ℕ → ℕ → Type 0
+  tie p q = place_cmp vs p q ≡ Equal
+
+  -- its value ties with none before
+  module _ (no : tie (at i) (at (i + 1)) → ⊥) where
+    alone : (a : ℕ) → a ≤ i → tie (at a) (at (i + 1)) → ⊥
+    alone a l t = no (between vs ps each sorted a i (i + 1) l (omega arith) b t)
+
+    pub found-apart : Found vs noted ps (i + 2)
+    found-apart a c m n l t = elim (cases_eq a (i + 1)) [
+      | inl e ↦ elim (cases_eq c (i + 1)) [
+        | inl f ↦ absurd (omega (arith, l, ap at e, ap at f))
+        | inr f ↦ absurd (alone c (omega (arith, n, λ (z : c ≡ i + 1). f z)) (tie-back vs (at (i + 1)) (at c) (ap (λ k. place_cmp vs (at k) (at c)) (sym e) ∙ t)))
+      ]
+      | inr e ↦ elim (cases_eq c (i + 1)) [
+        | inl f ↦ absurd (alone a (omega (arith, m, λ (z : a ≡ i + 1). e z)) (ap (λ k. place_cmp vs (at a) (at k)) (sym f) ∙ t))
+        | inr f ↦ found a c (omega (arith, m, λ (z : a ≡ i + 1). e z)) (omega (arith, n, λ (z : c ≡ i + 1). f z)) l t
+      ]
+    ]
+
+    pub earliest-apart : IsEarliest vs ps (i + 1) (at (i + 1))
+    earliest-apart = record {
+      at = i + 1;
+      within = omega arith;
+      is = refl;
+      ties = tie-self vs (at (i + 1));
+      least = λ a l t. elim (cases_eq a (i + 1)) [ inl e ↦ omega (arith, ap at e) | inr e ↦ absurd (alone a (omega (arith, l, λ (z : a ≡ i + 1). e z)) t) ];
+    }
+
+  -- it ties with the one before
+  module _ (t : tie (at i) (at (i + 1))) where
+    to-next : tie first (at (i + 1))
+    to-next = tie-on vs first (at i) (at (i + 1)) earliest.ties t
+
+    pub other : (first ≡ at (i + 1) → ⊥)
+    other e = elsewhere vs ps each earliest.at (i + 1) (omega (arith, earliest.within)) b (sym earliest.is ∙ e)
+
+    back : (a : ℕ) → a ≤ i → tie (at a) (at (i + 1)) → tie (at a) (at i)
+    back a l u = tie-on vs (at a) (at (i + 1)) (at i) u (tie-back vs (at i) (at (i + 1)) t)
+
+    module _ (later earlier : ℕ) (less : earlier < later) (which : ((later ≡ at (i + 1)) × (earlier ≡ first)) ⊎ ((later ≡ first) × (earlier ≡ at (i + 1)))) where
+      pub later-below : later < length vs
+      later-below = elim which [
+        | inl w ↦ omega (arith, w.0, below vs ps each (i + 1) 0 b)
+        | inr w ↦ omega (arith, w.0, earliest.is, below vs ps each earliest.at 0 (omega (arith, earliest.within, b)))
+      ]
+
+      pub repeats-same : Repeats vs noted → Repeats vs (set noted later false)
+      repeats-same h =
+          let tied : tie earlier later = elim which [
+            | inl w ↦ ap₂ (place_cmp vs) w.1 w.0 ∙ to-next
+            | inr w ↦ ap₂ (place_cmp vs) w.1 w.0 ∙ tie-back vs first (at (i + 1)) to-next
+          ] in
+          repeats-more vs noted later h (seen-before vs earlier later less later-below tied)
+
+      pub earliest-same : IsEarliest vs ps (i + 1) earlier
+      earliest-same = elim which [
+        | inl w ↦ record {
+          at = earliest.at;
+          within = omega (arith, earliest.within);
+          is = w.1 ∙ earliest.is;
+          ties = ap (λ p. place_cmp vs p (at (i + 1))) w.1 ∙ to-next;
+          least = λ a l u. elim (cases_eq a (i + 1)) [
+            | inl e ↦ omega (arith, ap at e, w.0, less)
+            | inr e ↦ let low : a ≤ i = omega (arith, l, λ (z : a ≡ i + 1). e z) in omega (arith, w.1, earliest.least a low (back a low u))
+          ];
+        }
+        | inr w ↦ record {
+          at = i + 1;
+          within = omega arith;
+          is = w.1;
+          ties = ap (λ p. place_cmp vs p (at (i + 1))) w.1 ∙ tie-self vs (at (i + 1));
+          least = λ a l u. elim (cases_eq a (i + 1)) [
+            | inl e ↦ omega (arith, ap at e, w.1)
+            | inr e ↦ let low : a ≤ i = omega (arith, l, λ (z : a ≡ i + 1). e z) in omega (arith, w.0, less, earliest.least a low (back a low u))
+          ];
+        }
+      ]
+
+      -- of two, of which the later is noted already or now
+      noted-now : length noted ≡ length vs → (p : ℕ) → ((p ≡ later → ⊥) → get_or noted p true ≡ false) → get_or (set noted later false) p true ≡ false
+      noted-now long p h = elim (cases_eq p later) [
+        | inl e ↦ ap (λ n. get_or (set noted later false) n true) e ∙ get_or-set_same noted later false true (omega (arith, long, later-below))
+        | inr n ↦ get_or-set_other noted later p false true n ∙ h n
+      ]
+
+      pub found-same : length noted ≡ length vs → Found vs (set noted later false) ps (i + 2)
+      found-same long a c m n l u = noted-now long (at c) (λ ne. elim (cases_eq a (i + 1)) [
+        | inl e ↦ elim (cases_eq c (i + 1)) [
+          | inl f ↦ absurd (omega (arith, l, ap at e, ap at f))
+          | inr f ↦
+              let low : c ≤ i = omega (arith, n, λ (z : c ≡ i + 1). f z) in
+              let to-c : tie (at (i + 1)) (at c) = ap (λ k. place_cmp vs (at k) (at c)) (sym e) ∙ u in
+              let least = earliest.least c low (back c low (tie-back vs (at (i + 1)) (at c) to-c)) in
+              let under : at earliest.at < at c = elim which [
+                | inl w ↦ omega (arith, w.0, w.1, less, l, ap at e, earliest.is)
+                | inr w ↦ omega (arith, least, earliest.is, λ (z : at c ≡ later). ne z, w.0)
+              ] in
+              found earliest.at c (omega (arith, earliest.within)) (omega (arith, low)) under
+              (ap (λ p. place_cmp vs p (at c)) (sym earliest.is) ∙ tie-on vs first (at (i + 1)) (at c) to-next to-c)
+        ]
+        | inr e ↦ elim (cases_eq c (i + 1)) [
+          | inl f ↦
+              let low : a ≤ i = omega (arith, m, λ (z : a ≡ i + 1). e z) in
+              let least = earliest.least a low (back a low (ap (λ k. place_cmp vs (at a) (at k)) (sym f) ∙ u)) in
+              absurd (ne (elim which [ inl w ↦ ap at f ∙ sym w.0 | inr w ↦ absurd (omega (arith, w.0, w.1, less, least, l, ap at f)) ]))
+          | inr f ↦ found a c (omega (arith, m, λ (z : a ≡ i + 1). e z)) (omega (arith, n, λ (z : c ≡ i + 1). f z)) l u
+        ]
+      ])
 
 -- ---- a look at two that follow each other
 
@@ -206,28 +289,61 @@ module _ (vs : List Value) (rs : List Ranked) (h : AreInOrder vs rs) where
   pub place-is : (n d : ℕ) (r : Ranked) → n < length rs → r ≡ get_or rs n r → r.place ≡ get_or places n d
   place-is n d r b is = ap (λ (r : Ranked). r.place) is ∙ sym (get_or-map (λ (r : Ranked). r.place) rs n r d b)
 
-  module _ (i n : ℕ) (follows : i + 1 ≡ n) (b : n < length rs) (r s : Ranked) (first : r ≡ get_or rs i r) (second : s ≡ get_or rs n s) where
-    tells : (d : ℕ) → is_same (value_at vs (get_or places i d)) (value_at vs (get_or places (i + 1) d)) ≡ is_eq (identity_cmp r.identity s.identity)
-    tells d =
-        ap₂ (λ p q. is_same (value_at vs p) (value_at vs q)) (sym (place-is i d r (omega (arith, b, follows)) first)) (ap (λ n. get_or places n d) follows ∙ sym (place-is n d s b second))
-        ∙ sym (identity_ties r.identity s.identity (value_at vs r.place) (value_at vs s.place) (named i r (omega (arith, b, follows)) first) (named n s b second))
+  pub head-none : (rs : List Ranked) → length rs < 1 → 0 ≡ get_or (map (λ r. r.place) rs) 0 0
+  head-none [] b = refl
+  head-none (r ∷ rs) b = absurd (omega (arith, b))
 
-    module _ (noted : List Bool) (found : Found vs noted places n) where
-      before : Found vs noted places (i + 1)
-      before = subst (Found vs noted places) (sym follows) found
+  pub found-none : (noted : List Bool) → Found vs noted places 1
+  found-none noted a c m n l t = absurd (omega (arith, l, ap (λ k. get_or places k 0) {x = a} {y = c} (omega (arith, m, n))))
 
-      up : i + 2 ≡ n + 1
-      up = omega (arith, follows)
+  pub earliest-none : (first : ℕ) → first ≡ get_or places 0 0 → IsEarliest vs places 0 first
+  earliest-none first is = record {
+    at = 0;
+    within = omega arith;
+    is = is;
+    ties = ap (λ p. place_cmp vs p (get_or places 0 0)) is ∙ tie-self vs (get_or places 0 0);
+    least = λ a l t. omega (arith, is, ap (λ k. get_or places k 0) {x = a} {y = 0} (omega (arith, l)));
+  }
 
-      pub looked-apart : is_eq (identity_cmp r.identity s.identity) ≡ false → Found vs noted places (n + 1)
-      looked-apart e = subst (Found vs noted places) up (found-else vs noted places i before (λ d. tells d ∙ e))
+  module _ (i n : ℕ) (follows : i + 1 ≡ n) (b : n < length rs) (r s : Ranked) (before : r ≡ get_or rs i r) (one : s ≡ get_or rs n s) (noted : List Bool) (first : ℕ) (found : Found vs noted places n) (earliest : IsEarliest vs places i first) where
+    within : i + 1 < length places
+    within = omega (arith, b, follows, length-map rs (λ (r : Ranked). r.place))
 
-      pub looked-same : (q : ℕ) → is_eq (identity_cmp r.identity s.identity) ≡ true → length noted ≡ length vs → Repeats vs noted → q ≡ get_or places n q → Repeats vs (set noted q false) × Found vs (set noted q false) places (n + 1)
-      looked-same q e long repeats is =
-          let at : q ≡ get_or places (i + 1) q = is ∙ ap (λ n. get_or places n q) (sym follows) in
-          let count = length-map rs (λ (r : Ranked). r.place) in
-          let within : i + 1 < length places = omega (arith, b, follows, count) in
-          let one = repeats-before vs places h.each h.sorted i q within (tells q ∙ e) in (
-            repeats-more vs noted q repeats (subst (λ p. list_any (λ v. is_same v (value_at vs p)) (take p vs) ≡ true) (sym at) one),
-            subst (Found vs (set noted q false) places) up (found-more vs noted places i q before (omega (arith, at, below vs places h.each (i + 1) q within, long)) at within),
+    still : Found vs noted places (i + 1)
+    still = subst (Found vs noted places) (sym follows) found
+
+    here : s.place ≡ get_or places (i + 1) 0
+    here = place-is n 0 s b one ∙ ap (λ k. get_or places k 0) (sym follows)
+
+    tells : is_eq (place_cmp vs (get_or places i 0) (get_or places (i + 1) 0)) ≡ is_eq (identity_cmp r.identity s.identity)
+    tells =
+        let low : i < length rs = omega (arith, b, follows) in
+        ap₂ (λ p q. is_eq (place_cmp vs p q)) (sym (place-is i 0 r low before)) (sym here) ∙ sym (same-ties (value_at vs r.place) (value_at vs s.place))
+        ∙ sym (identity_ties r.identity s.identity (value_at vs r.place) (value_at vs s.place) (named i r low before) (named n s b one))
+
+    pub step-apart : is_eq (identity_cmp r.identity s.identity) ≡ false → Found vs noted places (n + 1) × IsEarliest vs places (n + 1 - 1) s.place
+    step-apart e =
+        let no : (place_cmp vs (get_or places i 0) (get_or places (i + 1) 0) ≡ Equal → ⊥) = λ t. true≢false (ap is_eq (sym t) ∙ tells ∙ e) in (
+          subst (Found vs noted places) {x = i + 2} {y = n + 1} (omega (arith, follows)) (found-apart vs places h.each h.sorted noted i first within still earliest no),
+          subst (λ k. IsEarliest vs places k s.place) {x = i + 1} {y = n + 1 - 1} (omega (arith, follows))
+              (subst (IsEarliest vs places (i + 1)) (sym here) (earliest-apart vs places h.each h.sorted noted i first within still earliest no)),
+        )
+
+    module _ (e : is_eq (identity_cmp r.identity s.identity) ≡ true) where
+      tied : place_cmp vs (get_or places i 0) (get_or places (i + 1) 0) ≡ Equal
+      tied = is-equal _ (tells ∙ e)
+
+      pub differs : (first ≡ s.place → ⊥)
+      differs f = other vs places h.each h.sorted noted i first within still earliest tied (f ∙ here)
+
+      pub step-same : (later earlier : ℕ) → earlier < later → ((later ≡ s.place) × (earlier ≡ first)) ⊎ ((later ≡ first) × (earlier ≡ s.place)) → length noted ≡ length vs → Repeats vs noted
+          → Repeats vs (set noted later false) × Found vs (set noted later false) places (n + 1) × IsEarliest vs places (n + 1 - 1) earlier
+      step-same later earlier less which long repeats =
+          let at-next : ((later ≡ get_or places (i + 1) 0) × (earlier ≡ first)) ⊎ ((later ≡ first) × (earlier ≡ get_or places (i + 1) 0)) = elim which [ inl w ↦ inl (w.0 ∙ here, w.1) | inr w ↦ inr (w.0, w.1 ∙ here) ] in (
+            repeats-same vs places h.each h.sorted noted i first within still earliest tied later earlier less at-next repeats,
+            subst (Found vs (set noted later false) places) {x = i + 2} {y = n + 1} (omega (arith, follows)) (found-same vs places h.each h.sorted noted i first within still earliest tied later earlier less at-next long),
+            subst (λ k. IsEarliest vs places k earlier) {x = i + 1} {y = n + 1 - 1} (omega (arith, follows)) (earliest-same vs places h.each h.sorted noted i first within still earliest tied later earlier less at-next),
           )
+
+    pub first-below : first < length vs
+    first-below = omega (arith, earliest.is, below vs places h.each earliest.at 0 (omega (arith, earliest.within, within)))

@@ -1,16 +1,15 @@
 -- The places of values in their order.
 use Rattle.std.proofs.Common.{◌≡◌, cond, ◌+◌, ℕ, zero, suc, Bool, true, false, List, [], ◌∷◌, ◌++◌, map, length, get_or, refl, sym, ap, ap₂, subst, ◌∙◌, arith, Bor}
 use Rattle.std.specs.Prelude.{filter, not}
-use Rattle.std.specs.Cmp.{on_total, then_total, IsStrictWeakOrder, IsTotalOrder}
+use Rattle.std.specs.Cmp.{on_total, IsStrictWeakOrder, IsTotalOrder}
 use Rattle.std.specs.Cmp.Lexicographic.{texts_ties}
 use Rattle.std.specs.Fn.{Called, ComparesAs}
 use Rattle.std.specs.List.{range_with_len, AllAdjacentBelow, AllByRecursion, IsDistinct}
 use Rattle.std.specs.List.Sorted.{IsPermutation, IsSorted, IsSortedBy}
-use Rattle.std.specs.Ordering.{eq_by_cmp, int_cmp, is_eq, is_lt, nat_cmp, ordering_then}
+use Rattle.std.specs.Ordering.{eq_by_cmp, int_cmp, is_eq, is_lt}
 use Rattle.std.specs.declared.cmp.Ordering.{Ordering}
-use Rattle.std.specs.declared.cmp.Ordering.TheVariants.{Less, Equal, Greater}
 use denote.Param.Members.{Mut}
-use Rattle.std.proofs.lemmas.Cmp.{eq_by_cmp_equiv, nat_cmp_total}
+use Rattle.std.proofs.lemmas.Cmp.{eq_by_cmp_equiv}
 use Rattle.std.proofs.lemmas.Fn.{always_returns_same}
 use Rattle.std.proofs.lemmas.List.FromFn.{fill_by_all}
 use Rattle.std.proofs.lemmas.List.Elements.{All-from_recursion, recursion_from_All}
@@ -18,7 +17,7 @@ use Rattle.std.proofs.lemmas.List.Sorted.{ranks_by, All-permutation, IsPermutati
 use Rattle.std.proofs.lemmas.Map.Keys.{IsDistinct-IsPermutation}
 use Rattle.slp_text.specs.Keys.{key_of}
 use Rattle.attr_values.proofs.Ranks.{rank_order, value_order}
-use Rattle.attr_values.specs.Ranks.{rank_cmp, value_cmp, Rank}
+use Rattle.attr_values.specs.Ranks.{rank_cmp, value_cmp}
 use Rattle.attr_values.specs.declared.value.Value.{Value}
 use Rattle.attr_values.specs.declared.value.Value.TheVariants as value
 use Rattle.attr_list.specs.Gathering.{place_cmp, AreInOrder, AreRanked}
@@ -42,41 +41,21 @@ same-ties _ _ = refl
 
 -- ---- what a sort by identities and places ensures
 
-abbrev pub ranked_key : Ranked → Rank × ℕ
-ranked_key r = (ranked_at r, r.place)
-
-abbrev pub key_cmp : Rank × ℕ → Rank × ℕ → Ordering
-key_cmp a b = ordering_then (rank_cmp a.0 b.0) (nat_cmp a.1 b.1)
-
-key_order : IsTotalOrder key_cmp
-key_order = then_total (on_total (λ a. a.0) rank_order) (on_total (λ a. a.1) nat_cmp_total)
-
 pub sorted-by : {F : Type 0} {g : Mut F (Bor Ranked × (Bor Ranked × Unit {0})) Ordering} {f : F} (rs : List Ranked)
     → ((lt : Ranked → Ranked → Bool) → IsStrictWeakOrder lt → ComparesAs g lt f → IsSortedBy lt rs)
-    → ((a : Bor Ranked × (Bor Ranked × Unit {0})) (r : Ordering) (f' : F) → Called g f a r f' → (r ≡ ordering_then (identity_cmp a.0.now.identity a.1.0.now.identity) (nat_cmp a.0.now.place a.1.0.now.place)) × (f' ≡ f))
-    → IsSortedBy (λ a b. is_lt (key_cmp (ranked_key a) (ranked_key b))) rs
+    → ((a : Bor Ranked × (Bor Ranked × Unit {0})) (r : Ordering) (f' : F) → Called g f a r f' → (r ≡ identity_cmp a.0.now.identity a.1.0.now.identity) × (f' ≡ f))
+    → IsSortedBy (λ a b. is_lt (rank_cmp (ranked_at a) (ranked_at b))) rs
 sorted-by {g = g} {f = f} rs up h =
-    up (λ a b. is_lt (key_cmp (ranked_key a) (ranked_key b))) (ranks_by key_order ranked_key)
-    (always_returns_same g (λ a r. is_lt r ≡ is_lt (key_cmp (ranked_key a.0.now) (ranked_key a.1.0.now))) f
-    (λ a r f' k. (ap is_lt ((h a r f' k).0 ∙ ap (λ o. ordering_then o (nat_cmp a.0.now.place a.1.0.now.place)) (rank-cmp-is a.0.now.identity a.1.0.now.identity)), (h a r f' k).1)))
-
-pub then-lt : (o p : Ordering) → is_lt (ordering_then o p) ≡ false → is_lt o ≡ false
-then-lt Less p h = h
-then-lt Equal p h = refl
-then-lt Greater p h = refl
+    up (λ a b. is_lt (rank_cmp (ranked_at a) (ranked_at b))) (ranks_by rank_order ranked_at)
+    (always_returns_same g (λ a r. is_lt r ≡ is_lt (rank_cmp (ranked_at a.0.now) (ranked_at a.1.0.now))) f
+    (λ a r f' k. (ap is_lt ((h a r f' k).0 ∙ rank-cmp-is a.0.now.identity a.1.0.now.identity), (h a r f' k).1)))
 
 module _ (vs : List Value) where
-  abbrev pub at_cmp : ℕ → ℕ → Ordering
-  at_cmp p q = value_cmp (value_at vs p) (value_at vs q)
-
-  pub at_order : IsTotalOrder at_cmp
-  at_order = on_total (value_at vs) value_order
-
   pub place_order : IsTotalOrder (place_cmp vs)
-  place_order = then_total at_order nat_cmp_total
+  place_order = on_total (value_at vs) value_order
 
   pub in-order : (before after : List Ranked) → AreRanked vs before → map (λ r. r.place) before ≡ range_with_len 0 (length vs) → IsPermutation before after
-      → IsSortedBy (λ a b. is_lt (key_cmp (ranked_key a) (ranked_key b))) after → AreInOrder vs after
+      → IsSortedBy (λ a b. is_lt (rank_cmp (ranked_at a) (ranked_at b))) after → AreInOrder vs after
   in-order before after ranked places moved sorted =
       let all = All-permutation (named_by vs) before after moved (All-from_recursion (named_by vs) before ranked) in
       record {
@@ -85,7 +64,7 @@ module _ (vs : List Value) where
         sorted = sorted-map (λ r. r.place) (λ p q. is_lt (place_cmp vs p q)) after (λ k d a b.
             let r = get_or after k d in
             let s = get_or after (k + 1) d in
-            ap₂ (λ x y. is_lt (ordering_then (rank_cmp x y) (nat_cmp s.place r.place))) (sym (rank-is s.identity (value_at vs s.place) (all (k + 1) d b))) (sym (rank-is r.identity (value_at vs r.place) (all k d (omega (arith, b)))))
+            ap₂ (λ x y. is_lt (rank_cmp x y)) (sym (rank-is s.identity (value_at vs s.place) (all (k + 1) d b))) (sym (rank-is r.identity (value_at vs r.place) (all k d (omega (arith, b)))))
             ∙ sorted k d a b);
       }
 
@@ -97,7 +76,7 @@ module _ (vs : List Value) where
       → IsOrder kept places
   order-kept kept ps places each sorted is = record {
     each = subst (IsPermutation kept) (sym is) each;
-    sorted = subst (IsSorted value_cmp) (sym is) (sorted-map (value_at vs) (λ v w. is_lt (value_cmp v w)) ps (λ k d a b. then-lt _ _ (sorted k d a b)));
+    sorted = subst (IsSorted value_cmp) (sym is) (sorted-map (value_at vs) (λ v w. is_lt (value_cmp v w)) ps sorted);
   }
 
   pub order-is : (rs : List Ranked) → AreInOrder vs rs → IsOrder vs (map (λ r. r.place) rs)
@@ -107,23 +86,23 @@ module _ (vs : List Value) where
 
   -- ---- values of which each stands before the next
 
-  unlike : (p : ℕ) (ps : List ℕ) → AllByRecursion (λ q. eq_by_cmp at_cmp p q ≡ false) ps → filter (λ w. not (is_same (value_at vs p) w)) (map (value_at vs) ps) ≡ map (value_at vs) ps
+  unlike : (p : ℕ) (ps : List ℕ) → AllByRecursion (λ q. eq_by_cmp (place_cmp vs) p q ≡ false) ps → filter (λ w. not (is_same (value_at vs p) w)) (map (value_at vs) ps) ≡ map (value_at vs) ps
   unlike p [] d = refl
   unlike p (q ∷ ps) d =
       let rest = filter (λ w. not (is_same (value_at vs p) w)) (map (value_at vs) ps) in
       ap (λ b. cond (not b) (value_at vs q ∷ rest) rest) (same-ties (value_at vs p) (value_at vs q) ∙ d.0) ∙ ap (λ ws. value_at vs q ∷ ws) (unlike p ps d.1)
 
-  all-kept : (ps : List ℕ) → IsDistinct (eq_by_cmp at_cmp) ps → distinct_values (map (value_at vs) ps) ≡ map (value_at vs) ps
+  all-kept : (ps : List ℕ) → IsDistinct (eq_by_cmp (place_cmp vs)) ps → distinct_values (map (value_at vs) ps) ≡ map (value_at vs) ps
   unfolding IsDistinct
   all-kept [] d = refl
   all-kept (p ∷ ps) d = ap (λ ws. value_at vs p ∷ ws) (ap (filter (λ w. not (is_same (value_at vs p) w))) (all-kept ps d.1) ∙ unlike p ps d.0)
 
-  others : (r : Ranked) (rs : List Ranked) → named_by vs r → AreRanked vs rs → AllByRecursion (λ s. eq_by_cmp ranked_cmp r s ≡ false) rs → AllByRecursion (λ q. eq_by_cmp at_cmp r.place q ≡ false) (map (λ s. s.place) rs)
+  others : (r : Ranked) (rs : List Ranked) → named_by vs r → AreRanked vs rs → AllByRecursion (λ s. eq_by_cmp ranked_cmp r s ≡ false) rs → AllByRecursion (λ q. eq_by_cmp (place_cmp vs) r.place q ≡ false) (map (λ s. s.place) rs)
   others r [] n h d = tt
   others r (s ∷ rs) n h d =
       (ap₂ (λ x y. is_eq (rank_cmp x y)) (sym (rank-is r.identity (value_at vs r.place) n)) (sym (rank-is s.identity (value_at vs s.place) h.0)) ∙ d.0, others r rs n h.1 d.1)
 
-  places-apart : (rs : List Ranked) → AreRanked vs rs → IsDistinct (eq_by_cmp ranked_cmp) rs → IsDistinct (eq_by_cmp at_cmp) (map (λ r. r.place) rs)
+  places-apart : (rs : List Ranked) → AreRanked vs rs → IsDistinct (eq_by_cmp ranked_cmp) rs → IsDistinct (eq_by_cmp (place_cmp vs)) (map (λ r. r.place) rs)
   unfolding IsDistinct
   places-apart [] h d = tt
   places-apart (r ∷ rs) h d = (others r rs h.0 h.1 d.0, places-apart rs h.1 d.1)
@@ -133,7 +112,7 @@ module _ (vs : List Value) where
   apart-kept rs h rising =
       let ps = map (λ (r : Ranked). r.place) rs in
       let all = range_with_len 0 (length vs) in
-      let apart = IsDistinct-IsPermutation (eq_by_cmp at_cmp) (eq_by_cmp_equiv at_order).symm ps all (IsPermutation-sym all ps h.each) (places-apart rs h.ranked (rising-apart rs rising)) in
+      let apart = IsDistinct-IsPermutation (eq_by_cmp (place_cmp vs)) (eq_by_cmp_equiv place_order).symm ps all (IsPermutation-sym all ps h.each) (places-apart rs h.ranked (rising-apart rs rising)) in
       ap distinct_values (sym at-all) ∙ all-kept all apart ∙ at-all
 
 -- ---- places from the first on

@@ -2,7 +2,6 @@
 use Rattle.std.specs.Prelude.{◌≡◌, ◌<◌, ℕ, ◌++◌, ◌∷◌, Bool, true, not, List, [], Option, Some, None, length, map, slice_index_or, take, vec_items, if◌then◌else◌}
 use Rattle.std.specs.List.{list_any, range_with_len, AllByRecursion}
 use Rattle.std.specs.List.Sorted.{IsPermutation, IsSorted}
-use Rattle.std.specs.Ordering.{nat_cmp, ordering_then}
 use Rattle.std.specs.declared.cmp.Ordering.{Ordering}
 use Rattle.slp_text.specs.Keys.{key_of}
 use Rattle.slp_text.specs.Words.{bytes_eq}
@@ -38,9 +37,9 @@ IsIdentity i v = identity_value i ≡ common_value v
 abbrev pub AreRanked : List Value → List Ranked → Type 0
 AreRanked vs = AllByRecursion (λ r. IsIdentity r.identity (value_at vs r.place))
 
--- the order of places: by their values, and where these are the same by where they stand
+-- the order of places: by their values
 abbrev pub place_cmp : List Value → ℕ → ℕ → Ordering
-place_cmp vs p q = ordering_then (value_cmp (value_at vs p) (value_at vs q)) (nat_cmp p q)
+place_cmp vs p q = value_cmp (value_at vs p) (value_at vs q)
 
 -- each value has one, and they go by that order
 pub record AreInOrder (vs : List Value) (rs : List Ranked) : Type 0 where

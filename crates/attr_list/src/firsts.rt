@@ -17,10 +17,24 @@ fn find_firsts(alloc: Global, values: &[Value], ranked: &[Ranked]) -> Result<Vec
     ensures { IfOk result (λ f. AreFirsts values.now f.items) }
 {
     let mut firsts = vec![in alloc; true; values.len()]?;
+    // The earliest place of those that are the same as the last one.
+    let mut first = match ranked {
+        [one, ..] => one.place,
+        [] => 0,
+    };
     for next in 1..ranked.len() {
-        let one = &ranked[next];
-        if ranked[next - 1].identity.cmp(&one.identity).is_eq() {
-            firsts[one.place as usize] = false;
+        let place = ranked[next].place;
+        let ties = ranked[next - 1]
+            .identity
+            .cmp(&ranked[next].identity)
+            .is_eq();
+        if !ties {
+            first = place;
+        } else if first < place {
+            firsts[place as usize] = false;
+        } else {
+            firsts[first as usize] = false;
+            first = place;
         }
     }
     Ok(firsts)

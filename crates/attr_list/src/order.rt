@@ -32,14 +32,14 @@ fn identities(alloc: Global, values: &[Value]) -> Result<Vec<Ranked>, NoMemory>
     Ok(ranked)
 }
 
-/// Each value's identity, with its place: the least value's first, and of those that are the same the earliest. And whether it was seen that no two are the same.
+/// Each value's identity, with its place: the least value's first. And whether it was seen that no two are the same.
 pub fn ranked_in_order(alloc: Global, values: &[Value]) -> Result<(Vec<Ranked>, bool), NoMemory>
     requires { length values.now ≤ 65536 }
     ensures order { IfOk result (λ r. AreInOrder values.now r.0.items) }
     ensures apart { IfOk result (λ r. r.1 ≡ true → distinct_values values.now ≡ values.now) }
 {
     let mut ranked = identities(alloc, values)?;
-    ranked.sort_unstable_by(|a, b| a.identity.cmp(&b.identity).then(a.place.cmp(&b.place)));
+    ranked.sort_unstable_by(|a, b| a.identity.cmp(&b.identity));
     let are_apart = ranked.is_sorted_by(|a, b| a.identity.cmp(&b.identity).is_lt());
     Ok((ranked, are_apart))
 }
