@@ -118,7 +118,7 @@ uninstall:
 # What is promised changes only where the document of it does.
 test:
 	@contrib/tests/spec
-	rt ci
+	RT_JOBS=$$(make/lanes) rt ci
 
 wrong:
 	@wrong/try $(CRATE)

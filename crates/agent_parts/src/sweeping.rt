@@ -32,6 +32,7 @@ pub struct Sweeping<'r, 's, J: Naming, R: Wait + Clock, G: Gate> {
     writer: &'s Mutex<DirectoryWriter<J, &'r R>>,
     gate: &'s G,
     clock: WallClock<'r, R>,
+    /// When it sweeps, and when it did last.
     pub sweeper: Sweeper,
 }
 
